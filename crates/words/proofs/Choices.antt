@@ -1,0 +1,42 @@
+-- What tests put together say. Assumes nothing.
+use mathlib.Core.Bool.{Bool, true, false, not}
+use mathlib.Core.Path.{_≡_, refl, ap, sym}
+use Prim.Native.Nat.{ℕ, _≤_}
+use native.Mathlib.Omega.{arith}
+use borrow.Author.Tests.{leb-true, le-leb}
+use lib.Dec.{leb}
+use Rattle.words.specs.Tests.{pick, both, either, implies, one, within}
+
+pub true-false : true ≡ false → ⊥
+true-false e = let z : _≡_ {A = ℕ} 1 0 = ap one e in omega arith
+
+pub is-false : (b : Bool) → (b ≡ true → ⊥) → b ≡ false
+is-false true h = absurd (h refl)
+is-false false h = refl
+
+pub both-true : (a b : Bool) → both a b ≡ true → (a ≡ true) × (b ≡ true)
+both-true true b e = (refl, e)
+both-true false b e = absurd (true-false (sym e))
+
+pub either-true : (a : Bool) → either a true ≡ true
+either-true true = refl
+either-true false = refl
+
+pub implies-true : (a b : Bool) → implies a b ≡ true → a ≡ true → b ≡ true
+implies-true true b h e = h
+implies-true false b h e = absurd (true-false (sym e))
+
+pub pick-same : (t : Bool) (n : ℕ) → pick t n n ≡ n
+pick-same true n = refl
+pick-same false n = refl
+
+pub one-le : (t : Bool) → one t ≤ 1
+one-le true = omega arith
+one-le false = omega arith
+
+module _ (low high n : ℕ) where
+  pub within-true : within low high n ≡ true → (low ≤ n) × (n ≤ high)
+  within-true e = let b = both-true (leb low n) (leb n high) e in (leb-true low n (b .0), leb-true n high (b .1))
+
+  pub true-within : low ≤ n → n ≤ high → within low high n ≡ true
+  true-within l h = rw (le-leb low n l, le-leb n high h)

@@ -1,0 +1,122 @@
+-- What the first word that passes a test gives, and its law along a list: at position i the test passes, fails, or the list is at its end.
+-- Assumes nothing.
+use mathlib.Core.Bool.{Bool, true, false}
+use mathlib.Core.List.{List, [], _∷_}
+use mathlib.Core.Path.{_≡_, refl}
+use Prim.Native.Nat.{ℕ, zero, suc, _+_, _<_, _≤_}
+use native.Mathlib.Numerals.{add-one}
+use native.Mathlib.Omega.{arith}
+use lib.ListN.{length, getD, drop, drop-of-length-le}
+use lib.Seq.{drop-cons}
+use Rattle.words.specs.Tests.{pick, either}
+use Rattle.words.specs.Scan.{any, firstGives, leading, beyond}
+
+module _ (ws : List ℕ) (i : ℕ) where
+  pub drop-next : i < length ws → drop i ws ≡ getD ws i 0 ∷ drop (i + 1) ws
+  drop-next h = rw (add-one i) (drop-cons ws i 0 h)
+
+  module _ (test : ℕ → Bool) (gives : ℕ → ℕ) (other : ℕ) where
+    pub gives-hit : i < length ws → test (getD ws i 0) ≡ true → firstGives test gives other (drop i ws) ≡ gives (getD ws i 0)
+    unfolding firstGives
+    gives-hit h e = rw (drop-next h, e)
+
+    pub gives-miss : i < length ws → test (getD ws i 0) ≡ false
+        → firstGives test gives other (drop i ws) ≡ firstGives test gives other (drop (i + 1) ws)
+    unfolding firstGives
+    gives-miss h e = rw (drop-next h, e)
+
+    pub gives-end : length ws ≤ i → firstGives test gives other (drop i ws) ≡ other
+    unfolding firstGives
+    gives-end h = rw (drop-of-length-le ws h)
+
+  module _ (test : ℕ → Bool) where
+    pub any-hit : i < length ws → test (getD ws i 0) ≡ true → any test (drop i ws) ≡ true
+    unfolding any
+    any-hit h e = rw (drop-next h, e)
+
+    pub any-miss : i < length ws → test (getD ws i 0) ≡ false → any test (drop i ws) ≡ any test (drop (i + 1) ws)
+    unfolding any
+    any-miss h e = rw (drop-next h, e)
+
+    pub any-end : length ws ≤ i → any test (drop i ws) ≡ false
+    unfolding any
+    any-end h = rw (drop-of-length-le ws h)
+
+  -- the same along the leading words that pass a test
+  module _ (lead test : ℕ → Bool) (gives : ℕ → ℕ) (other : ℕ) where
+    pub laws-hit : i < length ws → lead (getD ws i 0) ≡ true → test (getD ws i 0) ≡ true
+        → firstGives test gives other (leading lead (drop i ws)) ≡ gives (getD ws i 0)
+    unfolding firstGives leading
+    laws-hit h l e = rw (drop-next h, l, e)
+
+    pub laws-miss : i < length ws → lead (getD ws i 0) ≡ true → test (getD ws i 0) ≡ false
+        → firstGives test gives other (leading lead (drop i ws)) ≡ firstGives test gives other (leading lead (drop (i + 1) ws))
+    unfolding firstGives leading
+    laws-miss h l e = rw (drop-next h, l, e)
+
+    pub laws-stop : i < length ws → lead (getD ws i 0) ≡ false → firstGives test gives other (leading lead (drop i ws)) ≡ other
+    unfolding firstGives leading
+    laws-stop h l = rw (drop-next h, l)
+
+    pub laws-end : length ws ≤ i → firstGives test gives other (leading lead (drop i ws)) ≡ other
+    unfolding firstGives leading
+    laws-end h = rw (drop-of-length-le ws h)
+
+  module _ (lead test : ℕ → Bool) where
+    pub any-laws-hit : i < length ws → lead (getD ws i 0) ≡ true → test (getD ws i 0) ≡ true → any test (leading lead (drop i ws)) ≡ true
+    unfolding any leading
+    any-laws-hit h l e = rw (drop-next h, l, e)
+
+    pub any-laws-miss : i < length ws → lead (getD ws i 0) ≡ true → test (getD ws i 0) ≡ false
+        → any test (leading lead (drop i ws)) ≡ any test (leading lead (drop (i + 1) ws))
+    unfolding any leading
+    any-laws-miss h l e = rw (drop-next h, l, e)
+
+    pub any-laws-stop : i < length ws → lead (getD ws i 0) ≡ false → any test (leading lead (drop i ws)) ≡ false
+    unfolding any leading
+    any-laws-stop h l = rw (drop-next h, l)
+
+    pub any-laws-end : length ws ≤ i → any test (leading lead (drop i ws)) ≡ false
+    unfolding any leading
+    any-laws-end h = rw (drop-of-length-le ws h)
+
+module _ (test : ℕ → Bool) where
+  -- word i of the leading ones is word i of the list, and passes
+  pub leading-entry : (ws : List ℕ) (i : ℕ) → i < length (leading test ws)
+      → (getD (leading test ws) i 0 ≡ getD ws i 0) × (test (getD ws i 0) ≡ true) × (i < length ws)
+  unfolding leading
+  leading-entry [] i h = absurd (omega arith)
+  leading-entry (w ∷ ws) i h = cases (test w) refl i h (leading-entry ws)
+    where
+      Entry : List ℕ → ℕ → Type 0
+      Entry l i = (getD l i 0 ≡ getD (w ∷ ws) i 0) × (test (getD (w ∷ ws) i 0) ≡ true) × (i < suc (length ws))
+
+      cases : (t : Bool) → test w ≡ t → (i : ℕ) → i < length (pick t (w ∷ leading test ws) [])
+          → ((i : ℕ) → i < length (leading test ws) → (getD (leading test ws) i 0 ≡ getD ws i 0) × (test (getD ws i 0) ≡ true) × (i < length ws))
+          → Entry (pick t (w ∷ leading test ws) []) i
+      cases false e i l ih = absurd (omega arith)
+      cases true e zero l ih = (refl, e, omega arith)
+      cases true e (suc i) l ih = let r = ih i (omega arith) in (r .0, r .1, omega (arith, r .2))
+
+  -- the word after the leading ones fails, where there is one
+  pub leading-stop : (ws : List ℕ) → length (leading test ws) < length ws → test (getD ws (length (leading test ws)) 0) ≡ false
+  unfolding leading
+  leading-stop [] h = absurd (omega arith)
+  leading-stop (w ∷ ws) h = cases (test w) refl h (leading-stop ws)
+    where
+      cases : (t : Bool) → test w ≡ t → length (pick t (w ∷ leading test ws) []) < suc (length ws)
+          → (length (leading test ws) < length ws → test (getD ws (length (leading test ws)) 0) ≡ false)
+          → test (getD (w ∷ ws) (length (pick t (w ∷ leading test ws) [])) 0) ≡ false
+      cases false e l ih = e
+      cases true e l ih = ih (omega arith)
+
+  -- the words beyond them
+  pub beyond-drop : (ws : List ℕ) → beyond test ws ≡ drop (length (leading test ws)) ws
+  unfolding leading beyond
+  beyond-drop [] = refl
+  beyond-drop (w ∷ ws) = cases (test w) (beyond-drop ws)
+    where
+      cases : (t : Bool) → beyond test ws ≡ drop (length (leading test ws)) ws
+          → pick t (beyond test ws) (w ∷ ws) ≡ drop (length (pick t (w ∷ leading test ws) [])) (w ∷ ws)
+      cases false ih = refl
+      cases true ih = ih

@@ -1,0 +1,137 @@
+-- The fields of the words, each said here alone. A field that may stand elsewhere in the jobs of another head takes the head.
+use mathlib.Core.Bool.{Bool}
+use Prim.Native.Nat.{ℕ, _+_, _-_, _*_, _/_, _%_, _^_}
+use lib.Dec.{eqb, leb}
+use Rattle.words.specs.Tests.{pick, both}
+
+-- bits hi..lo of a word
+abbrev pub field : ℕ → ℕ → ℕ → ℕ
+field w hi lo = w / 2 ^ lo % 2 ^ (hi + 1 - lo)
+
+-- bits hi..lo are zero
+abbrev pub spare : ℕ → ℕ → ℕ → Bool
+spare w hi lo = eqb (field w hi lo) 0
+
+-- every word: its kind; of kinds 5, 6 and 8 the form
+abbrev pub kind : ℕ → ℕ
+kind w = field w 31 28
+
+abbrev pub form : ℕ → ℕ
+form w = field w 27 24
+
+-- the three values of a fluent or a formula, in their order; `unknown` is the document's 'open', a word that antt reserves
+abbrev pub fails : ℕ
+fails = 0
+
+abbrev pub unknown : ℕ
+unknown = 1
+
+abbrev pub holds : ℕ
+holds = 2
+
+-- kind 1, head: fluents F, actions, last moment n
+abbrev pub fluentsOf : ℕ → ℕ
+fluentsOf head = field head 23 16
+
+abbrev pub actionsOf : ℕ → ℕ
+actionsOf head = field head 15 8
+
+abbrev pub lastOf : ℕ → ℕ
+lastOf head = field head 7 0
+
+-- kind 2, initially known, and kind 4, law: the fluent
+abbrev pub fluentOf : ℕ → ℕ → ℕ
+fluentOf head w = field w 5 0
+
+-- kind 2: the value, and the bits that it leaves spare
+abbrev pub knownValue : ℕ → ℕ → ℕ
+knownValue head w = pick (eqb (field w 6 6) 0) holds fails
+
+abbrev pub knownSpare : ℕ → ℕ → Bool
+knownSpare head w = spare w 27 7
+
+-- kind 3, action: its number, its duration
+abbrev pub actionNumber : ℕ → ℕ
+actionNumber w = field w 11 6
+
+abbrev pub durationOf : ℕ → ℕ
+durationOf w = field w 5 0
+
+-- kind 4: the role (0 needs true, 1 needs false, 2 makes true, 3 makes false), and the bits that it leaves spare
+abbrev pub roleOf : ℕ → ℕ → ℕ
+roleOf head w = field w 7 6
+
+abbrev pub lawSpare : ℕ → ℕ → Bool
+lawSpare head w = spare w 27 8
+
+-- a role makes a value, and does not need one; the value that a making role makes
+abbrev pub makes : ℕ → Bool
+makes role = leb 2 role
+
+abbrev pub madeValue : ℕ → ℕ
+madeValue role = pick (eqb role 2) holds fails
+
+-- kind 5, formula: X and Y; of form 1 the fluent, and the bits that it leaves spare
+abbrev pub formulaX : ℕ → ℕ
+formulaX w = field w 11 6
+
+abbrev pub formulaY : ℕ → ℕ
+formulaY w = field w 5 0
+
+abbrev pub atomFluent : ℕ → ℕ → ℕ
+atomFluent head w = field w 11 6
+
+abbrev pub atomSpare : ℕ → ℕ → Bool
+atomSpare head w = both (spare w 23 12) (spare w 5 0)
+
+-- kind 6, node: X, Y, M, N
+abbrev pub nodeX : ℕ → ℕ
+nodeX w = field w 23 18
+
+abbrev pub nodeY : ℕ → ℕ
+nodeY w = field w 17 12
+
+abbrev pub nodeM : ℕ → ℕ
+nodeM w = field w 11 6
+
+abbrev pub nodeN : ℕ → ℕ
+nodeN w = field w 5 0
+
+-- a node of form 8, a task set
+abbrev pub isSet : ℕ → Bool
+isSet w = both (eqb (kind w) 6) (eqb (form w) 8)
+
+-- kind 7, member: its node
+abbrev pub memberNode : ℕ → ℕ
+memberNode w = field w 5 0
+
+-- kind 8, condition: formula, members i and j, M, N
+abbrev pub conditionFormula : ℕ → ℕ
+conditionFormula w = field w 23 18
+
+abbrev pub conditionI : ℕ → ℕ
+conditionI w = field w 17 15
+
+abbrev pub conditionJ : ℕ → ℕ
+conditionJ w = field w 14 12
+
+abbrev pub conditionM : ℕ → ℕ
+conditionM w = field w 11 6
+
+abbrev pub conditionN : ℕ → ℕ
+conditionN w = field w 5 0
+
+-- kind 9, start: its moment u, its action a
+abbrev pub startMoment : ℕ → ℕ
+startMoment s = field s 11 6
+
+abbrev pub startAction : ℕ → ℕ
+startAction s = field s 5 0
+
+-- kind 10, fact: the word that fluent f has a value, other than open, at moment t
+abbrev pub factWord : ℕ → ℕ → ℕ → ℕ → ℕ
+factWord head t f value = 10 * 2 ^ 28 + t * 2 ^ 7 + f * 2 + pick (eqb value holds) 0 1
+
+-- kind 11, a word of a reading: node p from b to e
+abbrev pub readingWord : ℕ → ℕ → ℕ → ℕ
+readingWord p b e = 11 * 2 ^ 28 + p * 2 ^ 12 + b * 2 ^ 6 + e

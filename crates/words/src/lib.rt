@@ -1,0 +1,135 @@
+// The fields of the words, each read here alone, by the definitions of specs/Fields.antt.
+ghost use mathlib.Core.Path.{_≡_};
+ghost use Prim.Native.Nat.{_<_};
+ghost use Rattle.words.specs.Tests.{pick};
+ghost use Rattle.words.specs.Fields.{kind, form, fluentsOf, actionsOf, lastOf, fluentOf, knownSpare, lawSpare, knownValue, durationOf, roleOf, makes, madeValue, atomFluent, atomSpare, startMoment, startAction, factWord, readingWord};
+
+pub fn kind_of(w: u32) -> u32
+    ensures { λ r. ⌜ (r ≡ kind w) × (r < 16) ⌝ }
+{
+    w / 268435456 % 16
+}
+
+pub fn form_of(w: u32) -> u32
+    ensures { λ r. ⌜ (r ≡ form w) × (r < 16) ⌝ }
+{
+    w / 16777216 % 16
+}
+
+// Head: fluents, actions, last moment.
+pub fn fluents_of(head: u32) -> usize
+    ensures { λ r. ⌜ (r ≡ fluentsOf head) × (r < 256) ⌝ }
+{
+    (head / 65536 % 256) as usize
+}
+
+pub fn actions_of(head: u32) -> usize
+    ensures { λ r. ⌜ (r ≡ actionsOf head) × (r < 256) ⌝ }
+{
+    (head / 256 % 256) as usize
+}
+
+pub fn last_of(head: u32) -> usize
+    ensures { λ r. ⌜ (r ≡ lastOf head) × (r < 256) ⌝ }
+{
+    (head / 1 % 256) as usize
+}
+
+// Initially known word, and law: the fluent, and whether the bits that each leaves spare are zero.
+pub fn fluent_of(head: u32, w: u32) -> usize
+    ensures { λ r. ⌜ (r ≡ fluentOf head w) × (r < 64) ⌝ }
+{
+    (w / 1 % 64) as usize
+}
+
+pub fn known_spare(head: u32, w: u32) -> bool
+    ensures { λ r. ⌜ r ≡ knownSpare head w ⌝ }
+{
+    w / 128 % 2097152 == 0
+}
+
+pub fn law_spare(head: u32, w: u32) -> bool
+    ensures { λ r. ⌜ r ≡ lawSpare head w ⌝ }
+{
+    w / 256 % 1048576 == 0
+}
+
+pub fn known_value(head: u32, w: u32) -> u8
+    ensures { λ r. ⌜ r ≡ knownValue head w ⌝ }
+{
+    holds_or_fails(w / 64 % 2 == 0)
+}
+
+pub fn duration_of(w: u32) -> usize
+    ensures { λ r. ⌜ (r ≡ durationOf w) × (r < 64) ⌝ }
+{
+    (w / 1 % 64) as usize
+}
+
+// Law: the role, whether it makes a value, and which.
+pub fn role_of(head: u32, w: u32) -> u32
+    ensures { λ r. ⌜ (r ≡ roleOf head w) × (r < 4) ⌝ }
+{
+    w / 64 % 4
+}
+
+pub fn makes_value(role: u32) -> bool
+    ensures { λ r. ⌜ r ≡ makes role ⌝ }
+{
+    2 <= role
+}
+
+pub fn made_value(role: u32) -> u8
+    ensures { λ r. ⌜ r ≡ madeValue role ⌝ }
+{
+    holds_or_fails(role == 2)
+}
+
+fn holds_or_fails(t: bool) -> u8
+    ensures { λ r. ⌜ r ≡ pick t 2 0 ⌝ }
+{
+    if t { 2 } else { 0 }
+}
+
+// Formula of form 1: the fluent, and whether the bits that it leaves spare are zero.
+pub fn atom_fluent(head: u32, w: u32) -> usize
+    ensures { λ r. ⌜ (r ≡ atomFluent head w) × (r < 64) ⌝ }
+{
+    (w / 64 % 64) as usize
+}
+
+pub fn atom_spare(head: u32, w: u32) -> bool
+    ensures { λ r. ⌜ r ≡ atomSpare head w ⌝ }
+{
+    (w / 4096 % 4096 == 0) & (w / 1 % 64 == 0)
+}
+
+// Start: the moment, and the action.
+pub fn start_moment(s: u32) -> usize
+    ensures { λ r. ⌜ (r ≡ startMoment s) × (r < 64) ⌝ }
+{
+    (s / 64 % 64) as usize
+}
+
+pub fn start_action(s: u32) -> usize
+    ensures { λ r. ⌜ (r ≡ startAction s) × (r < 64) ⌝ }
+{
+    (s / 1 % 64) as usize
+}
+
+// The fact word that fluent `f` has a value, other than open, at moment `t`.
+pub fn fact_word(head: u32, t: usize, f: usize, value: u8) -> u32
+    requires { ⌜ (t < 64) × (f < 64) ⌝ }
+    ensures { λ r. ⌜ r ≡ factWord head t f value ⌝ }
+{
+    let base = 2684354560 + (t as u32) * 128 + (f as u32) * 2;
+    if value == 2 { base + 0 } else { base + 1 }
+}
+
+// The word of a reading: node `p` from `b` to `e`.
+pub fn reading_word(p: usize, b: usize, e: usize) -> u32
+    requires { ⌜ (p < 64) × (b < 64) × (e < 64) ⌝ }
+    ensures { λ r. ⌜ r ≡ readingWord p b e ⌝ }
+{
+    (2952790016 + p * 4096 + b * 64 + e) as u32
+}
