@@ -1,0 +1,29 @@
+-- Refusals by number and position, and rows of a table one after the other. Number 0 is no refusal.
+use mathlib.Core.Bool.{Bool}
+use Prim.Native.Nat.{ℕ, zero, suc}
+use lib.Dec.{eqb}
+use Rattle.words.specs.Tests.{pick}
+use Rattle.answers.specs.declared.Refusal.{Refusal}
+
+abbrev pub refusal : ℕ → ℕ → Refusal
+refusal number position = record { number = number; position = position }
+
+abbrev pub passed : Refusal
+passed = refusal 0 0
+
+-- a row of the table: its number at a position, if its test fits
+abbrev pub row : Bool → ℕ → ℕ → Refusal
+row fits number position = pick fits (refusal number position) passed
+
+-- the first of two rows that fits
+abbrev pub orElse : Refusal → Refusal → Refusal
+orElse a b = pick (eqb (a .number) 0) b a
+
+-- a number at a position, where it is one
+abbrev pub refusalAt : ℕ → ℕ → Refusal
+refusalAt position number = pick (eqb number 0) passed (refusal number position)
+
+-- the number of the first place below n that has one
+unfoldable pub firstOf : (ℕ → ℕ) → ℕ → Refusal
+firstOf f zero = passed
+firstOf f (suc i) = orElse (firstOf f i) (refusalAt i (f i))

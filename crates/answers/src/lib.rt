@@ -1,0 +1,80 @@
+// The answer of a call: rows of refusals one after the other, and the 64-bit number by which the host in C gets it.
+ghost use mathlib.Core.Path.{_≡_};
+ghost use Prim.Native.Nat.{_^_, _<_};
+ghost use Rattle.answers.specs.Rows.{row, orElse};
+ghost use Rattle.answers.specs.Packed.{answerOf, InRange, packed, fields};
+
+// A refusal's number and position; 0 and 0 for none.
+pub struct Refusal {
+    pub number: u32,
+    pub position: usize,
+}
+
+pub enum Answer {
+    // `length` words were written to the lent buffer.
+    Accepted {
+        length: usize,
+        count: u64,
+    },
+    // Refusal `number`, at `position` of the list concerned.
+    Refused {
+        number: u64,
+        position: usize,
+        count: u64,
+    },
+}
+
+pub fn row_of(fits: bool, number: u32, position: usize) -> Refusal
+    ensures { λ r. ⌜ r ≡ row fits number position ⌝ }
+{
+    if fits {
+        Refusal { number, position }
+    } else {
+        Refusal {
+            number: 0,
+            position: 0,
+        }
+    }
+}
+
+pub fn or_else(a: Refusal, b: Refusal) -> Refusal
+    ensures { λ r. ⌜ r ≡ orElse a b ⌝ }
+{
+    if a.number == 0 { b } else { a }
+}
+
+pub fn answer_of(r: Refusal, length: usize, count: u64) -> Answer
+    ensures { λ a. ⌜ a ≡ answerOf r length count ⌝ }
+{
+    if r.number == 0 {
+        Answer::Accepted { length, count }
+    } else {
+        Answer::Refused {
+            number: r.number as u64,
+            position: r.position,
+            count: 0,
+        }
+    }
+}
+
+// The number in bits 63..56, the position in 55..40, the length in 39..24, the count in 23..0.
+pub fn pack(a: Answer) -> u64
+    requires { ⌜ InRange a ⌝ }
+    ensures { λ r. ⌜ r ≡ packed a ⌝ }
+{
+    match a {
+        Answer::Accepted { length, count } => join(0, 0, length, count),
+        Answer::Refused {
+            number,
+            position,
+            count,
+        } => join(number, position, 0, count),
+    }
+}
+
+fn join(number: u64, position: usize, length: usize, count: u64) -> u64
+    requires { ⌜ (number < 2 ^ 8) × ((position < 2 ^ 16) × ((length < 2 ^ 16) × (count < 2 ^ 24))) ⌝ }
+    ensures { λ r. ⌜ r ≡ fields number position length count ⌝ }
+{
+    number * 72057594037927936 + position as u64 * 1099511627776 + length as u64 * 16777216 + count
+}
