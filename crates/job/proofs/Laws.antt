@@ -1,0 +1,124 @@
+-- Laws of the facts of the words before: one word more, one less, and bounds. Assumes nothing.
+use mathlib.Core.Bool.{Bool, true, false}
+use mathlib.Core.List.{List, [], _∷_}
+use mathlib.Core.Path.{_≡_, refl, ap}
+use Prim.Native.Nat.{ℕ, zero, suc, _+_, _-_, _≤_, _<_}
+use native.Mathlib.Decide.{le-ind}
+use native.Mathlib.Numerals.{add-one}
+use native.Mathlib.Omega.{arith}
+use borrow.Author.Tests.{ne-eqb}
+use lib.Dec.{eqb}
+use lib.ListN.{length, getD}
+use Rattle.words.specs.Tests.{pick, either, one}
+use Rattle.words.specs.Fields.{kind}
+use Rattle.job.specs.Rules.{names}
+use Rattle.words.specs.Scan.{any}
+use Rattle.job.specs.Before.{before, count, since, latest, named}
+use Rattle.job.specs.Refusal.{nameRefusal}
+use Rattle.job.specs.State.{Tied}
+use Rattle.words.proofs.Choices.{one-le}
+
+pub before-suc : (job : List ℕ) (i : ℕ) → before job (suc i) ≡ getD job i 0 ∷ before job i
+unfolding before
+before-suc job i = refl
+
+pub before-more : (job : List ℕ) (i : ℕ) → before job (i + 1) ≡ getD job i 0 ∷ before job i
+before-more job i = rw (add-one i) (before-suc job i)
+
+-- the same, going down
+pub before-less : (job : List ℕ) (j : ℕ) → 0 < j → before job j ≡ getD job (j - 1) 0 ∷ before job (j - 1)
+before-less job j h = rw (before-more job (j - 1)) at (ap (before job) back)
+  where
+    back : j ≡ j - 1 + 1
+    back = omega arith
+
+pub length-before : (job : List ℕ) (i : ℕ) → length (before job i) ≡ i
+unfolding before
+length-before job zero = refl
+length-before job (suc i) = ap suc (length-before job i)
+
+pub count-le : (k : ℕ) (p : List ℕ) → count k p ≤ length p
+unfolding count
+count-le k [] = omega arith
+count-le k (w ∷ p) = omega (arith, count-le k p, one-le (eqb (kind w) k))
+
+since-le : (k : ℕ) (p : List ℕ) → length (since k p) ≤ length p
+unfolding since
+since-le k [] = omega arith
+since-le k (w ∷ p) = cases (eqb (kind w) k) (since-le k p)
+  where
+    cases : (t : Bool) → length (since k p) ≤ length p → length (pick t [] (w ∷ since k p)) ≤ suc (length p)
+    cases true h = omega arith
+    cases false h = omega arith
+
+-- a count of the words before position i, and of those since a word of kind m, is at most i
+pub count-before : (k : ℕ) (job : List ℕ) (i : ℕ) → count k (before job i) ≤ i
+count-before k job i = omega (arith, count-le k (before job i), length-before job i)
+
+pub count-since : (k m : ℕ) (job : List ℕ) (i : ℕ) → count k (since m (before job i)) ≤ i
+count-since k m job i = omega (arith, count-le k (since m (before job i)), since-le m (before job i), length-before job i)
+
+pub count-none : (job : List ℕ) (k : ℕ) → count k (before job 0) ≡ 0
+unfolding count before
+count-none job k = refl
+
+pub named-none : (job : List ℕ) (v : ℕ) → named v (before job 0) ≡ 0
+unfolding named before
+named-none job v = refl
+
+-- what one word more makes of each fact
+module _ (job : List ℕ) (i : ℕ) where
+  pub count-more : (k : ℕ) → count k (before job (i + 1)) ≡ count k (before job i) + one (eqb (kind (getD job i 0)) k)
+  unfolding count
+  count-more k = rw (before-more job i)
+
+  pub latest-more : (k : ℕ) → latest k (before job (i + 1)) ≡ pick (eqb (kind (getD job i 0)) k) (getD job i 0) (latest k (before job i))
+  unfolding latest
+  latest-more k = rw (before-more job i)
+
+  pub named-more : (v : ℕ) → named v (before job (i + 1)) ≡ named v (before job i) + names v (getD job i 0)
+  unfolding named
+  named-more v = rw (before-more job i)
+
+  pub count-since-more : (k m : ℕ) → count k (since m (before job (i + 1)))
+      ≡ pick (eqb (kind (getD job i 0)) m) 0 (count k (since m (before job i)) + one (eqb (kind (getD job i 0)) k))
+  unfolding since count
+  count-since-more k m = rw (before-more job i) (cases (eqb (kind (getD job i 0)) m))
+    where
+      cases : (t : Bool) → count k (pick t [] (getD job i 0 ∷ since m (before job i)))
+          ≡ pick t 0 (count k (since m (before job i)) + one (eqb (kind (getD job i 0)) k))
+      cases true = refl
+      cases false = refl
+
+-- one word less: what is listed since a word of kind k
+pub since-any : (t : ℕ → Bool) (k : ℕ) (job : List ℕ) (j : ℕ) → 0 < j → any t (since k (before job j))
+    ≡ pick (eqb (kind (getD job (j - 1) 0)) k) false (either (t (getD job (j - 1) 0)) (any t (since k (before job (j - 1)))))
+unfolding since any
+since-any t k job j h = rw (before-less job j h) (cases (eqb (kind (getD job (j - 1) 0)) k))
+  where
+    cases : (b : Bool) → any t (pick b [] (getD job (j - 1) 0 ∷ since k (before job (j - 1))))
+        ≡ pick b false (either (t (getD job (j - 1) 0)) (any t (since k (before job (j - 1)))))
+    cases true = refl
+    cases false = refl
+
+pub since-none : (t : ℕ → Bool) (k : ℕ) (job : List ℕ) → any t (since k (before job 0)) ≡ false
+unfolding before since any
+since-none t k job = refl
+
+-- counts only grow
+pub count-grows : (k : ℕ) (job : List ℕ) (i n : ℕ) → i ≤ n → count k (before job i) ≤ count k (before job n)
+count-grows k job i =
+    le-ind (λ (n : ℕ). count k (before job i) ≤ count k (before job n)) (omega arith)
+    (λ m h ih. rw (← (add-one m)) (omega (arith, count-more job m k)))
+
+pub tied-start : (job : List ℕ) → Tied (before job 0) (record { actions = 0; formulas = 0; nodes = 0; members = 0; conditions = 0; node = 0 })
+unfolding before count since latest
+tied-start job = record { actions = refl; formulas = refl; nodes = refl; members = refl; conditions = refl; node = refl }
+
+pub once : (p : List ℕ) (v : ℕ) → named v p ≡ 1 → nameRefusal p v ≡ 0
+unfolding nameRefusal
+once p v h = rw h
+
+pub not-once : (p : List ℕ) (v : ℕ) → (named v p ≡ 1 → ⊥) → nameRefusal p v ≡ 5
+unfolding nameRefusal
+not-once p v h = rw (ne-eqb (named v p) 1 h)

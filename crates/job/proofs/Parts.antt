@@ -1,0 +1,168 @@
+-- The parts of a job that is not refused: its head, actions, formulas and nodes. Assumes nothing.
+use mathlib.Core.Bool.{Bool, true, false, not}
+use mathlib.Core.List.{List, [], _∷_}
+use mathlib.Core.Logic.{_⊎_, inl, inr, by-cases}
+use mathlib.Core.Path.{_≡_, refl, ap, sym, _∙_}
+use Prim.Native.Nat.{ℕ, zero, suc, _+_, _-_, _≤_, _<_}
+use native.Mathlib.Nat.{add-zero}
+use native.Mathlib.Decide.{decLt}
+use native.Mathlib.Omega.{arith}
+use borrow.Author.Tests.{not-false, eqb-true, leb-true, ltb-true, eq-eqb, ne-eqb, le-leb, lt-leb}
+use lib.Dec.{eqb, leb, ltb}
+use lib.ListN.{length, getD, drop}
+use lib.Seq.{getD-drop}
+use Rattle.words.specs.Tests.{pick, both, either, implies, within}
+use Rattle.words.specs.Fields.{kind, form, actionsOf, fluentOf, actionNumber, durationOf, isSet, formulaX, formulaY, atomFluent, atomSpare, nodeX, nodeY, nodeM, nodeN}
+use Rattle.words.proofs.Choices.{true-false, both-true, either-true, implies-true, pick-same, within-true, true-within}
+use Rattle.answers.specs.Rows.{row}
+use Rattle.answers.proofs.Rows.{first-none, or-none, row-none}
+use Rattle.job.specs.Rules.{grade, formulaShape, formulaRange, nodeShape, nodeRange, childX, childY, childM}
+use Rattle.job.specs.Before.{before, last, count, named}
+use Rattle.job.specs.Refusal.{lookup, rules, wordRefusal, refusalOf, nameRefusal, emptySet, endRefusal, jobRefusal}
+use Rattle.job.specs.Index.{positions}
+use Rattle.job.specs.Parts.{headWord, fluents, actions, lastMoment, total, wordsFrom, wordAt, duration, formulaCount, formulaWord, nodeCount, nodeWord}
+use Rattle.job.specs.WellFormed.{FormulaFormed, NodeFormed}
+use Rattle.job.proofs.Laws.{count-grows}
+use Rattle.job.proofs.Table.{graded, within-limit, rule-passed, few, limits-actions, limits-formulas, limits-nodes, Clear, clear, EndClear, end-clear}
+use Rattle.job.proofs.Where.{IsWord, is-word, positions-count, from-position}
+
+-- the forms that a shape allows
+formula-low : (hd w : ℕ) → formulaShape hd w ≡ true → form w ≤ 4
+formula-low hd w e = by-cases (decLt 4 (form w)) (λ h. absurd (true-false (sym e ∙ high h))) (λ h. omega arith)
+  where
+    high : 4 < form w → formulaShape hd w ≡ false
+    high h =
+        rw (
+          ne-eqb (form w) 0 (λ z. omega arith),
+          ne-eqb (form w) 1 (λ z. omega arith),
+          ne-eqb (form w) 2 (λ z. omega arith),
+          le-leb 3 (form w) (omega arith),
+          lt-leb (form w) 4 h,
+        )
+
+node-low : (w : ℕ) → nodeShape w ≡ true → form w ≤ 8
+node-low w e = by-cases (decLt 8 (form w)) (λ h. absurd (true-false (sym e ∙ high h))) (λ h. omega arith)
+  where
+    high : 8 < form w → nodeShape w ≡ false
+    high h =
+        rw (
+          lt-leb (form w) 1 (omega arith),
+          le-leb 2 (form w) (omega arith),
+          lt-leb (form w) 3 (omega arith),
+          ne-eqb (form w) 5 (λ z. omega arith),
+          ne-eqb (form w) 4 (λ z. omega arith),
+          le-leb 6 (form w) (omega arith),
+          lt-leb (form w) 7 (omega arith),
+          ne-eqb (form w) 8 (λ z. omega arith),
+        )
+
+module _ (job : List ℕ) (ok : jobRefusal job .number ≡ 0) where
+  c : Clear job
+  c = clear job ok
+
+  pub size : (1 ≤ length job) × (length job ≤ 2048)
+  size = within-true 1 2048 (length job) (not-false _ (row-none _ 1 0 (omega arith) (c .size)))
+
+  -- the rule of its kind refuses no word
+  pub rule : (k i : ℕ) → i < length job → kind (getD job i 0) ≡ k → lookup k (rules (getD job 0 0) (before job i) (getD job i 0)) ≡ 0
+  rule = rule-passed job (c .words)
+
+  -- word 0 is the head: any other kind follows a word
+  head : kind (getD job 0 0) ≡ 1
+  unfolding refusalOf wordRefusal before last grade
+  head = cases (eqb (kind (getD job 0 0)) 1) refl (first-none (refusalOf job) (length job) (c .words) 0 (size .0))
+    where
+      cases : (b : Bool) → eqb (kind (getD job 0 0)) 1 ≡ b → refusalOf job 0 ≡ 0 → kind (getD job 0 0) ≡ 1
+      cases true e h = eqb-true (kind (getD job 0 0)) 1 e
+      cases false e h = let two = simp (e, pick-same) at h in absurd (omega arith)
+
+  pub ranges : ((1 ≤ fluents job) × (fluents job ≤ 64)) × ((1 ≤ actions job) × (actions job ≤ 64)) × (lastMoment job ≤ 63)
+  ranges =
+      let f = within 1 64 (fluents job) in
+      let a = within 1 64 (actions job) in
+      let g = both-true (both f a) (leb (lastMoment job) 63) (graded _ _ _ (rule 1 0 (size .0) head) .1) in
+      let h = both-true f a (g .0) in
+      (within-true 1 64 (fluents job) (h .0), within-true 1 64 (actions job) (h .1), leb-true (lastMoment job) 63 (g .1))
+
+  pub ends : EndClear job
+  ends = end-clear job c
+
+  -- where word j of a kind stands
+  pub word : (k j : ℕ) → j < total k job → (i : ℕ) × IsWord job k j i
+  word k j h =
+      let size = positions-count k job (length job) in
+      (getD (positions k job (length job)) j 0, is-word k job (length job) (omega arith) j (omega arith))
+
+  -- and what it is
+  pub word-at : (k j i : ℕ) → IsWord job k j i → wordAt k job j ≡ getD job i 0
+  word-at k j i w = rw (from-position k job i j (w .inside) (w .of-kind) (w .numbered), getD-drop, add-zero)
+
+  -- an action lasts
+  pub lasts : {a i : ℕ} → IsWord job 3 a i → 0 < duration job a
+  unfolding duration
+  lasts {a} {i} at =
+      let w = getD job i 0 in
+      let g = both-true (eqb (actionNumber w) (count 3 (before job i))) (leb 1 (durationOf w)) (graded _ _ _ (rule 3 i (at .inside) (at .of-kind)) .1) in
+      rw (word-at 3 a i at) (leb-true 1 (durationOf w) (g .1))
+
+  pub formula : {k i : ℕ} → IsWord job 5 k i → FormulaFormed job k
+  unfolding formulaWord
+  formula {k} {i} at =
+      let w = getD job i 0 in
+      let e = word-at 5 k i at in
+      let n = count 5 (before job i) in
+      let g = within-limit 64 n (both (within 1 5 (kind (last (before job i)))) (formulaShape (headWord job) w)) (formulaRange (headWord job) n w) (rule 5 i (at .inside) (at .of-kind)) in
+      let low = formula-low (headWord job) w (both-true (within 1 5 (kind (last (before job i)))) (formulaShape (headWord job) w) (g .0) .1) in
+      let a = implies (eqb (form w) 1) (ltb (atomFluent (headWord job) w) (fluents job)) in
+      let x = implies (within 2 4 (form w)) (ltb (formulaX w) n) in
+      let y = implies (within 3 4 (form w)) (ltb (formulaY w) n) in
+      let axy = both-true (both a x) y (g .2) in
+      let ax = both-true a x (axy .0) in
+      record {
+        forms = rw e low;
+        fluent = rw e (λ f. ltb-true _ _ (implies-true (eqb (form w) 1) (ltb (atomFluent (headWord job) w) (fluents job)) (ax .0) (eq-eqb (form w) 1 f)));
+        lower-x = rw e (λ f. omega (arith, at .numbered, ltb-true (formulaX w) n (implies-true (within 2 4 (form w)) (ltb (formulaX w) n) (ax .1) (true-within 2 4 (form w) f low))));
+        lower-y = rw e (λ f. omega (arith, at .numbered, ltb-true (formulaY w) n (implies-true (within 3 4 (form w)) (ltb (formulaY w) n) (axy .1) (true-within 3 4 (form w) f low))));
+      }
+
+  pub node : {p i : ℕ} → IsWord job 6 p i → NodeFormed job p
+  unfolding nodeWord
+  node {p} {i} at =
+      let w = getD job i 0 in
+      let f = form w in
+      let v = last (before job i) in
+      let e = word-at 6 p i at in
+      let acts = count 3 (before job i) in
+      let forms = count 5 (before job i) in
+      let n = count 6 (before job i) in
+      let g = within-limit 64 n (both (both (within 1 8 (kind v)) (not (isSet v))) (nodeShape w)) (nodeRange acts forms n w) (rule 6 i (at .inside) (at .of-kind)) in
+      let low = node-low w (both-true (both (within 1 8 (kind v)) (not (isSet v))) (nodeShape w) (g .0) .1) in
+      let a = implies (eqb f 0) (ltb (nodeX w) acts) in
+      let k = implies (either (eqb f 1) (within 4 5 f)) (ltb (nodeX w) forms) in
+      let x = implies (childX w) (ltb (nodeX w) n) in
+      let y = implies (childY w) (ltb (nodeY w) n) in
+      let m = implies (childM w) (ltb (nodeM w) n) in
+      let win = implies (within 6 7 f) (leb (nodeM w) (nodeN w)) in
+      let r1 = both-true (both (both (both (both a k) x) y) m) win (g .2) in
+      let r2 = both-true (both (both (both a k) x) y) m (r1 .0) in
+      let r3 = both-true (both (both a k) x) y (r2 .0) in
+      let r4 = both-true (both a k) x (r3 .0) in
+      let r5 = both-true a k (r4 .0) in
+      let inside = at .inside in
+      record {
+        forms = rw e low;
+        action = rw e (λ h. omega (arith, ends .counted, count-grows 3 job i (length job) (omega arith), ltb-true (nodeX w) acts (implies-true (eqb f 0) (ltb (nodeX w) acts) (r5 .0) (eq-eqb f 0 h))));
+        formula = rw e (λ h. omega (arith, count-grows 5 job i (length job) (omega arith), ltb-true (nodeX w) forms (implies-true (either (eqb f 1) (within 4 5 f)) (ltb (nodeX w) forms) (r5 .1) (one-of f h))));
+        lower-x = rw e (λ h. omega (arith, at .numbered, ltb-true (nodeX w) n (implies-true (childX w) (ltb (nodeX w) n) (r4 .1) (two-of f h))));
+        lower-y = rw e (λ h l. omega (arith, at .numbered, ltb-true (nodeY w) n (implies-true (childY w) (ltb (nodeY w) n) (r3 .1) (true-within 2 7 f h l))));
+        lower-m = rw e (λ h. omega (arith, at .numbered, ltb-true (nodeM w) n (implies-true (childM w) (ltb (nodeM w) n) (r2 .1) (eq-eqb f 4 h))));
+        window = rw e (λ h l. leb-true (nodeM w) (nodeN w) (implies-true (within 6 7 f) (leb (nodeM w) (nodeN w)) (r1 .1) (true-within 6 7 f h l)));
+      }
+    where
+      one-of : (f : ℕ) → (f ≡ 1) ⊎ ((4 ≤ f) × (f ≤ 5)) → either (eqb f 1) (within 4 5 f) ≡ true
+      one-of f (inl h) = rw (eq-eqb f 1 h)
+      one-of f (inr h) = rw (true-within 4 5 f (h .0) (h .1)) (either-true (eqb f 1))
+
+      two-of : (f : ℕ) → ((2 ≤ f) × (f ≤ 3)) ⊎ ((6 ≤ f) × (f ≤ 7)) → either (within 2 3 f) (within 6 7 f) ≡ true
+      two-of f (inl h) = rw (true-within 2 3 f (h .0) (h .1))
+      two-of f (inr h) = rw (true-within 6 7 f (h .0) (h .1)) (either-true (within 2 3 f))

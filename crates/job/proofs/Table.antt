@@ -1,0 +1,135 @@
+-- The rule of a word by its kind, and what the rules bound. Assumes nothing.
+use mathlib.Core.Bool.{Bool, true, false, not}
+use mathlib.Core.List.{List}
+use mathlib.Core.Path.{_≡_, refl, ap, sym, _∙_}
+use Prim.Native.Nat.{ℕ, zero, suc, _+_, _-_, _≤_, _<_}
+use native.Mathlib.Numerals.{add-one}
+use native.Mathlib.Omega.{arith}
+use lib.Dec.{eqb, ltb}
+use lib.ListN.{getD, length}
+use borrow.Author.Tests.{ne-eqb, eq-eqb, ltb-true, eqb-true, not-false}
+use Rattle.words.specs.Tests.{both, one, within}
+use Rattle.words.specs.Fields.{kind, actionNumber, actionsOf}
+use Rattle.words.proofs.Choices.{both-true}
+use Rattle.answers.specs.Rows.{refusal, row, orElse, firstOf}
+use Rattle.answers.proofs.Rows.{first-none, or-none, row-none}
+use Rattle.job.specs.Rules.{grade, limited}
+use Rattle.job.specs.Before.{before, count}
+use Rattle.job.specs.Refusal.{lookup, rules, wordRefusal, refusalOf, nameRefusal, emptySet, endRefusal, jobRefusal}
+use Rattle.job.proofs.Laws.{count-more, count-none}
+
+module _ (job : List ℕ) (i : ℕ) where
+  pub at-kind : (k : ℕ) → kind (getD job i 0) ≡ k → refusalOf job i ≡ lookup k (rules (getD job 0 0) (before job i) (getD job i 0))
+  unfolding refusalOf wordRefusal
+  at-kind k h = ap (λ (m : ℕ). lookup m (rules (getD job 0 0) (before job i) (getD job i 0))) h
+
+  abbrev pub Not : ℕ → Type 0
+  Not k = kind (getD job i 0) ≡ k → ⊥
+
+  pub other-kind : Not 1 → Not 2 → Not 3 → Not 4 → Not 5 → Not 6 → Not 7 → Not 8 → refusalOf job i ≡ 2
+  unfolding refusalOf wordRefusal
+  other-kind h1 h2 h3 h4 h5 h6 h7 h8 =
+      rw (ne-eqb _ 1 h1, ne-eqb _ 2 h2, ne-eqb _ 3 h3, ne-eqb _ 4 h4, ne-eqb _ 5 h5, ne-eqb _ 6 h6, ne-eqb _ 7 h7, ne-eqb _ 8 h8)
+
+-- what a word that is not refused passes
+pub graded : (shape range fresh : Bool) → grade shape range fresh ≡ 0 → (shape ≡ true) × (range ≡ true) × (fresh ≡ true)
+unfolding grade
+graded false b c e = absurd (omega arith)
+graded true false c e = absurd (omega arith)
+graded true true false e = absurd (omega arith)
+graded true true true e = (refl, refl, refl)
+
+pub within-limit : (most count : ℕ) (shape range : Bool) → limited most count shape range ≡ 0 → (shape ≡ true) × (count < most) × (range ≡ true)
+within-limit most count shape range e =
+    let g = graded shape (both (ltb count most) range) true e in
+    let b = both-true (ltb count most) range (g .1) in
+    (g .0, ltb-true count most (b .0), b .1)
+
+module _ (job : List ℕ) where
+  -- at most 64 words of a kind, where each is declared with fewer before it
+  bounded : (k n : ℕ) → ((i : ℕ) → i < n → kind (getD job i 0) ≡ k → count k (before job i) < 64) → count k (before job n) ≤ 64
+  bounded k zero h = omega (arith, count-none job k)
+  bounded k (suc n) h =
+      cases (eqb (kind (getD job n 0)) k) refl (bounded k n (λ i l. h i (omega arith))) (rw (add-one n) at (count-more job n k))
+    where
+      cases : (t : Bool) → eqb (kind (getD job n 0)) k ≡ t → count k (before job n) ≤ 64
+          → count k (before job (suc n)) ≡ count k (before job n) + one (eqb (kind (getD job n 0)) k) → count k (before job (suc n)) ≤ 64
+      cases true e ih more =
+          let here : count k (before job n) < 64 = h n (omega arith) (eqb-true (kind (getD job n 0)) k e) in
+          omega (arith, rw e at more)
+      cases false e ih more = omega (arith, rw e at more)
+
+  module _ (none : firstOf (refusalOf job) (length job) .number ≡ 0) where
+    -- the rule of its kind refuses no word
+    pub rule-passed : (k i : ℕ) → i < length job → kind (getD job i 0) ≡ k → lookup k (rules (getD job 0 0) (before job i) (getD job i 0)) ≡ 0
+    rule-passed k i l h = sym (at-kind job i k h) ∙ first-none (refusalOf job) (length job) none i l
+
+    -- a kind whose rule lets a word pass only with fewer than 64 before it
+    abbrev pub Limits : ℕ → Type 0
+    Limits k = (p : List ℕ) (w : ℕ) → lookup k (rules (getD job 0 0) p w) ≡ 0 → count k p < 64
+
+    pub few : (k : ℕ) → Limits k → count k (before job (length job)) ≤ 64
+    few k limits = bounded k (length job) (λ i l h. limits (before job i) (getD job i 0) (rule-passed k i l h))
+
+    pub limits-actions : Limits 3
+    limits-actions p w e = let n = eqb-true (actionNumber w) _ (both-true _ _ (graded _ _ _ e .1) .0) in omega (arith, n)
+
+    pub limits-formulas : Limits 5
+    limits-formulas p w e = within-limit 64 (count 5 p) _ _ e .1
+
+    pub limits-nodes : Limits 6
+    limits-nodes p w e = within-limit 64 (count 6 p) _ _ e .1
+
+  -- the three places of `jobRefusal`
+  pub by-length : not (within 1 2048 (length job)) ≡ true → jobRefusal job ≡ refusal 1 0
+  unfolding jobRefusal
+  by-length h = rw h
+
+  module _ (fits : not (within 1 2048 (length job)) ≡ false) where
+    pub by-words : (firstOf (refusalOf job) (length job) .number ≡ 0 → ⊥) → jobRefusal job ≡ firstOf (refusalOf job) (length job)
+    unfolding jobRefusal
+    by-words h = rw (fits, ne-eqb _ 0 h)
+
+    pub by-end : firstOf (refusalOf job) (length job) .number ≡ 0
+        → jobRefusal job ≡ endRefusal (getD job 0 0) (length job) (before job (length job))
+    unfolding jobRefusal
+    by-end h = rw (fits, eq-eqb _ 0 h)
+
+-- the three places of a job that is not refused: none gives a number
+pub record Clear (job : List ℕ) : Type 0 where
+  pub size : row (not (within 1 2048 (length job))) 1 0 .number ≡ 0
+  pub words : firstOf (refusalOf job) (length job) .number ≡ 0
+  pub end : endRefusal (getD job 0 0) (length job) (before job (length job)) .number ≡ 0
+
+pub clear : (job : List ℕ) → jobRefusal job .number ≡ 0 → Clear job
+unfolding jobRefusal
+clear job ok =
+    let a = or-none (row (not (within 1 2048 (length job))) 1 0) _ ok in
+    let b = or-none (firstOf (refusalOf job) (length job)) (endRefusal (getD job 0 0) (length job) (before job (length job))) (a .1) in
+    record { size = a .0; words = b .0; end = b .1 }
+
+-- the rows of its end, one by one
+pub record EndClear (job : List ℕ) : Type 0 where
+  pub counted : count 3 (before job (length job)) ≡ actionsOf (getD job 0 0)
+  pub some : eqb (count 6 (before job (length job))) 0 ≡ false
+  pub filled : emptySet (before job (length job)) ≡ false
+  pub named : firstOf (nameRefusal (before job (length job))) (count 6 (before job (length job)) - 1) .number ≡ 0
+
+pub end-clear : (job : List ℕ) → Clear job → EndClear job
+unfolding endRefusal
+end-clear job c =
+    let p = before job (length job) in
+    let miscounted = not (eqb (count 3 p) (actionsOf (getD job 0 0))) in
+    let r1 = row miscounted 3 (length job) in
+    let r2 = row (eqb (count 6 p) 0) 5 0 in
+    let r3 = row (emptySet p) 5 (count 6 p - 1) in
+    let r4 = firstOf (nameRefusal p) (count 6 p - 1) in
+    let a = or-none r1 (orElse r2 (orElse r3 r4)) (c .end) in
+    let b = or-none r2 (orElse r3 r4) (a .1) in
+    let d = or-none r3 r4 (b .1) in
+    record {
+      counted = eqb-true _ _ (not-false _ (row-none miscounted 3 (length job) (omega arith) (a .0)));
+      some = row-none (eqb (count 6 p) 0) 5 0 (omega arith) (b .0);
+      filled = row-none (emptySet p) 5 (count 6 p - 1) (omega arith) (d .0);
+      named = d .1;
+    }

@@ -1,0 +1,65 @@
+-- A job that is not refused is well formed. Assumes nothing.
+use mathlib.Core.Bool.{Bool, true, false}
+use mathlib.Core.List.{List}
+use mathlib.Core.Path.{_≡_, refl, ap, sym, _∙_}
+use Prim.Native.Nat.{ℕ, zero, suc, _-_, _≤_, _<_}
+use native.Mathlib.Omega.{arith}
+use borrow.Author.Tests.{eqb-true, eqb-false, ltb-true}
+use lib.Dec.{eqb}
+use lib.ListN.{length, getD}
+use Rattle.words.specs.Tests.{pick}
+use Rattle.words.specs.Fields.{form}
+use Rattle.answers.proofs.Rows.{first-none}
+use Rattle.job.specs.Before.{before, named}
+use Rattle.job.specs.Refusal.{nameRefusal, jobRefusal}
+use Rattle.job.specs.Parts.{total, nodeCount, nodeWord}
+use Rattle.job.specs.WellFormed.{SetFormed, WellFormed}
+use Rattle.job.proofs.Table.{graded, few, limits-actions, limits-formulas, limits-nodes, clear}
+use Rattle.job.proofs.Parts.{size, ranges, rule, ends, word, word-at, lasts, formula, node}
+use Rattle.job.proofs.TaskSets.{set-formed}
+
+-- a node that gives no number is named exactly once
+named-once : (p : List ℕ) (v : ℕ) → nameRefusal p v ≡ 0 → named v p ≡ 1
+unfolding nameRefusal
+named-once p v = cases (eqb (named v p) 1) refl
+  where
+    cases : (t : Bool) → eqb (named v p) 1 ≡ t → _≡_ {A = ℕ} (pick t 0 5) 0 → named v p ≡ 1
+    cases true e h = eqb-true (named v p) 1 e
+    cases false e h = absurd (omega arith)
+
+pub well-formed : (job : List ℕ) → jobRefusal job .number ≡ 0 → WellFormed job
+unfolding nodeWord
+well-formed job ok =
+    let s = size job ok in
+    let r = ranges job ok in
+    let e = ends job ok in
+    let words = clear job ok .words in
+    let nodes = few job words 6 (limits-nodes job words) in
+    let none = eqb-false (total 6 job) 0 (e .some) in
+    record {
+      some = s .0;
+      short = s .1;
+      some-fluents = r .0 .0;
+      few-fluents = r .0 .1;
+      some-actions = r .1 .0;
+      few-actions = r .1 .1;
+      few-moments = r .2;
+      known = λ i l h. ltb-true _ _ (graded _ _ _ (rule job ok 2 i l h) .1);
+      counted = e .counted;
+      lasting = λ a l. lasts job ok (word job ok 3 a (rw (e .counted) l) .1);
+      law = λ i l h. ltb-true _ _ (graded _ _ _ (rule job ok 4 i l h) .1);
+      few-formulas = few job words 5 (limits-formulas job words);
+      formula = λ k l. formula job ok (word job ok 5 k l .1);
+      some-nodes = omega (arith, positive (total 6 job) none);
+      few-nodes = nodes;
+      node = λ p l. node job ok (word job ok 6 p l .1);
+      set = λ p l f. let w = word job ok 6 p l in set-formed job ok (w .1) (sym (word-form p (w .0) (word-at job ok 6 p (w .0) (w .1))) ∙ f);
+      once = λ v l. named-once _ v (first-none _ _ (e .named) v (omega arith));
+    }
+  where
+    positive : (n : ℕ) → (n ≡ 0 → ⊥) → 0 < n
+    positive zero h = absurd (h refl)
+    positive (suc n) h = omega arith
+
+    word-form : (p i : ℕ) → nodeWord job p ≡ getD job i 0 → form (nodeWord job p) ≡ form (getD job i 0)
+    word-form p i e = ap form e

@@ -1,0 +1,152 @@
+-- Where the words of a kind stand: the list of positions, one word after the other. Assumes nothing.
+use mathlib.Core.Bool.{Bool, true, false}
+use mathlib.Core.List.{List, [], _∷_, _++_, append-nil}
+use mathlib.Core.Logic.{_⊎_, inl, inr, by-cases}
+use mathlib.Core.Path.{_≡_, refl, ap, sym, _∙_}
+use Prim.Native.Nat.{ℕ, zero, suc, _+_, _≤_, _<_}
+use native.Mathlib.Nat.{zero-add}
+use native.Mathlib.Numerals.{add-one}
+use native.Mathlib.Decide.{decLt}
+use native.Mathlib.Omega.{arith}
+use borrow.Author.Tests.{eq-eqb, ne-eqb, eqb-true, eqb-false}
+use lib.Dec.{eqb}
+use lib.ListN.{length, getD, drop, set, replicate, length-append, length-set, List·getD-append}
+use lib.Seq.{sets, sets-eq, getD-at}
+use Rattle.words.specs.Tests.{pick, one}
+use Rattle.words.specs.Fields.{kind}
+use Rattle.job.specs.Before.{before, count}
+use Rattle.words.specs.Scan.{fromNumber}
+use Rattle.job.specs.Index.{positions, placesUpto}
+use Rattle.job.specs.Parts.{ofKind, total}
+use Rattle.job.specs.WellFormed.{Placed}
+use Rattle.job.proofs.Laws.{count-more, count-none, count-grows}
+
+-- one more word stored after others
+pub sets-more : (l : List ℕ) (i : ℕ) (vs : List ℕ) (a : ℕ) → set (sets l i vs) (i + length vs) a ≡ sets l i (vs ++ (a ∷ []))
+sets-more l i [] a = let e : i + 0 ≡ i = omega arith in rw e
+sets-more l i (v ∷ vs) a = let e : i + suc (length vs) ≡ suc i + length vs = omega arith in rw e (sets-more (set l i v) (suc i) vs a)
+
+module _ (k : ℕ) (job : List ℕ) where
+  pub positions-none : positions k job 0 ≡ []
+  unfolding positions
+  positions-none = refl
+
+  module _ (i : ℕ) where
+    pub positions-more : positions k job (i + 1) ≡ positions k job i ++ pick (eqb (kind (getD job i 0)) k) (i ∷ []) []
+    unfolding positions
+    positions-more = rw (add-one i)
+
+    pub positions-hit : kind (getD job i 0) ≡ k → positions k job (i + 1) ≡ positions k job i ++ (i ∷ [])
+    positions-hit h = positions-more ∙ rw (eq-eqb _ _ h)
+
+    pub positions-miss : (kind (getD job i 0) ≡ k → ⊥) → positions k job (i + 1) ≡ positions k job i
+    positions-miss h = positions-more ∙ rw (ne-eqb _ _ h, append-nil)
+
+  -- there are as many as words of the kind
+  pub positions-count : (i : ℕ) → length (positions k job i) ≡ count k (before job i)
+  positions-count zero = rw (positions-none, count-none job k)
+  positions-count (suc i) = rw (← (add-one i)) (positions-length ∙ ap (λ (n : ℕ). n + one (eqb (kind (getD job i 0)) k)) (positions-count i) ∙ sym (count-more job i k))
+    where
+      length-pick : (t : Bool) → length (pick t (i ∷ []) []) ≡ one t
+      length-pick true = refl
+      length-pick false = refl
+
+      positions-length : length (positions k job (i + 1)) ≡ length (positions k job i) + one (eqb (kind (getD job i 0)) k)
+      positions-length = ap length (positions-more i) ∙ length-append (positions k job i) _ ∙ ap (λ (n : ℕ). length (positions k job i) + n) (length-pick (eqb (kind (getD job i 0)) k))
+
+-- the array and the number are those of the words of kind k before i
+pub record Marked (k : ℕ) (job : List ℕ) (i : ℕ) (array : List ℕ) (size : ℕ) : Type 0 where
+  pub long : length array ≡ 64
+  pub total : size ≡ length (positions k job i)
+  pub entries : array ≡ sets (replicate 64 0) 0 (positions k job i)
+
+module _ (k : ℕ) (job : List ℕ) where
+  pub marked-none : Marked k job 0 (replicate 64 0) 0
+  marked-none = record { long = refl; total = ap length (sym (positions-none k job)); entries = rw (positions-none k job) }
+
+module _ {k : ℕ} {job : List ℕ} {i : ℕ} {ps : List ℕ} {n : ℕ} (m : Marked k job i ps n) where
+  -- a word of the kind finds room, where there are at most 64 up to a later one
+  pub room : (upto : ℕ) → i < upto → kind (getD job i 0) ≡ k → count k (before job upto) ≤ 64 → n < 64
+  room upto l h few =
+      let more : count k (before job (i + 1)) ≡ count k (before job i) + 1 = rw (eq-eqb _ _ h) at (count-more job i k) in
+      omega (arith, m .total, positions-count k job i, more, count-grows k job (i + 1) upto (omega arith))
+
+  pub hit : kind (getD job i 0) ≡ k → Marked k job (i + 1) (set ps n i) (n + 1)
+  hit h =
+      let e = positions-hit k job i h in
+      record {
+        long = rw length-set (m .long);
+        total = ap (λ (t : ℕ). t + 1) (m .total) ∙ sym (ap length e ∙ length-append (positions k job i) (i ∷ []));
+        entries = rw (m .entries, m .total, e) (rw zero-add at (sets-more (replicate 64 0) 0 (positions k job i) i));
+      }
+
+  pub miss : (kind (getD job i 0) ≡ k → ⊥) → Marked k job (i + 1) ps n
+  miss h = let e = positions-miss k job i h in record { long = m .long; total = rw e (m .total); entries = rw e (m .entries) }
+
+same-or-not : (a b : ℕ) → (a ≡ b) ⊎ (a ≡ b → ⊥)
+same-or-not a b = cases (eqb a b) refl
+  where
+    cases : (t : Bool) → eqb a b ≡ t → (a ≡ b) ⊎ (a ≡ b → ⊥)
+    cases true e = inl (eqb-true a b e)
+    cases false e = inr (eqb-false a b e)
+
+-- position i has word j of kind k
+pub record IsWord (job : List ℕ) (k j i : ℕ) : Type 0 where
+  pub inside : i < length job
+  pub of-kind : kind (getD job i 0) ≡ k
+  pub numbered : count k (before job i) ≡ j
+
+-- the position of each word of kind k
+pub is-word : (k : ℕ) (job : List ℕ) (i : ℕ) → i ≤ length job → (j : ℕ) → j < length (positions k job i) → IsWord job k j (getD (positions k job i) j 0)
+is-word k job zero l j h = absurd (let e = ap length (positions-none k job) in omega arith)
+is-word k job (suc i) l j h = cases (same-or-not (kind (getD job i 0)) k) (is-word k job i (omega arith) j)
+  where
+    cases : (kind (getD job i 0) ≡ k) ⊎ (kind (getD job i 0) ≡ k → ⊥)
+        → (j < length (positions k job i) → IsWord job k j (getD (positions k job i) j 0)) → IsWord job k j (getD (positions k job (suc i)) j 0)
+    cases (inr n) ih =
+        let e : positions k job (suc i) ≡ positions k job i = rw (add-one i) at (positions-miss k job i n) in
+        rw e (ih (rw e at h))
+    cases (inl y) ih =
+        let e : positions k job (suc i) ≡ positions k job i ++ (i ∷ []) = rw (add-one i) at (positions-hit k job i y) in
+        let size = length-append (positions k job i) (i ∷ []) in
+        by-cases (decLt j (length (positions k job i)))
+        (λ m. rw (e, List·getD-append (positions k job i) (i ∷ []) 0 j m) (ih m))
+        (λ m.
+        let last : length (positions k job i) ≡ j = omega (arith, ap length e) in
+        rw (e, getD-at (positions k job i) i [] 0 j last)
+        (record { inside = omega arith; of-kind = y; numbered = sym (positions-count k job i) ∙ last }))
+
+-- a count of the words before, with the first word apart
+count-cons : (k w : ℕ) (ws : List ℕ) (i : ℕ) → count k (before (w ∷ ws) (suc i)) ≡ one (eqb (kind w) k) + count k (before ws i)
+unfolding count before
+count-cons k w ws zero = omega arith
+count-cons k w ws (suc i) = omega (arith, count-cons k w ws i)
+
+-- the words from number j of a kind on begin at its position
+pub from-position : (k : ℕ) (ws : List ℕ) (i j : ℕ) → i < length ws → kind (getD ws i 0) ≡ k → count k (before ws i) ≡ j
+    → fromNumber (ofKind k) j ws ≡ drop i ws
+unfolding fromNumber
+from-position k [] i j l h c = absurd (omega arith)
+from-position k (w ∷ ws) zero zero l h c = rw (eq-eqb (kind w) k h)
+from-position k (w ∷ ws) zero (suc j) l h c = absurd (omega (arith, count-none (w ∷ ws) k))
+from-position k (w ∷ ws) (suc i) j l h c = cases (eqb (kind w) k) refl j (rw (count-cons k w ws i) at c) (λ j. from-position k ws i j (omega arith) h)
+  where
+    cases : (t : Bool) → eqb (kind w) k ≡ t → (j : ℕ) → one (eqb (kind w) k) + count k (before ws i) ≡ j
+        → ((j : ℕ) → count k (before ws i) ≡ j → fromNumber (ofKind k) j ws ≡ drop i ws) → fromNumber (ofKind k) j (w ∷ ws) ≡ drop i ws
+    cases true e zero c ih = absurd (let z = rw e at c in omega arith)
+    cases true e (suc j) c ih = rw e (ih j (let z = rw e at c in omega arith))
+    cases false e zero c ih = rw e (ih zero (let z = rw e at c in omega arith))
+    cases false e (suc j) c ih = rw e (ih (suc j) (let z = rw e at c in omega arith))
+
+-- the array of positions
+pub in-front : (l : List ℕ) (j : ℕ) → j < length l → length l ≤ 64 → getD (sets (replicate 64 0) 0 l) j 0 ≡ getD l j 0
+in-front l j h few = rw (sets-eq l (replicate 64 0) 0 (omega arith)) (List·getD-append l _ 0 j h)
+
+pub placed : (job : List ℕ) (k : ℕ) → total k job ≤ 64 → Placed job k (placesUpto k job (length job) .position)
+unfolding placesUpto
+placed job k few = record { inside = λ j h. at j h .inside; words = λ j h. from-position k job _ j (at j h .inside) (at j h .of-kind) (at j h .numbered) }
+  where
+    at : (j : ℕ) → j < total k job → IsWord job k j (getD (sets (replicate 64 0) 0 (positions k job (length job))) j 0)
+    at j h =
+        let size = positions-count k job (length job) in
+        rw (in-front (positions k job (length job)) j (omega arith) (omega arith)) (is-word k job (length job) (omega arith) j (omega arith))

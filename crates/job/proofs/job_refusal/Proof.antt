@@ -1,0 +1,35 @@
+-- `job::job_refusal` meets its contract, by the place of `jobRefusal` at which each `return` stands. Assumes nothing.
+use mathlib.Core.Path.{_≡_, ap, sym, _∙_}
+use borrow.Author.Tests.{leb-true, not-false}
+use borrow.Author.Needs.{needs}
+use Rattle.answers.specs.declared.Refusal.{Refusal}
+use Rattle.words.proofs.Choices.{both-true}
+use Rattle.job.proofs.Table.{by-length, by-words, by-end}
+use Rattle.job.proofs.job_refusal.Statement.{statement}
+use Rattle.job.proofs.job_refusal.Tie as tie
+
+returns : tie.Need-returns
+returns c = sym (by-length _ (c .if1 .taken))
+
+scan-words-requires : tie.Need-scan-words-requires
+scan-words-requires c κs = search needs
+
+returns-2 : tie.Need-returns-2
+returns-2 c =
+    let e = c .before .before .before .scan-words .ensures .0 in
+    e ∙ sym (by-words _ (c .before .before .before .before .if1 .left) (λ z. c .if2 .taken (ap (λ (r : Refusal). r .number) e ∙ z)))
+
+end-refusal-requires : tie.Need-end-refusal-requires
+end-refusal-requires c κs =
+    (leb-true _ _ (both-true _ _ (not-false _ (c .before .before .before .before .if1 .left)) .0), c .before .before .before .scan-words .ensures .1 (c .if2 .left))
+
+returns-3 : tie.Need-returns-3
+returns-3 c =
+    let e = c .before .before .before .before .scan-words .ensures .0 in
+    c .end-refusal .ensures
+    ∙ sym (by-end _ (c .before .before .before .before .before .if1 .left) (sym (ap (λ (r : Refusal). r .number) e) ∙ c .before .if2 .left))
+
+pub job-refusal-spec : {M : Type 1} → statement M
+job-refusal-spec =
+    tie.close
+    (tie.spec returns scan-words-requires returns-2 end-refusal-requires returns-3)

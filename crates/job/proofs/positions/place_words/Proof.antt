@@ -1,0 +1,77 @@
+-- `job::positions::place_words` meets its contract. The invariant: the words of the kind before `i` have their positions. Assumes nothing.
+use mathlib.Core.List.{List, []}
+use mathlib.Core.Path.{_≡_, refl, ap, sym, _∙_}
+use Prim.Native.Nat.{ℕ, _+_, _-_, _≤_, _<_}
+use mathlib.Core.Logic.{⊎-elim}
+use borrow.Author.Needs.{needs}
+use native.Mathlib.Omega.{arith}
+use lib.ListN.{length, replicate, set}
+use lib.Seq.{sets}
+use Rattle.job.specs.Before.{before, count}
+use Rattle.job.specs.Index.{positions, placesUpto}
+use Rattle.job.proofs.Where.{Marked, marked-none, room, hit, miss}
+use Rattle.job.proofs.positions.place_words.Statement.{statement}
+use Rattle.job.proofs.positions.place_words.Tie as tie
+
+abbrev Inv-loop : tie.InvT-loop
+Inv-loop job k n position₀ total₀ i₀ position total i = (i ≤ n) × Marked k job i position total
+
+abbrev μ-loop : tie.MeasureT-loop
+μ-loop job k n position₀ total₀ i₀ position total i = n - i
+
+loop-holds : tie.Need-loop-holds Inv-loop μ-loop
+loop-holds c = (omega arith, marked-none _ _)
+
+mul-if1 : tie.Need-mul-if1 Inv-loop μ-loop
+mul-if1 c = search needs
+
+shared-slice-read-if1 : tie.Need-shared-slice-read-if1 Inv-loop μ-loop
+shared-slice-read-if1 c = search needs
+
+mul-position : tie.Need-mul-position Inv-loop μ-loop
+mul-position c = omega (arith, room (c .before .before .before .loop .inv .1) _ (c .before .before .loop-test .taken) (c .if1 .taken) (c .before .before .before .before .pre .1))
+
+array-write-position : tie.Need-array-write-position Inv-loop μ-loop
+array-write-position c = room (c .before .before .before .loop .inv .1) _ (c .before .before .loop-test .taken) (c .if1 .taken) (c .before .before .before .before .pre .1)
+
+add-total : tie.Need-add-total Inv-loop μ-loop
+add-total c = omega (arith, room (c .before .before .before .loop .inv .1) _ (c .before .before .loop-test .taken) (c .if1 .taken) (c .before .before .before .before .pre .1))
+
+add-i : tie.Need-add-i Inv-loop μ-loop
+add-i c = search needs
+
+loop-less : tie.Need-loop-less Inv-loop μ-loop
+loop-less c = search needs
+
+loop-again : tie.Need-loop-again Inv-loop μ-loop
+loop-again c = (
+  omega arith,
+  ⊎-elim
+      (λ w. rw (w .1, w .2) (hit (c .before .before .before .loop .inv .1) (w .0 .taken)))
+      (λ w. rw (w .1, w .2) (miss (c .before .before .before .loop .inv .1) (w .0 .left)))
+      (c .if1 .came),
+)
+
+returns : tie.Need-returns Inv-loop μ-loop
+unfolding placesUpto
+returns c =
+    let m = c .before .loop .inv .1 in
+    let e : c .before .loop .i ≡ c .before .before .args .n = omega arith in
+    rw (m .total, m .entries, e)
+
+pub place-words-spec : {M : Type 1} → statement M
+place-words-spec =
+    tie.close
+    (tie.spec
+    Inv-loop
+    μ-loop
+    loop-holds
+    mul-if1
+    shared-slice-read-if1
+    mul-position
+    array-write-position
+    add-total
+    add-i
+    loop-less
+    loop-again
+    returns)

@@ -1,0 +1,91 @@
+-- `job::scan::listed` meets its contract. The invariant: what the words before `i` list is what those before `j` do. Assumes nothing.
+use borrow.Author.Needs.{needs}
+use mathlib.Core.Path.{_≡_, refl, _∙_, sym}
+use Prim.Native.Nat.{_≤_}
+use borrow.Author.Tests.{eq-eqb, ne-eqb}
+use native.Mathlib.Omega.{arith}
+use lib.ListN.{length}
+use Rattle.job.specs.Rules.{sameFluent}
+use Rattle.words.specs.Scan.{any}
+use Rattle.job.specs.Before.{before, since}
+use Rattle.job.proofs.Laws.{since-any, since-none}
+use Rattle.job.proofs.scan.listed.Statement.{statement}
+use Rattle.job.proofs.scan.listed.Tie as tie
+
+abbrev Inv-loop : tie.InvT-loop
+Inv-loop job i k head w j₀ j =
+    (j ≤ length job) × (any (sameFluent head w) (since k (before job i)) ≡ any (sameFluent head w) (since k (before job j)))
+
+abbrev μ-loop : tie.MeasureT-loop
+μ-loop job i k head w j₀ j = j
+
+loop-holds : tie.Need-loop-holds Inv-loop μ-loop
+loop-holds c = (search needs, refl)
+
+sub-v : tie.Need-sub-v Inv-loop μ-loop
+sub-v c = omega arith
+
+mul-v : tie.Need-mul-v Inv-loop μ-loop
+mul-v c = omega arith
+
+shared-slice-read-v : tie.Need-shared-slice-read-v Inv-loop μ-loop
+shared-slice-read-v c = omega arith
+
+returns : tie.Need-returns Inv-loop μ-loop
+returns c =
+    rw
+    (c .before .before .before .loop .inv .1, since-any, c .before .before .loop-test .taken, eq-eqb _ _ (c .if1 .taken))
+
+same-fluent-requires : tie.Need-same-fluent-requires Inv-loop μ-loop
+same-fluent-requires c κs = search needs
+
+returns-2 : tie.Need-returns-2 Inv-loop μ-loop
+returns-2 c =
+    rw (
+      c .before .before .before .before .before .loop .inv .1,
+      since-any,
+      c .before .before .before .before .loop-test .taken,
+      ne-eqb _ _ (c .before .before .if1 .left),
+      sym (c .before .same-fluent .ensures) ∙ c .if2 .taken,
+    )
+
+sub-j : tie.Need-sub-j Inv-loop μ-loop
+sub-j c = omega arith
+
+loop-less : tie.Need-loop-less Inv-loop μ-loop
+loop-less c = omega arith
+
+loop-again : tie.Need-loop-again Inv-loop μ-loop
+loop-again c = (
+  omega arith,
+  rw (
+    c .before .before .before .before .before .loop .inv .1,
+    since-any,
+    c .before .before .before .before .loop-test .taken,
+    ne-eqb _ _ (c .before .before .if1 .left),
+    sym (c .before .same-fluent .ensures) ∙ c .if2 .left,
+  ),
+)
+
+returns-3 : tie.Need-returns-3 Inv-loop μ-loop
+returns-3 c =
+    let e : c .before .loop .j ≡ 0 = omega arith in
+    rw (c .before .loop .inv .1, e, since-none)
+
+pub listed-spec : {M : Type 1} → statement M
+listed-spec =
+    tie.close
+    (tie.spec
+    Inv-loop
+    μ-loop
+    loop-holds
+    sub-v
+    mul-v
+    shared-slice-read-v
+    returns
+    same-fluent-requires
+    returns-2
+    sub-j
+    loop-less
+    loop-again
+    returns-3)

@@ -1,0 +1,31 @@
+-- `job::scan::previous` meets its contract: the word before is the first of the words before. Assumes nothing.
+use Rattle.job.specs.Before.{before, last}
+use Rattle.job.proofs.Laws.{before-less}
+use Prim.Native.Nat.{_<_}
+use borrow.Author.Needs.{needs}
+use native.Mathlib.Omega.{arith}
+use Rattle.job.proofs.scan.previous.Statement.{statement}
+use Rattle.job.proofs.scan.previous.Tie as tie
+
+sub-result : tie.Need-sub-result
+sub-result c = search needs
+
+mul-result : tie.Need-mul-result
+mul-result c = search needs
+
+shared-slice-read-result : tie.Need-shared-slice-read-result
+shared-slice-read-result c = search needs
+
+returns : tie.Need-returns
+unfolding before last
+returns c = rw (c .if1 .taken)
+
+returns-2 : tie.Need-returns-2
+unfolding last
+returns-2 c =
+    let h : 0 < c .before .before .args .i = omega arith in
+    rw before-less
+
+pub previous-spec : {M : Type 1} → statement M
+previous-spec =
+    tie.close (tie.spec sub-result mul-result shared-slice-read-result returns returns-2)

@@ -1,0 +1,72 @@
+-- `job::scan::scan_words` meets its contract. The invariant: no word before `i` is refused, and the state is tied to them. Assumes nothing.
+use mathlib.Core.Path.{_≡_, sym, _∙_}
+use Prim.Native.Nat.{_≤_, _-_}
+use borrow.Author.Needs.{needs}
+use native.Mathlib.Omega.{arith}
+use lib.ListN.{length}
+use Rattle.job.specs.Before.{before}
+use Rattle.answers.specs.Rows.{firstOf, passed}
+use Rattle.job.specs.Refusal.{refusalOf}
+use Rattle.job.specs.State.{Tied}
+use Rattle.job.proofs.Laws.{tied-start}
+use Rattle.answers.proofs.Rows.{first-start, first-more, first-found}
+use Rattle.job.proofs.scan.scan_words.Statement.{statement}
+use Rattle.job.proofs.scan.scan_words.Tie as tie
+
+abbrev Inv-loop : tie.InvT-loop
+Inv-loop job s₀ i₀ s i = (i ≤ length job) × Tied (before job i) s × (firstOf (refusalOf job) i ≡ passed)
+
+abbrev μ-loop : tie.MeasureT-loop
+μ-loop job s₀ i₀ s i = length job - i
+
+loop-holds : tie.Need-loop-holds Inv-loop μ-loop
+loop-holds c = (omega arith, tied-start _, first-start _)
+
+word-refusal-requires : tie.Need-word-refusal-requires Inv-loop μ-loop
+word-refusal-requires c κs = search needs
+
+returns : tie.Need-returns Inv-loop μ-loop
+returns c = (
+  rw (c .before .word-refusal .ensures)
+      (sym
+      (first-found _ _ _ (c .before .before .before .loop .inv .2)
+      (λ e. c .if1 .taken (c .before .word-refusal .ensures ∙ e))
+      (c .before .before .loop-test .taken))),
+  λ e. absurd (c .if1 .taken e),
+)
+
+advance-requires : tie.Need-advance-requires Inv-loop μ-loop
+advance-requires c κs = search needs
+
+add-i : tie.Need-add-i Inv-loop μ-loop
+add-i c = omega arith
+
+loop-less : tie.Need-loop-less Inv-loop μ-loop
+loop-less c = omega arith
+
+loop-again : tie.Need-loop-again Inv-loop μ-loop
+loop-again c = (
+  omega arith,
+  c .advance .ensures,
+  first-more _ _ (c .before .before .before .before .loop .inv .2) (sym (c .before .before .word-refusal .ensures) ∙ c .before .if1 .left),
+)
+
+returns-2 : tie.Need-returns-2 Inv-loop μ-loop
+returns-2 c =
+    let e : c .before .loop .i ≡ length (c .before .before .before .args .job .now) = omega arith in
+    (rw (← e) (sym (c .before .loop .inv .2)), λ z. rw (← e) (c .before .loop .inv .1))
+
+pub scan-words-spec : {M : Type 1} → statement M
+scan-words-spec =
+    tie.close
+    (tie.spec
+    Inv-loop
+    μ-loop
+    loop-holds
+    word-refusal-requires
+    returns
+    advance-requires
+    add-i
+    loop-less
+    loop-again
+    returns-2)

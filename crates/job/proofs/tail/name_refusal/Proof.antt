@@ -1,0 +1,64 @@
+-- `job::tail::name_refusal` meets its contract. The invariant: every node below `v` is named exactly once. Assumes nothing.
+use mathlib.Core.Path.{_≡_, sym, _∙_}
+use Prim.Native.Nat.{ℕ, _≤_, _-_}
+use borrow.Author.Needs.{needs}
+use native.Mathlib.Omega.{arith}
+use lib.ListN.{length}
+use Rattle.job.specs.Before.{before}
+use Rattle.answers.specs.Rows.{firstOf, passed}
+use Rattle.job.specs.Refusal.{nameRefusal}
+use Rattle.job.proofs.Laws.{once, not-once}
+use Rattle.answers.proofs.Rows.{first-start, first-more, first-found}
+use Rattle.job.proofs.tail.name_refusal.Statement.{statement}
+use Rattle.job.proofs.tail.name_refusal.Tie as tie
+
+five-ne : _≡_ {A = ℕ} 5 0 → ⊥
+five-ne e = omega arith
+
+abbrev Inv-loop : tie.InvT-loop
+Inv-loop job root v₀ v = (v ≤ root) × (firstOf (nameRefusal (before job (length job))) v ≡ passed)
+
+abbrev μ-loop : tie.MeasureT-loop
+μ-loop job root v₀ v = root - v
+
+loop-holds : tie.Need-loop-holds Inv-loop μ-loop
+loop-holds c = (omega arith, first-start _)
+
+times-named-requires : tie.Need-times-named-requires Inv-loop μ-loop
+times-named-requires c κs = search needs
+
+returns : tie.Need-returns Inv-loop μ-loop
+returns c =
+    let five = not-once _ _ (λ e. c .if1 .taken (c .before .times-named .ensures ∙ e)) in
+    sym
+    (rw five at
+    (first-found _ _ _ (c .before .before .before .loop .inv .1) (λ z. five-ne (sym five ∙ z)) (c .before .before .loop-test .taken)))
+
+add-v : tie.Need-add-v Inv-loop μ-loop
+add-v c = omega arith
+
+loop-less : tie.Need-loop-less Inv-loop μ-loop
+loop-less c = omega arith
+
+loop-again : tie.Need-loop-again Inv-loop μ-loop
+loop-again c =
+    (omega arith, first-more _ _ (c .before .before .before .loop .inv .1) (once _ _ (sym (c .before .times-named .ensures) ∙ c .if1 .left)))
+
+returns-2 : tie.Need-returns-2 Inv-loop μ-loop
+returns-2 c =
+    let e : c .before .loop .v ≡ c .before .before .before .args .root = omega arith in
+    rw (← e) (sym (c .before .loop .inv .1))
+
+pub name-refusal-spec : {M : Type 1} → statement M
+name-refusal-spec =
+    tie.close
+    (tie.spec
+    Inv-loop
+    μ-loop
+    loop-holds
+    times-named-requires
+    returns
+    add-v
+    loop-less
+    loop-again
+    returns-2)

@@ -1,0 +1,66 @@
+-- `job::tail::times_named` meets its contract. The invariant: `n` is how often the words before `i` name the node, at most three times each.
+-- Assumes nothing.
+use borrow.Author.Needs.{needs}
+use mathlib.Core.Path.{_≡_}
+use Prim.Native.Nat.{_≤_, _*_, _-_}
+use native.Mathlib.Omega.{arith}
+use lib.ListN.{length}
+use Rattle.job.specs.Before.{before, named}
+use Rattle.job.proofs.Laws.{named-none, named-more}
+use Rattle.job.proofs.tail.times_named.Statement.{statement}
+use Rattle.job.proofs.tail.times_named.Tie as tie
+
+abbrev Inv-loop : tie.InvT-loop
+Inv-loop job v n₀ i₀ n i = (i ≤ length job) × (n ≤ 4 * i) × (n ≡ named v (before job i))
+
+abbrev μ-loop : tie.MeasureT-loop
+μ-loop job v n₀ i₀ n i = length job - i
+
+loop-holds : tie.Need-loop-holds Inv-loop μ-loop
+loop-holds c = omega (arith, named-none (c .before .args .job .now) (c .before .args .v))
+
+mul-names-of : tie.Need-mul-names-of Inv-loop μ-loop
+mul-names-of c = search needs
+
+shared-slice-read-names-of : tie.Need-shared-slice-read-names-of Inv-loop μ-loop
+shared-slice-read-names-of c = search needs
+
+names-of-requires : tie.Need-names-of-requires Inv-loop μ-loop
+names-of-requires c κs = search needs
+
+add-n : tie.Need-add-n Inv-loop μ-loop
+add-n c = omega arith
+
+add-i : tie.Need-add-i Inv-loop μ-loop
+add-i c = omega arith
+
+loop-less : tie.Need-loop-less Inv-loop μ-loop
+loop-less c = omega arith
+
+loop-again : tie.Need-loop-again Inv-loop μ-loop
+loop-again c =
+    omega (
+      arith,
+      named-more (c .before .before .before .before .before .args .job .now) (c .before .before .before .loop .i) (c .before .before .before .before .before .args .v),
+    )
+
+returns : tie.Need-returns Inv-loop μ-loop
+returns c =
+    let e : c .before .loop .i ≡ length (c .before .before .before .args .job .now) = omega arith in
+    rw (← e) (c .before .loop .inv .2)
+
+pub times-named-spec : {M : Type 1} → statement M
+times-named-spec =
+    tie.close
+    (tie.spec
+    Inv-loop
+    μ-loop
+    loop-holds
+    mul-names-of
+    shared-slice-read-names-of
+    names-of-requires
+    add-n
+    add-i
+    loop-less
+    loop-again
+    returns)

@@ -1,0 +1,61 @@
+-- What a well-formed job says, part by part: its head, actions, formulas and nodes. Words of a kind are numbered from 0 as they stand.
+use mathlib.Core.Bool.{Bool}
+use mathlib.Core.List.{List, map}
+use Prim.Native.Nat.{ℕ}
+use lib.Dec.{eqb}
+use lib.ListN.{getD, length, drop}
+use Rattle.words.specs.Fields.{kind, fluentsOf, actionsOf, lastOf, durationOf, memberNode}
+use Rattle.words.specs.Scan.{leading, beyond, fromNumber}
+use Rattle.job.specs.Before.{before, count}
+
+abbrev pub headWord : List ℕ → ℕ
+headWord job = getD job 0 0
+
+abbrev pub fluents : List ℕ → ℕ
+fluents job = fluentsOf (headWord job)
+
+abbrev pub actions : List ℕ → ℕ
+actions job = actionsOf (headWord job)
+
+abbrev pub lastMoment : List ℕ → ℕ
+lastMoment job = lastOf (headWord job)
+
+abbrev pub ofKind : ℕ → ℕ → Bool
+ofKind k w = eqb (kind w) k
+
+-- how many words of kind k there are; the job's words from number j of them on; that word
+abbrev pub total : ℕ → List ℕ → ℕ
+total k job = count k (before job (length job))
+
+abbrev pub wordsFrom : ℕ → List ℕ → ℕ → List ℕ
+wordsFrom k job j = fromNumber (ofKind k) j job
+
+abbrev pub wordAt : ℕ → List ℕ → ℕ → ℕ
+wordAt k job j = getD (wordsFrom k job j) 0 0
+
+-- action a: its duration, and its laws, the words of kind 4 after its own
+unfoldable pub duration : List ℕ → ℕ → ℕ
+duration job a = durationOf (wordAt 3 job a)
+
+unfoldable pub lawsOf : List ℕ → ℕ → List ℕ
+lawsOf job a = leading (ofKind 4) (drop 1 (wordsFrom 3 job a))
+
+-- how many formulas there are, and the word of formula k
+abbrev pub formulaCount : List ℕ → ℕ
+formulaCount job = total 5 job
+
+unfoldable pub formulaWord : List ℕ → ℕ → ℕ
+formulaWord job k = wordAt 5 job k
+
+-- how many nodes there are, and the word of node p; of a task set the nodes of its members, and its condition words
+abbrev pub nodeCount : List ℕ → ℕ
+nodeCount job = total 6 job
+
+unfoldable pub nodeWord : List ℕ → ℕ → ℕ
+nodeWord job p = wordAt 6 job p
+
+unfoldable pub memberWords : List ℕ → ℕ → List ℕ
+memberWords job p = leading (ofKind 7) (drop 1 (wordsFrom 6 job p))
+
+unfoldable pub conditionWords : List ℕ → ℕ → List ℕ
+conditionWords job p = leading (ofKind 8) (beyond (ofKind 7) (drop 1 (wordsFrom 6 job p)))

@@ -1,0 +1,59 @@
+-- The refusal of a job, by number and position: rows 1 to 5.
+use mathlib.Core.Bool.{Bool, not}
+use mathlib.Core.List.{List, [], _∷_}
+use Prim.Native.Nat.{ℕ, _-_}
+use lib.Dec.{eqb}
+use lib.ListN.{getD, length}
+use Rattle.words.specs.Tests.{pick, both, within}
+use Rattle.words.specs.Fields.{kind, form, actionsOf}
+use Rattle.words.specs.Scan.{any}
+use Rattle.job.specs.Rules.{headRefusal, knownRefusal, actionRefusal, lawRefusal, sameFluent, formulaShape, formulaRange, formulaRefusal, nodeShape, nodeRange, nodeRefusal, memberRefusal, conditionShape, conditionRange, conditionRefusal}
+use Rattle.job.specs.Before.{before, last, count, since, latest, named}
+use Rattle.answers.specs.declared.Refusal.{Refusal}
+use Rattle.answers.specs.Rows.{row, orElse, firstOf}
+
+-- the number that a table has at a key; 2, a kind that is not allowed, where it has none
+abbrev pub lookup : ℕ → List (ℕ × ℕ) → ℕ
+lookup k [] = 2
+lookup k (e ∷ rest) = pick (eqb k (e .0)) (e .1) (lookup k rest)
+
+-- the refusal of word w after the words p of a job with that head, by each kind that it may be of; 0 for none
+abbrev pub rules : ℕ → List ℕ → ℕ → List (ℕ × ℕ)
+rules head p w =
+    (1, headRefusal (length p) w)
+    ∷ (2, knownRefusal head (last p) (any (sameFluent head w) (since 1 p)) w)
+    ∷ (3, actionRefusal (last p) (count 3 p) w)
+    ∷ (4, lawRefusal head (last p) (any (sameFluent head w) (since 3 p)) w)
+    ∷ (5, formulaRefusal (last p) (count 5 p) (formulaShape head w) (formulaRange head (count 5 p) w))
+    ∷ (6, nodeRefusal (last p) (count 6 p) (nodeShape w) (nodeRange (count 3 p) (count 5 p) (count 6 p) w))
+    ∷ (7, memberRefusal (last p) (count 6 p) (count 7 (since 6 p)) w)
+    ∷ (8, conditionRefusal (last p) (count 8 (since 6 p)) (conditionShape w) (conditionRange (count 5 p) (count 7 (since 6 p)) w))
+    ∷ []
+
+unfoldable pub wordRefusal : ℕ → List ℕ → ℕ → ℕ
+wordRefusal head p w = lookup (kind w) (rules head p w)
+
+-- the refusal of the word at position i
+unfoldable pub refusalOf : List ℕ → ℕ → ℕ
+refusalOf job i = wordRefusal (getD job 0 0) (before job i) (getD job i 0)
+
+-- the last node is a set without members
+abbrev pub emptySet : List ℕ → Bool
+emptySet p = both (eqb (form (latest 6 p)) 8) (eqb (count 7 (since 6 p)) 0)
+
+-- a node that is not named exactly once
+unfoldable pub nameRefusal : List ℕ → ℕ → ℕ
+nameRefusal p v = pick (eqb (named v p) 1) 0 5
+
+-- the rows of the job end: p has all words, and the root is its last node
+unfoldable pub endRefusal : ℕ → ℕ → List ℕ → Refusal
+endRefusal head len p =
+    orElse (row (not (eqb (count 3 p) (actionsOf head))) 3 len)
+    (orElse (row (eqb (count 6 p) 0) 5 0)
+    (orElse (row (emptySet p) 5 (count 6 p - 1))
+    (firstOf (nameRefusal p) (count 6 p - 1))))
+
+unfoldable pub jobRefusal : List ℕ → Refusal
+jobRefusal job =
+    orElse (row (not (within 1 2048 (length job))) 1 0)
+    (orElse (firstOf (refusalOf job) (length job)) (endRefusal (getD job 0 0) (length job) (before job (length job))))

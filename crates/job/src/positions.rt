@@ -1,0 +1,41 @@
+// Where the words of a kind stand.
+ghost use mathlib.Core.Path.{_≡_};
+ghost use Prim.Native.Nat.{_≤_};
+ghost use lib.ListN.{length};
+ghost use Rattle.job.specs.Before.{before, count};
+ghost use Rattle.job.specs.Index.{placesUpto, indexUpto};
+use crate::Index;
+use crate::Places;
+
+// The positions of the words of kind `k` among the first `n`.
+fn place_words(job: &[u32], k: u32, n: usize) -> Places
+    requires { ⌜ (n ≤ length (now job)) × (count k (before (now job) n) ≤ 64) ⌝ }
+    ensures { λ r. ⌜ r ≡ placesUpto k (now (job .entry)) n ⌝ }
+{
+    let mut position = [0usize; 64];
+    let mut total: usize = 0;
+    let mut i = 0;
+    while i < n {
+        if job[i] / 268435456 % 16 == k {
+            position[total] = i;
+            total += 1;
+        }
+        i += 1;
+    }
+    Places { total, position }
+}
+
+// The index of the first `n` words.
+pub fn index_words(job: &[u32], n: usize) -> Index
+    requires { ⌜ (n ≤ length (now job)) × (count 3 (before (now job) n) ≤ 64) × (count 5 (before (now job) n) ≤ 64) × (count 6 (before (now job) n) ≤ 64) ⌝ }
+    ensures { λ r. ⌜ r ≡ indexUpto (now (job .entry)) n ⌝ }
+{
+    let actions = place_words(job, 3, n);
+    let formulas = place_words(job, 5, n);
+    let nodes = place_words(job, 6, n);
+    Index {
+        actions,
+        formulas,
+        nodes,
+    }
+}

@@ -1,0 +1,65 @@
+// The rows of the job end.
+ghost use mathlib.Core.Path.{_≡_};
+ghost use Prim.Native.Nat.{_-_, _<_};
+ghost use lib.ListN.{length, getD};
+ghost use Rattle.answers.specs.Rows.{firstOf};
+ghost use Rattle.job.specs.Before.{before, named};
+ghost use Rattle.job.specs.Refusal.{nameRefusal, endRefusal};
+ghost use Rattle.job.specs.State.{Tied};
+use crate::State;
+use crate::rules;
+use answers::Refusal;
+use answers::or_else;
+use answers::row_of;
+
+fn less_one(n: usize) -> usize
+    ensures { λ r. ⌜ r ≡ n - 1 ⌝ }
+{
+    if n == 0 { 0 } else { n - 1 }
+}
+
+// How often node `v` is named as a child.
+fn times_named(job: &[u32], v: usize) -> usize
+    ensures { λ r. ⌜ r ≡ named v (before (now (job .entry)) (length (now (job .entry)))) ⌝ }
+{
+    let mut n: usize = 0;
+    let mut i = 0;
+    while i < job.len() {
+        n += rules::names_of(v, job[i]);
+        i += 1;
+    }
+    n
+}
+
+// The lowest node below `root` that is not named exactly once.
+fn name_refusal(job: &[u32], root: usize) -> Refusal
+    ensures { λ r. ⌜ r ≡ firstOf (nameRefusal (before (now (job .entry)) (length (now (job .entry))))) root ⌝ }
+{
+    let mut v = 0;
+    while v < root {
+        if times_named(job, v) != 1 {
+            return Refusal {
+                number: 5,
+                position: v,
+            };
+        }
+        v += 1;
+    }
+    Refusal {
+        number: 0,
+        position: 0,
+    }
+}
+
+pub fn end_refusal(job: &[u32], s: State) -> Refusal
+    requires { ⌜ (0 < length (now job)) × Tied (before (now job) (length (now job))) s ⌝ }
+    ensures { λ r. ⌜ r ≡ endRefusal (getD (now (job .entry)) 0 0) (length (now (job .entry))) (before (now (job .entry)) (length (now (job .entry)))) ⌝ }
+{
+    let declared = words::actions_of(job[0]);
+    let root = less_one(s.nodes);
+    let count = row_of(!(s.actions == declared), 3, job.len());
+    let none = row_of(s.nodes == 0, 5, 0);
+    let empty = row_of((s.node / 16777216 % 16 == 8) & (s.members == 0), 5, root);
+    let names = name_refusal(job, root);
+    or_else(count, or_else(none, or_else(empty, names)))
+}
