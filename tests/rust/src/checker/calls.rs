@@ -1,0 +1,96 @@
+//! Document 01, "Where each check is made": the rows of each call, from the top.
+
+use crate::checker::answer::{refuse, Answer, Refusal};
+use crate::checker::facts::{fact_words, row_10, row_11, states, State};
+use crate::checker::job::{read_job, Job};
+use crate::checker::readings::decision::{decide_within, Decision};
+use crate::checker::readings::world::World;
+use crate::checker::starts::{read_starts, Start};
+
+/// "shorter than 4,096 words"
+pub const LEAST_BUFFER: usize = 4096;
+
+/// A well-formed job with starts that rows 6 to 10 let pass, and what the rules make of them.
+pub struct Plan {
+    pub job: Job,
+    pub starts: Vec<Start>,
+    pub states: Vec<State>,
+    pub facts: Vec<u32>,
+}
+
+/// Rows 1 to 10.
+pub fn read_plan(job: &[u32], starts: &[u32]) -> Result<Plan, Refusal> {
+    let job = read_job(job)?;
+    let starts = read_starts(&job, starts)?;
+    let states = states(&job, &starts);
+    row_10(&job, &starts, &states)?;
+    let facts = fact_words(&states);
+    Ok(Plan { job, starts, states, facts })
+}
+
+/// Rows 1 to 11.
+pub fn read_whole_plan(job: &[u32], starts: &[u32], facts: &[u32]) -> Result<Plan, Refusal> {
+    let plan = read_plan(job, starts)?;
+    row_11(&plan.facts, facts)?;
+    Ok(plan)
+}
+
+fn lent_buffer(length: usize) -> Result<(), Refusal> {
+    match length < LEAST_BUFFER {
+        true => refuse(12, 0),
+        false => Ok(()),
+    }
+}
+
+/// "Check has no lent buffer and runs numbers 1 to 11"; "check gives length 0", count 0.
+pub fn check(job: &[u32], starts: &[u32], facts: &[u32]) -> Answer {
+    match read_whole_plan(job, starts, facts) {
+        Ok(_) => Answer::success(0, 0),
+        Err(refusal) => Answer::refused(refusal),
+    }
+}
+
+/// "fill runs all but numbers 11 and 13"; its answer, and the words that it writes.
+pub fn fill(job: &[u32], starts: &[u32], buffer: usize) -> (Answer, Vec<u32>) {
+    match lent_buffer(buffer).and_then(|()| read_plan(job, starts)) {
+        Ok(plan) => (Answer::success(plan.facts.len(), 0), plan.facts),
+        Err(refusal) => (Answer::refused(refusal), vec![]),
+    }
+}
+
+/// What find must do.
+pub enum Outcome {
+    /// A refusal by a row before 13.
+    Refused(Refusal),
+    /// 13 with the count of the triples that have a reading.
+    NoReading { world: World, decision: Decision },
+    /// Any reading of the root from 0 to n, with that count.
+    Read { world: World, decision: Decision },
+}
+
+/// "find runs all": 12, then 1 to 11, then 13.
+pub fn find(job: &[u32], starts: &[u32], facts: &[u32], buffer: usize) -> Outcome {
+    find_within(job, starts, facts, buffer, usize::MAX).expect("no bound on the placements")
+}
+
+/// The same, unless a task set has more placements than may be tried.
+pub fn find_within(job: &[u32], starts: &[u32], facts: &[u32], buffer: usize, most: usize) -> Option<Outcome> {
+    match lent_buffer(buffer).and_then(|()| read_whole_plan(job, starts, facts)) {
+        Ok(plan) => find_reading(World::new(plan), most),
+        Err(refusal) => Some(Outcome::Refused(refusal)),
+    }
+}
+
+/// 13: "no reading of the root 0 to n".
+fn find_reading(world: World, most: usize) -> Option<Outcome> {
+    let decision = decide_within(&world, most)?;
+    Some(match decision.has(world.root(), 0, world.last()) {
+        true => Outcome::Read { world, decision },
+        false => Outcome::NoReading { world, decision },
+    })
+}
+
+/// "A refusal gives length 0 and count 0, but 13 gives the true count"
+pub fn no_reading(decision: &Decision) -> Answer {
+    Answer { number: 13, position: 0, length: 0, count: decision.count() }
+}

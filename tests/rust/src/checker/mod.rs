@@ -1,0 +1,10 @@
+//! The checker written apart: document 01's headings, one file each, in the plainest Rust.
+
+pub mod answer;
+pub mod calls;
+pub mod facts;
+pub mod formulas;
+pub mod job;
+pub mod program;
+pub mod readings;
+pub mod starts;

@@ -1,0 +1,46 @@
+//! What readings are read from: the program, the starts, and the formulas' values at each moment.
+
+use crate::checker::calls::Plan;
+use crate::checker::formulas::{values, Value};
+use crate::checker::job::{Job, Node};
+use crate::checker::starts::Start;
+
+pub struct World {
+    pub job: Job,
+    pub starts: Vec<Start>,
+    /// By moment, then by formula.
+    values: Vec<Vec<Value>>,
+}
+
+impl World {
+    pub fn new(plan: Plan) -> World {
+        let values = plan.states.iter().map(|state| values(&plan.job, state)).collect();
+        World { job: plan.job, starts: plan.starts, values }
+    }
+
+    /// n
+    pub fn last(&self) -> usize {
+        self.job.last
+    }
+
+    pub fn node(&self, number: usize) -> &Node {
+        &self.job.nodes[number]
+    }
+
+    /// "The last node is the root."
+    pub fn root(&self) -> usize {
+        self.job.nodes.len() - 1
+    }
+
+    pub fn value(&self, formula: usize, moment: usize) -> Value {
+        self.values[moment][formula]
+    }
+
+    pub fn holds(&self, formula: usize, moment: usize) -> bool {
+        self.value(formula, moment) == Value::Holds
+    }
+
+    pub fn fails(&self, formula: usize, moment: usize) -> bool {
+        self.value(formula, moment) == Value::Fails
+    }
+}

@@ -1,0 +1,96 @@
+//! Document 01, "Starts and known facts": start words, and rows 6 to 9. Each row is a pass over all words.
+
+use crate::checker::answer::{refuse, Refusal};
+use crate::checker::job::{Action, Job};
+use crate::words::{bits, field, kind};
+
+/// "the start is in hand at u ≤ t < u + d, hides at u < t < u + d, and finishes at u + d."
+#[derive(Clone, Copy, Debug, PartialEq, Eq)]
+pub struct Start {
+    pub moment: usize,
+    pub action: usize,
+    pub duration: usize,
+}
+
+impl Start {
+    pub fn in_hand(&self, t: usize) -> bool {
+        self.moment <= t && t < self.moment + self.duration
+    }
+
+    pub fn hides(&self, t: usize) -> bool {
+        self.moment < t && t < self.moment + self.duration
+    }
+
+    pub fn finishes(&self, t: usize) -> bool {
+        t == self.moment + self.duration
+    }
+}
+
+/// Rows 6 to 9 over all start words.
+pub fn read_starts(job: &Job, words: &[u32]) -> Result<Vec<Start>, Refusal> {
+    row_6(job, words)?;
+    let starts: Vec<Start> = words.iter().map(|&word| start_of(job, word)).collect();
+    row_7(job, &starts)?;
+    row_8(&starts)?;
+    row_9(job, &starts)?;
+    Ok(starts)
+}
+
+fn start_of(job: &Job, word: u32) -> Start {
+    let action = field(word, 5, 0);
+    Start { moment: field(word, 11, 6), action, duration: job.actions[action].duration }
+}
+
+/// "kind or spare bit wrong, u > n, no such action, or not above the word before"
+fn row_6(job: &Job, words: &[u32]) -> Result<(), Refusal> {
+    for (position, &word) in words.iter().enumerate() {
+        let spare = word & !(bits(31, 28) | bits(11, 6) | bits(5, 0));
+        let not_above = position > 0 && word <= words[position - 1];
+        let late = field(word, 11, 6) > job.last;
+        let no_action = field(word, 5, 0) >= job.actions.len();
+        if kind(word) != 9 || spare != 0 || late || no_action || not_above {
+            return refuse(6, position);
+        }
+    }
+    Ok(())
+}
+
+/// "u + d > n"
+fn row_7(job: &Job, starts: &[Start]) -> Result<(), Refusal> {
+    match starts.iter().position(|start| start.moment + start.duration > job.last) {
+        Some(position) => refuse(7, position),
+        None => Ok(()),
+    }
+}
+
+/// "an earlier start of it at v with v < u < v + d"
+fn row_8(starts: &[Start]) -> Result<(), Refusal> {
+    for (position, start) in starts.iter().enumerate() {
+        let again = |earlier: &Start| {
+            earlier.action == start.action
+                && earlier.moment < start.moment
+                && start.moment < earlier.moment + earlier.duration
+        };
+        if starts[..position].iter().any(again) {
+            return refuse(8, position);
+        }
+    }
+    Ok(())
+}
+
+/// "clashes with the start of an earlier word, both in hand at some moment"
+fn row_9(job: &Job, starts: &[Start]) -> Result<(), Refusal> {
+    for (position, start) in starts.iter().enumerate() {
+        let clashes = |earlier: &Start| clash(&job.actions[start.action], &job.actions[earlier.action]);
+        let both_in_hand = |earlier: &Start| (0..=job.last).any(|t| start.in_hand(t) && earlier.in_hand(t));
+        if starts[..position].iter().any(|earlier| clashes(earlier) && both_in_hand(earlier)) {
+            return refuse(9, position);
+        }
+    }
+    Ok(())
+}
+
+/// "Two actions clash if one makes true what the other makes false."
+pub fn clash(one: &Action, other: &Action) -> bool {
+    one.makes.iter().any(|a| other.makes.iter().any(|b| a.fluent == b.fluent && a.value != b.value))
+}

@@ -1,0 +1,195 @@
+//! Find: the checker's outcome against another's answer and buffer, case by case.
+
+use crate::checker::answer::Answer;
+use crate::checker::calls::{self, Outcome};
+use crate::checker::readings::literal::{is_reading, Triple};
+use crate::checker::readings::world::World;
+use crate::compare::find_features;
+use crate::compare::report::{shown, Report};
+use crate::generate::finds::{self, FindCase};
+use crate::generate::{damage, plan_damage};
+use crate::random::Random;
+
+pub type Find = dyn Fn(&[u32], &[u32], &[u32], &mut [u32]) -> Answer;
+
+/// Task sets with more placements than this are left out of a run.
+const MOST_PLACEMENTS: usize = 300_000;
+
+/// One run of so many cases.
+pub fn run(seed: u64, cases: usize, find: &Find) -> Report {
+    let mut random = Random::new(seed);
+    let mut report = Report::new();
+    while report.cases < cases {
+        let size = finds::any_size(&mut random);
+        let case = match random.below(20) {
+            0..=2 => finds::arbitrary(&mut random, size),
+            3..=7 => finds::readable(&mut random, size),
+            _ => {
+                let readable = finds::readable(&mut random, size);
+                finds::perturbed(&mut random, &readable)
+            }
+        };
+        find_case(&mut random, &case, find, &mut report);
+    }
+    report
+}
+
+/// The case as it is, or now and then with something that an earlier row refuses.
+fn find_case(random: &mut Random, case: &FindCase, find: &Find, report: &mut Report) {
+    let mut case = case.clone();
+    let mut facts = calls::fill(&case.job, &case.starts, calls::LEAST_BUFFER).1;
+    let mut length = *random.pick(&[4_096, 4_096, 4_097, 5_000]);
+    match random.below(40) {
+        0 => case.job = damage::any(random, &case.job),
+        1 => case.starts = plan_damage::changed(random, &case.starts),
+        2 => facts = plan_damage::changed(random, &facts),
+        3 => length = *random.pick(&[0, 1, 4_032, 4_095]),
+        _ => {}
+    }
+    let noise = random.words(length);
+    judge(&case, &facts, noise, find, report);
+}
+
+/// One call with the buffer full of noise.
+fn judge(case: &FindCase, facts: &[u32], noise: Vec<u32>, find: &Find, report: &mut Report) {
+    let FindCase { job, starts } = case;
+    let Some(outcome) = calls::find_within(job, starts, facts, noise.len(), MOST_PLACEMENTS) else {
+        return;
+    };
+    let mut buffer = noise.clone();
+    let given = find(job, starts, facts, &mut buffer);
+    let told = || {
+        format!(
+            "find with {} words, {}\n {}\n {}",
+            noise.len(),
+            shown("job", job),
+            shown("starts", starts),
+            shown("facts", facts)
+        )
+    };
+    match outcome {
+        Outcome::Refused(refusal) => {
+            report.tally.add("find", &refusal.number.to_string());
+            report.judge((Answer::refused(refusal), true), (given, buffer == noise), &told);
+        }
+        Outcome::NoReading { world, decision } => {
+            find_features::none(&mut report.tally, &world, &decision);
+            report.judge((calls::no_reading(&decision), true), (given, buffer == noise), &told);
+        }
+        Outcome::Read { world, decision } => {
+            let right = Answer::success(given.length, decision.count());
+            let lawful = lawful_buffer(&world, given.length, &buffer, &noise);
+            find_features::read(&mut report.tally, &world, &decision, &buffer[..given.length.min(buffer.len())]);
+            report.judge((right, Ok(())), (given, lawful), &told);
+        }
+    }
+}
+
+/// The first words are a reading of the root from 0 to n, and the others are as they were.
+fn lawful_buffer(world: &World, length: usize, buffer: &[u32], noise: &[u32]) -> Result<(), &'static str> {
+    let root = Triple { node: world.root(), begin: 0, end: world.last() };
+    match length {
+        _ if length > buffer.len() => Err("longer than the buffer"),
+        _ if buffer[length..] != noise[length..] => Err("words beyond the reading are changed"),
+        _ if !is_reading(world, &buffer[..length], root) => Err("not a reading of the root from 0 to n"),
+        _ => Ok(()),
+    }
+}
+
+pub const COLUMNS: [&str; 14] = ["0", "1", "2", "3", "4", "5", "6", "7", "8", "9", "10", "11", "12", "13"];
+
+/// All outcomes that document 01 makes possible, and the situations that a run must have met.
+pub fn possible() -> Vec<(String, String)> {
+    let numbers = [0, 2, 3, 6, 7, 11, 12, 13];
+    let mut places: Vec<_> = numbers.iter().map(|number| ("find".to_string(), number.to_string())).collect();
+    let mut add = |names: &[&str], number: &str| {
+        names.iter().for_each(|name| places.push((name.to_string(), number.to_string())));
+    };
+    for names in [&find_features::NODES[..], &find_features::EDGES, &find_features::OPEN] {
+        add(names, "0");
+        add(names, "13");
+    }
+    add(&find_features::CONDITIONS, "0");
+    add(&find_features::READINGS, "0");
+    places
+}
+
+#[cfg(test)]
+pub mod tests {
+    use super::*;
+    use crate::checker::readings::build::readings;
+
+    const SEED: u64 = 31;
+
+    /// A finder by the checker's own rules.
+    pub fn right_find(job: &[u32], starts: &[u32], facts: &[u32], buffer: &mut [u32]) -> Answer {
+        match calls::find(job, starts, facts, buffer.len()) {
+            Outcome::Refused(refusal) => Answer::refused(refusal),
+            Outcome::NoReading { decision, .. } => calls::no_reading(&decision),
+            Outcome::Read { world, decision } => {
+                let root = Triple { node: world.root(), begin: 0, end: world.last() };
+                let list = readings(&world, &decision, root, 1).remove(0);
+                buffer[..list.len()].copy_from_slice(&list);
+                Answer::success(list.len(), decision.count())
+            }
+        }
+    }
+
+    fn seen(find: &Find) -> bool {
+        run(SEED, 400, find).differences > 0
+    }
+
+    #[test]
+    fn the_checker_agrees_with_itself_and_every_situation_occurs() {
+        let report = run(SEED, 5_000, &right_find);
+        report.print(SEED, "finds", &COLUMNS);
+        assert_eq!(report.differences, 0);
+        assert_eq!(report.tally.missing(&possible()), []);
+    }
+
+    #[test]
+    fn a_finder_that_finds_nothing_is_seen() {
+        assert!(seen(&|job, starts, facts, buffer| {
+            let right = right_find(job, starts, facts, &mut buffer.to_vec());
+            match right.number {
+                0 => Answer { number: 13, position: 0, length: 0, count: right.count },
+                _ => right,
+            }
+        }));
+    }
+
+    #[test]
+    fn a_finder_that_writes_nothing_is_seen() {
+        assert!(seen(&|job, starts, facts, buffer| right_find(job, starts, facts, &mut buffer.to_vec())));
+    }
+
+    #[test]
+    fn an_invented_count_is_seen() {
+        assert!(seen(&|job, starts, facts, buffer| {
+            let right = right_find(job, starts, facts, buffer);
+            Answer { count: right.count + usize::from(right.number == 13), ..right }
+        }));
+    }
+
+    #[test]
+    fn a_reading_with_one_moment_changed_is_seen() {
+        assert!(seen(&|job, starts, facts, buffer| {
+            let right = right_find(job, starts, facts, buffer);
+            if right.number == 0 {
+                buffer[right.length - 1] ^= 1;
+            }
+            right
+        }));
+    }
+
+    #[test]
+    fn a_word_behind_the_reading_is_seen() {
+        assert!(seen(&|job, starts, facts, buffer| {
+            let right = right_find(job, starts, facts, buffer);
+            if right.number == 0 {
+                buffer[right.length] = 0;
+            }
+            right
+        }));
+    }
+}

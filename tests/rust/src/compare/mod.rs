@@ -1,0 +1,9 @@
+//! Runs of generated cases through the checker and through another answerer, with counts and differences.
+
+pub mod find;
+pub mod find_features;
+pub mod find_tiny;
+pub mod job;
+pub mod plan;
+pub mod plan_features;
+pub mod report;

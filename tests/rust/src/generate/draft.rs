@@ -1,0 +1,27 @@
+//! A job in the making: its sections, each a list of words that is put together at the end.
+
+use crate::words;
+
+#[derive(Clone, Debug, Default)]
+pub struct Draft {
+    pub fluents: usize,
+    pub last: usize,
+    pub initially: Vec<u32>,
+    /// Each action word with its laws.
+    pub actions: Vec<Vec<u32>>,
+    pub formulas: Vec<u32>,
+    /// Each node word with its members and conditions.
+    pub nodes: Vec<Vec<u32>>,
+}
+
+impl Draft {
+    /// The job's words; the head gives the number of actions that are there.
+    pub fn words(&self) -> Vec<u32> {
+        let mut job = vec![words::head(self.fluents, self.actions.len(), self.last)];
+        job.extend(&self.initially);
+        job.extend(self.actions.concat());
+        job.extend(&self.formulas);
+        job.extend(self.nodes.concat());
+        job
+    }
+}

@@ -1,0 +1,114 @@
+//! Cases for find: well-formed jobs with lawful starts, with a reading by construction, perturbed, or of any nodes.
+
+use crate::checker::calls::read_plan;
+use crate::generate::draft::Draft;
+use crate::generate::{damage, jobs, plan_damage, plans, programs};
+use crate::random::Random;
+use crate::words::{self, kind};
+
+#[derive(Clone, Debug, PartialEq)]
+pub struct FindCase {
+    pub job: Vec<u32>,
+    pub starts: Vec<u32>,
+}
+
+/// How large a case may be.
+#[derive(Clone, Copy)]
+pub struct Size {
+    pub last: usize,
+    pub nodes: usize,
+}
+
+pub fn any_size(random: &mut Random) -> Size {
+    let last = *random.pick(&[0, 1, 2, 3, 4, 5, 6, 7, 8, 9, 10, 12, 14, 20, 63]);
+    let nodes = *random.pick(&[3, 7, 10, 10, 15, 15, 20, 30, 64]);
+    Size { last, nodes }
+}
+
+/// A case whose root reads from 0 to n.
+pub fn readable(random: &mut Random, size: Size) -> FindCase {
+    let (mut draft, starts) = plan_with_formulas(random, size.last);
+    programs::add_readable(random, &mut draft, &starts, size.nodes);
+    FindCase { job: draft.words(), starts }
+}
+
+/// A case with nodes that know nothing of the plan.
+pub fn arbitrary(random: &mut Random, size: Size) -> FindCase {
+    let (mut draft, starts) = plan_with_formulas(random, size.last);
+    draft.nodes.clear();
+    jobs::add_nodes(random, &mut draft, size.nodes);
+    FindCase { job: draft.words(), starts }
+}
+
+/// The case with some fields or starts changed, still well formed and lawful.
+pub fn perturbed(random: &mut Random, case: &FindCase) -> FindCase {
+    let mut case = case.clone();
+    for _ in 0..random.between(1, 4) {
+        case = perturbed_once(random, &case);
+    }
+    case
+}
+
+fn perturbed_once(random: &mut Random, case: &FindCase) -> FindCase {
+    let program: Vec<usize> = (0..case.job.len()).filter(|&index| kind(case.job[index]) >= 5).collect();
+    for _ in 0..20 {
+        let mut other = case.clone();
+        let word = *random.pick(&program);
+        match random.below(8) {
+            0 => other.starts = plan_damage::changed_order_kept(random, &case.starts),
+            1 => other.job = damage::one_field(random, &case.job),
+            2 => other.job = damage::kind_or_form(random, &case.job),
+            _ => other.job = damage::one_field_of(random, &case.job, word),
+        }
+        if other != *case && read_plan(&other.job, &other.starts).is_ok() {
+            return other;
+        }
+    }
+    case.clone()
+}
+
+/// A plan of that last moment whose job has formulas; formula 0 always holds.
+fn plan_with_formulas(random: &mut Random, last: usize) -> (Draft, Vec<u32>) {
+    let mut draft = plans::plan_job_until(random, last);
+    let flags = random.below(3);
+    let first_stop = draft.actions.len();
+    for _ in 0..flags {
+        add_flag(&mut draft);
+    }
+    draft.formulas = vec![words::formula(0, 0, 0)];
+    for number in 1..random.between(2, 10) {
+        let form = *random.pick(&[1, 1, 2, 3, 4]);
+        draft.formulas.push(jobs::formula_word(random, draft.fluents, number, form));
+    }
+    draft.nodes = vec![vec![words::node(0, 0, 0, 0, 0)]];
+    let mut starts = plans::lawful_starts(random, &draft);
+    for stop in first_stop..draft.actions.len() {
+        starts = with_stop(random, &draft, starts, stop);
+    }
+    (draft, starts)
+}
+
+/// A fluent known true, and an action of one moment that makes it false: a loop's formula until then.
+fn add_flag(draft: &mut Draft) {
+    if draft.fluents < 64 && draft.actions.len() < 64 {
+        let flag = draft.fluents;
+        draft.fluents += 1;
+        draft.initially.push(words::initially(flag, true));
+        draft.actions.push(vec![words::action(draft.actions.len(), 1), words::law(3, flag)]);
+    }
+}
+
+/// The stop action once only, so that its flag changes at one moment, mostly the last.
+fn with_stop(random: &mut Random, draft: &Draft, starts: Vec<u32>, stop: usize) -> Vec<u32> {
+    if draft.last == 0 {
+        return starts;
+    }
+    let moment = if random.chance(60) { draft.last - 1 } else { random.below(draft.last) };
+    let mut others: Vec<u32> = starts.iter().copied().filter(|word| *word as usize & 63 != stop).collect();
+    others.push(words::start(moment, stop));
+    others.sort();
+    match read_plan(&draft.words(), &others) {
+        Ok(_) => others,
+        Err(_) => starts,
+    }
+}

@@ -1,0 +1,12 @@
+//! Generators of jobs and plans. They know how words are built, and nothing of what the product answers.
+
+pub mod damage;
+pub mod draft;
+pub mod finds;
+pub mod job_cases;
+pub mod jobs;
+pub mod limits;
+pub mod noise;
+pub mod plan_damage;
+pub mod plans;
+pub mod programs;

@@ -1,0 +1,95 @@
+//! The calls of the proved archive. Only this file knows their C form.
+
+use crate::checker::answer::Answer;
+
+#[cfg(not(feature = "plan"))]
+extern "C" {
+    fn job_answer(job: *const u32, len: usize) -> u64;
+}
+
+#[cfg(feature = "plan")]
+extern "C" {
+    #[link_name = "check"]
+    fn c_check(
+        job: *const u32,
+        job_len: usize,
+        starts: *const u32,
+        starts_len: usize,
+        facts: *const u32,
+        facts_len: usize,
+    ) -> u64;
+    #[link_name = "fill"]
+    fn c_fill(
+        job: *const u32,
+        job_len: usize,
+        starts: *const u32,
+        starts_len: usize,
+        buffer: *mut u32,
+        buffer_len: usize,
+    ) -> u64;
+}
+
+#[cfg(feature = "find")]
+extern "C" {
+    #[link_name = "find"]
+    fn c_find(
+        job: *const u32,
+        job_len: usize,
+        starts: *const u32,
+        starts_len: usize,
+        facts: *const u32,
+        facts_len: usize,
+        buffer: *mut u32,
+        buffer_len: usize,
+    ) -> u64;
+}
+
+/// The answer of the job rows alone: 1 to 5 with its position, or 0 for a well-formed job.
+#[cfg(not(feature = "plan"))]
+pub fn job_rows(job: &[u32]) -> Answer {
+    // SAFETY: the pointer and the length are those of one live slice, which is only read.
+    Answer::unpack(unsafe { job_answer(job.as_ptr(), job.len()) })
+}
+
+/// The same through check without starts and facts: a well-formed job gives 0, or a number of a later row.
+#[cfg(feature = "plan")]
+pub fn job_rows(job: &[u32]) -> Answer {
+    let answer = check(job, &[], &[]);
+    match answer.number {
+        6..=11 => Answer::success(0, 0),
+        _ => answer,
+    }
+}
+
+#[cfg(feature = "plan")]
+pub fn check(job: &[u32], starts: &[u32], facts: &[u32]) -> Answer {
+    // SAFETY: each pointer and length are those of one live slice, which is only read.
+    Answer::unpack(unsafe {
+        c_check(job.as_ptr(), job.len(), starts.as_ptr(), starts.len(), facts.as_ptr(), facts.len())
+    })
+}
+
+#[cfg(feature = "plan")]
+pub fn fill(job: &[u32], starts: &[u32], buffer: &mut [u32]) -> Answer {
+    // SAFETY: each pointer and length are those of one live slice; the buffer is lent for writing.
+    Answer::unpack(unsafe {
+        c_fill(job.as_ptr(), job.len(), starts.as_ptr(), starts.len(), buffer.as_mut_ptr(), buffer.len())
+    })
+}
+
+#[cfg(feature = "find")]
+pub fn find(job: &[u32], starts: &[u32], facts: &[u32], buffer: &mut [u32]) -> Answer {
+    // SAFETY: each pointer and length are those of one live slice; the buffer is lent for writing.
+    Answer::unpack(unsafe {
+        c_find(
+            job.as_ptr(),
+            job.len(),
+            starts.as_ptr(),
+            starts.len(),
+            facts.as_ptr(),
+            facts.len(),
+            buffer.as_mut_ptr(),
+            buffer.len(),
+        )
+    })
+}

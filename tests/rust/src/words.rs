@@ -1,0 +1,92 @@
+//! The words of document 01: fields by bit range, and one maker for each kind.
+
+/// The bits high..low of a word.
+pub fn field(word: u32, high: u32, low: u32) -> usize {
+    ((word & bits(high, low)) >> low) as usize
+}
+
+/// A mask with the bits high..low set.
+pub fn bits(high: u32, low: u32) -> u32 {
+    (u32::MAX >> (31 - high)) & (u32::MAX << low)
+}
+
+/// "bits 31..28 are its kind"
+pub fn kind(word: u32) -> usize {
+    field(word, 31, 28)
+}
+
+/// "27..24 form", in kinds 5, 6 and 8.
+pub fn form(word: u32) -> usize {
+    field(word, 27, 24)
+}
+
+fn made(kind: u32, fields: &[(usize, u32)]) -> u32 {
+    fields.iter().fold(kind << 28, |word, &(value, low)| word | (value as u32) << low)
+}
+
+pub fn head(fluents: usize, actions: usize, last: usize) -> u32 {
+    made(1, &[(fluents, 16), (actions, 8), (last, 0)])
+}
+
+pub fn initially(fluent: usize, value: bool) -> u32 {
+    made(2, &[(usize::from(!value), 6), (fluent, 0)])
+}
+
+pub fn action(number: usize, duration: usize) -> u32 {
+    made(3, &[(number, 6), (duration, 0)])
+}
+
+pub fn law(role: usize, fluent: usize) -> u32 {
+    made(4, &[(role, 6), (fluent, 0)])
+}
+
+pub fn formula(form: usize, x: usize, y: usize) -> u32 {
+    made(5, &[(form, 24), (x, 6), (y, 0)])
+}
+
+pub fn node(form: usize, x: usize, y: usize, m: usize, n: usize) -> u32 {
+    made(6, &[(form, 24), (x, 18), (y, 12), (m, 6), (n, 0)])
+}
+
+pub fn member(node: usize) -> u32 {
+    made(7, &[(node, 0)])
+}
+
+pub fn condition(form: usize, formula: usize, i: usize, j: usize, m: usize, n: usize) -> u32 {
+    made(8, &[(form, 24), (formula, 18), (i, 15), (j, 12), (m, 6), (n, 0)])
+}
+
+pub fn start(moment: usize, action: usize) -> u32 {
+    made(9, &[(moment, 6), (action, 0)])
+}
+
+pub fn fact(moment: usize, fluent: usize, value: bool) -> u32 {
+    made(10, &[(moment, 7), (fluent, 1), (usize::from(!value), 0)])
+}
+
+pub fn reading(node: usize, begin: usize, end: usize) -> u32 {
+    made(11, &[(node, 12), (begin, 6), (end, 0)])
+}
+
+#[cfg(test)]
+mod tests {
+    use super::*;
+
+    #[test]
+    fn the_words_of_the_paper() {
+        let job = [head(1, 1, 1), initially(0, false), action(0, 1), law(2, 0), node(0, 0, 0, 0, 0)];
+        assert_eq!(job, [0x10010101, 0x20000040, 0x30000001, 0x40000080, 0x60000000]);
+        let plan = [start(0, 0), fact(0, 0, false), fact(1, 0, true)];
+        assert_eq!(plan, [0x90000000, 0xa0000001, 0xa0000080]);
+        assert_eq!(reading(0, 0, 1), 0xb0000001);
+    }
+
+    #[test]
+    fn fields_are_bit_ranges() {
+        assert_eq!(bits(11, 6), 0x0fc0);
+        assert_eq!(bits(31, 28), 0xf0000000);
+        assert_eq!(bits(0, 0), 1);
+        assert_eq!(field(0x6abc_def0, 27, 24), 0xa);
+        assert_eq!(kind(0xf000_0000), 15);
+    }
+}
