@@ -117,7 +117,7 @@ is-word k job (suc i) l j h = cases (same-or-not (kind (getD job i 0)) k) (is-wo
         (record { inside = omega arith; of-kind = y; numbered = sym (positions-count k job i) ∙ last }))
 
 -- a count of the words before, with the first word apart
-count-cons : (k w : ℕ) (ws : List ℕ) (i : ℕ) → count k (before (w ∷ ws) (suc i)) ≡ one (eqb (kind w) k) + count k (before ws i)
+pub count-cons : (k w : ℕ) (ws : List ℕ) (i : ℕ) → count k (before (w ∷ ws) (suc i)) ≡ one (eqb (kind w) k) + count k (before ws i)
 unfolding count before
 count-cons k w ws zero = omega arith
 count-cons k w ws (suc i) = omega (arith, count-cons k w ws i)

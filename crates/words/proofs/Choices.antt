@@ -1,10 +1,11 @@
 -- What tests put together say. Assumes nothing.
-use mathlib.Core.Bool.{Bool, true, false, not}
+use mathlib.Core.Bool.{Bool, true, false, not, _||_}
+use mathlib.Core.Logic.{_⊎_, inl, inr}
 use mathlib.Core.Path.{_≡_, refl, ap, sym}
 use Prim.Native.Nat.{ℕ, _≤_}
 use native.Mathlib.Omega.{arith}
-use borrow.Author.Tests.{leb-true, le-leb}
-use lib.Dec.{leb}
+use borrow.Author.Tests.{leb-true, le-leb, eqb-true, eqb-false, ne-eqb}
+use lib.Dec.{eqb, leb}
 use Rattle.words.specs.Tests.{pick, both, either, implies, one, within}
 
 pub true-false : true ≡ false → ⊥
@@ -40,3 +41,23 @@ module _ (low high n : ℕ) where
 
   pub true-within : low ≤ n → n ≤ high → within low high n ≡ true
   true-within l h = rw (le-leb low n l, le-leb n high h)
+
+pub either-or : (a b : Bool) → (a || b) ≡ either b a
+either-or true true = refl
+either-or true false = refl
+either-or false true = refl
+either-or false false = refl
+
+pub same-or-not : (a b : ℕ) → (a ≡ b) ⊎ (a ≡ b → ⊥)
+same-or-not a b = cases (eqb a b) refl
+  where
+    cases : (t : Bool) → eqb a b ≡ t → (a ≡ b) ⊎ (a ≡ b → ⊥)
+    cases true e = inl (eqb-true a b e)
+    cases false e = inr (eqb-false a b e)
+
+pub eqb-swap : (a b : ℕ) → eqb a b ≡ eqb b a
+eqb-swap a b = cases (same-or-not a b)
+  where
+    cases : (a ≡ b) ⊎ (a ≡ b → ⊥) → eqb a b ≡ eqb b a
+    cases (inl e) = rw e
+    cases (inr n) = rw (ne-eqb a b n, ne-eqb b a (λ z. n (sym z)))

@@ -2,9 +2,11 @@
 -- Assumes nothing.
 use mathlib.Core.Bool.{Bool, true, false}
 use mathlib.Core.List.{List, [], _∷_}
+use mathlib.Core.Logic.{by-cases}
 use mathlib.Core.Path.{_≡_, refl}
 use Prim.Native.Nat.{ℕ, zero, suc, _+_, _<_, _≤_}
 use native.Mathlib.Numerals.{add-one}
+use native.Mathlib.Decide.{decLt}
 use native.Mathlib.Omega.{arith}
 use lib.ListN.{length, getD, drop, drop-of-length-le}
 use lib.Seq.{drop-cons}
@@ -120,3 +122,21 @@ module _ (test : ℕ → Bool) where
           → pick t (beyond test ws) (w ∷ ws) ≡ drop (length (pick t (w ∷ leading test ws) [])) (w ∷ ws)
       cases false ih = refl
       cases true ih = ih
+
+  -- how many lead, from a position on
+  module _ (ws : List ℕ) (i : ℕ) where
+    pub lead-hit : i < length ws → test (getD ws i 0) ≡ true → length (leading test (drop i ws)) ≡ 1 + length (leading test (drop (i + 1) ws))
+    unfolding leading
+    lead-hit h e = rw (drop-next ws i h, e) (omega arith)
+
+    pub lead-miss : i < length ws → test (getD ws i 0) ≡ false → length (leading test (drop i ws)) ≡ 0
+    unfolding leading
+    lead-miss h e = rw (drop-next ws i h, e)
+
+    pub lead-end : length ws ≤ i → length (leading test (drop i ws)) ≡ 0
+    unfolding leading
+    lead-end h = rw (drop-of-length-le ws h)
+
+  -- there are no more of them than words
+  pub leading-fits : (ws : List ℕ) → length (leading test ws) ≤ length ws
+  leading-fits ws = by-cases (decLt (length ws) (length (leading test ws))) (λ h. absurd (let z = leading-entry ws (length ws) h in omega (arith, z .2))) (λ h. omega arith)

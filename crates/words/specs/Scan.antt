@@ -29,3 +29,8 @@ unfoldable pub fromNumber : (ℕ → Bool) → ℕ → List ℕ → List ℕ
 fromNumber test j [] = []
 fromNumber test zero (w ∷ ws) = pick (test w) (w ∷ ws) (fromNumber test zero ws)
 fromNumber test (suc j) (w ∷ ws) = pick (test w) (fromNumber test j ws) (fromNumber test (suc j) ws)
+
+-- some number below n passes
+unfoldable pub someBelow : (ℕ → Bool) → ℕ → Bool
+someBelow test zero = false
+someBelow test (suc n) = either (someBelow test n) (test n)

@@ -2,7 +2,7 @@
 ghost use mathlib.Core.Path.{_≡_};
 ghost use Prim.Native.Nat.{_<_};
 ghost use Rattle.words.specs.Tests.{pick};
-ghost use Rattle.words.specs.Fields.{kind, form, fluentsOf, actionsOf, lastOf, fluentOf, knownSpare, lawSpare, knownValue, durationOf, roleOf, makes, madeValue, atomFluent, atomSpare, startMoment, startAction, factWord, readingWord};
+ghost use Rattle.words.specs.Fields.{kind, form, fluentsOf, actionsOf, lastOf, fluentOf, knownSpare, lawSpare, knownValue, durationOf, roleOf, makes, madeValue, formulaX, formulaY, atomFluent, atomSpare, nodeX, nodeY, nodeM, nodeN, memberNode, startMoment, startAction, factWord, readingWord};
 
 pub fn kind_of(w: u32) -> u32
     ensures { λ r. ⌜ (r ≡ kind w) × (r < 16) ⌝ }
@@ -102,6 +102,51 @@ pub fn atom_spare(head: u32, w: u32) -> bool
     ensures { λ r. ⌜ r ≡ atomSpare head w ⌝ }
 {
     (w / 4096 % 4096 == 0) & (w / 1 % 64 == 0)
+}
+
+// Formula of forms 2 to 4: X and Y.
+pub fn formula_x(w: u32) -> usize
+    ensures { λ r. ⌜ (r ≡ formulaX w) × (r < 64) ⌝ }
+{
+    (w / 64 % 64) as usize
+}
+
+pub fn formula_y(w: u32) -> usize
+    ensures { λ r. ⌜ (r ≡ formulaY w) × (r < 64) ⌝ }
+{
+    (w / 1 % 64) as usize
+}
+
+// Node: X, Y, M, N.
+pub fn node_x(w: u32) -> usize
+    ensures { λ r. ⌜ (r ≡ nodeX w) × (r < 64) ⌝ }
+{
+    (w / 262144 % 64) as usize
+}
+
+pub fn node_y(w: u32) -> usize
+    ensures { λ r. ⌜ (r ≡ nodeY w) × (r < 64) ⌝ }
+{
+    (w / 4096 % 64) as usize
+}
+
+pub fn node_m(w: u32) -> usize
+    ensures { λ r. ⌜ (r ≡ nodeM w) × (r < 64) ⌝ }
+{
+    (w / 64 % 64) as usize
+}
+
+pub fn node_n(w: u32) -> usize
+    ensures { λ r. ⌜ (r ≡ nodeN w) × (r < 64) ⌝ }
+{
+    (w / 1 % 64) as usize
+}
+
+// Member of a task set: its node.
+pub fn member_node(w: u32) -> usize
+    ensures { λ r. ⌜ (r ≡ memberNode w) × (r < 64) ⌝ }
+{
+    (w / 1 % 64) as usize
 }
 
 // Start: the moment, and the action.
