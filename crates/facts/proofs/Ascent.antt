@@ -1,0 +1,75 @@
+-- The list of facts ascends strictly. Assumes nothing.
+use mathlib.Core.Bool.{Bool, true, false}
+use mathlib.Core.List.{List, [], _∷_, _++_}
+use Prim.Native.Nat.{ℕ, zero, suc, _+_, _*_, _^_, _≤_, _<_}
+use native.Mathlib.Nat.{le-refl, le-trans}
+use native.Mathlib.Omega.{arith}
+use lib.Dec.{eqb}
+use lib.ListN.{length, getD}
+use Rattle.words.specs.Tests.{pick}
+use Rattle.words.specs.Fields.{unknown, holds}
+use Rattle.job.specs.Parts.{headWord, fluents, lastMoment}
+use Rattle.job.specs.WellFormed.{WellFormed}
+use Rattle.facts.specs.Values.{valueAt}
+use Rattle.facts.specs.Facts.{gather, factOf, factsAt, factsOf}
+use Rattle.facts.proofs.Values.{pick-most}
+
+-- the words ascend strictly, and lie from low to below high
+data Climbs : ℕ → List ℕ → ℕ → Type 0 where
+  done : {low high : ℕ} → low ≤ high → Climbs low [] high
+  next : {low w high : ℕ} {ws : List ℕ} → low ≤ w → Climbs (suc w) ws high → Climbs low (w ∷ ws) high
+
+from-lower : {low low' high : ℕ} {ws : List ℕ} → low' ≤ low → Climbs low ws high → Climbs low' ws high
+from-lower l (done h) = done (le-trans l h)
+from-lower l (next h c) = next (le-trans l h) c
+
+to-higher : {low high high' : ℕ} {ws : List ℕ} → high ≤ high' → Climbs low ws high → Climbs low ws high'
+to-higher l (done h) = done (le-trans h l)
+to-higher l (next h c) = next h (to-higher l c)
+
+climbs-append : {low mid high : ℕ} {xs ys : List ℕ} → Climbs low xs mid → Climbs mid ys high → Climbs low (xs ++ ys) high
+climbs-append (done h) d = from-lower h d
+climbs-append (next h c) d = next h (climbs-append c d)
+
+climbs-gather : (bound : ℕ → ℕ) (g : ℕ → List ℕ) (n : ℕ) → ((i : ℕ) → i < n → Climbs (bound i) (g i) (bound (suc i))) → Climbs (bound 0) (gather g n) (bound n)
+unfolding gather
+climbs-gather bound g zero h = done (le-refl (bound 0))
+climbs-gather bound g (suc n) h = climbs-append (climbs-gather bound g n (λ i l. h i (omega arith))) (h n (omega arith))
+
+climbs-at : {low high : ℕ} {ws : List ℕ} → Climbs low ws high → (i : ℕ) → i < length ws → low ≤ getD ws i 0
+climbs-at (done h) i l = absurd (omega arith)
+climbs-at (next h c) zero l = h
+climbs-at (next h c) (suc i) l = omega (arith, climbs-at c i (omega arith))
+
+climbs-ascends : {low high : ℕ} {ws : List ℕ} → Climbs low ws high → (i j : ℕ) → i < j → j < length ws → getD ws i 0 < getD ws j 0
+climbs-ascends (done h) i j l m = absurd (omega arith)
+climbs-ascends (next h c) i zero l m = absurd (omega arith)
+climbs-ascends (next h c) zero (suc j) l m = omega (arith, climbs-at c j (omega arith))
+climbs-ascends (next h c) (suc i) (suc j) l m = climbs-ascends c i j (omega arith) (omega arith)
+
+-- the least word on moment t and fluent f
+abbrev least : ℕ → ℕ → ℕ
+least t f = 10 * 2 ^ 28 + t * 2 ^ 7 + f * 2
+
+fact-climbs : (head t f value : ℕ) → Climbs (least t f) (factOf head t f value) (least t (suc f))
+fact-climbs head t f value = cases (eqb value unknown) (eqb value holds)
+  where
+    cases : (b c : Bool) → Climbs (least t f) (pick b [] ((least t f + pick c 0 1) ∷ [])) (least t (suc f))
+    cases true c = let h : least t f ≤ least t (suc f) = omega arith in done h
+    cases false c =
+        let p : pick c 0 1 ≤ 1 = pick-most c 0 1 (omega arith) (omega arith) in
+        let low : least t f ≤ least t f + pick c 0 1 = omega arith in
+        let high : suc (least t f + pick c 0 1) ≤ least t (suc f) = omega arith in
+        next low (done high)
+
+module _ {job : List ℕ} (w : WellFormed job) (starts : List ℕ) where
+  moment-climbs : (t : ℕ) → Climbs (least t 0) (factsAt job starts t) (least (suc t) 0)
+  unfolding factsAt
+  moment-climbs t =
+      let low : least t (fluents job) ≤ least (suc t) 0 = omega (arith, w .few-fluents) in
+      to-higher low
+      (climbs-gather (least t) (λ f. factOf (headWord job) t f (valueAt job starts t f)) (fluents job) (λ f l. fact-climbs (headWord job) t f (valueAt job starts t f)))
+
+  pub facts-ascend : (i j : ℕ) → i < j → j < length (factsOf job starts) → getD (factsOf job starts) i 0 < getD (factsOf job starts) j 0
+  unfolding factsOf
+  facts-ascend = climbs-ascends (climbs-gather (λ t. least t 0) (factsAt job starts) (lastMoment job + 1) (λ t l. moment-climbs t))

@@ -1,0 +1,58 @@
+-- `facts::tables::store_row` meets its contract. The invariant: the first `f` entries are stored. Assumes nothing.
+use Prim.Native.Nat.{_≤_, _-_}
+use mathlib.Core.Path.{_≡_}
+use Rattle.facts.specs.Stores.{RowStored}
+use Rattle.facts.proofs.Stores.{row-none, row-more}
+use native.Mathlib.Omega.{arith}
+use borrow.Author.Needs.{needs}
+use Rattle.facts.proofs.tables.store_row.Statement.{statement}
+use Rattle.facts.proofs.tables.store_row.Tie as tie
+
+abbrev Inv-loop : tie.InvT-loop
+Inv-loop row a table₀ f₀ table f = (f ≤ 64) × RowStored row a f table₀ table
+
+abbrev μ-loop : tie.MeasureT-loop
+μ-loop row a table₀ f₀ table f = 64 - f
+
+loop-holds : tie.Need-loop-holds Inv-loop μ-loop
+loop-holds c = (omega arith, row-none)
+
+element-copy-out-table : tie.Need-element-copy-out-table Inv-loop μ-loop
+element-copy-out-table c = search needs
+
+mul-table : tie.Need-mul-table Inv-loop μ-loop
+mul-table c = search needs
+
+add-table : tie.Need-add-table Inv-loop μ-loop
+add-table c = search needs
+
+element-write-table : tie.Need-element-write-table Inv-loop μ-loop
+element-write-table c = search needs
+
+add-f : tie.Need-add-f Inv-loop μ-loop
+add-f c = search needs
+
+loop-less : tie.Need-loop-less Inv-loop μ-loop
+loop-less c = search needs
+
+loop-again : tie.Need-loop-again Inv-loop μ-loop
+loop-again c = (omega arith, row-more _ (omega (arith, c .before .before .loop .inv .1 .size)) (c .before .before .loop .inv .1))
+
+returns : tie.Need-returns Inv-loop μ-loop
+returns c = let e : c .before .loop .f ≡ 64 = omega arith in rw e at (c .before .loop .inv .1)
+
+pub store-row-spec : {M : Type 1} → statement M
+store-row-spec =
+    tie.close
+    (tie.spec
+    Inv-loop
+    μ-loop
+    loop-holds
+    element-copy-out-table
+    mul-table
+    add-table
+    element-write-table
+    add-f
+    loop-less
+    loop-again
+    returns)
