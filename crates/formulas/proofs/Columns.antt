@@ -1,0 +1,61 @@
+-- A table on the way: all columns before moment t, and of that one the first k entries. Assumes nothing.
+use mathlib.Core.List.{List}
+use mathlib.Core.Path.{_≡_}
+use Prim.Native.Nat.{ℕ, _+_, _*_, _≤_, _<_}
+use native.Mathlib.Omega.{arith}
+use borrow.Author.Count.{below-more}
+use lib.ListN.{length, getD, set, replicate, length-set, length-replicate}
+use lib.Seq.{getD-set-same, getD-set-other}
+use Rattle.job.specs.Parts.{formulaCount}
+use Rattle.facts.proofs.Stores.{set-all, replicate-all}
+use Rattle.formulas.specs.Values.{formulaAt}
+use Rattle.formulas.specs.Table.{Small, ColumnAt, ColumnsBefore}
+
+pub record Filling (conj disj job : List ℕ) (fluent : ℕ → ℕ → ℕ) (t k : ℕ) (values : List ℕ) : Type 0 where
+  pub size : length values ≡ 4096
+  pub small : Small values
+  pub here : ColumnAt conj disj job fluent t k values
+  pub others : (u : ℕ) → u < t → ColumnAt conj disj job fluent u (formulaCount job) values
+
+module _ {conj disj job : List ℕ} {fluent : ℕ → ℕ → ℕ} where
+  pub columns-none : ColumnsBefore conj disj job fluent 0 (replicate 4096 0)
+  columns-none =
+      record {
+        size = length-replicate {A = ℕ} 4096 0;
+        small = record { most = replicate-all (λ (v : ℕ). v ≤ 2) 4096 0 (omega arith) (omega arith) };
+        column = λ u l. absurd (omega arith);
+      }
+
+  module _ {t : ℕ} where
+    pub fill-start : {values : List ℕ} → ColumnsBefore conj disj job fluent t values → Filling conj disj job fluent t 0 values
+    fill-start h =
+        record { size = h .size; small = h .small; here = record { entry = λ k l. absurd (omega arith) }; others = h .column }
+
+    pub fill-end : {values : List ℕ} → Filling conj disj job fluent t (formulaCount job) values → ColumnsBefore conj disj job fluent (t + 1) values
+    fill-end {values} h =
+        record {
+          size = h .size;
+          small = h .small;
+          column = below-more (λ (u : ℕ). ColumnAt conj disj job fluent u (formulaCount job) values) t (h .others) (h .here);
+        }
+
+    -- one entry more
+    pub fill-entry : t < 64 → (k : ℕ) → k < 64 → (values : List ℕ) (v : ℕ) → v ≤ 2 → Filling conj disj job fluent t k values
+        → v ≡ formulaAt conj disj job fluent k t → Filling conj disj job fluent t (k + 1) (set values (k * 64 + t) v)
+    fill-entry l k m values v most h e =
+        record {
+          size = rw length-set (h .size);
+          small = record { most = set-all (λ (v : ℕ). v ≤ 2) values (k * 64 + t) v (h .small .most) most };
+          here =
+              record {
+                entry =
+                    below-more (λ (x : ℕ). getD (set values (k * 64 + t) v) (x * 64 + t) 0 ≡ formulaAt conj disj job fluent x t) k
+                    (λ x b. rw (getD-set-other values (k * 64 + t) (x * 64 + t) v 0 (λ q. omega arith)) (h .here .entry x b))
+                    (rw (getD-set-same values (k * 64 + t) v 0 (omega (arith, h .size))) e);
+              };
+          others =
+              λ u b.
+              record {
+                entry = λ x q. rw (getD-set-other values (k * 64 + t) (x * 64 + u) v 0 (λ z. omega arith)) (h .others u b .entry x q);
+              };
+        }

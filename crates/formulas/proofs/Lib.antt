@@ -1,0 +1,6 @@
+-- Laws that belong to no one function: Tables (the two tables are the lesser and the greater), Laws (the values of formulas), Columns (a table on
+-- the way), Counting (how many formulas there are).
+pub mod Tables
+pub mod Laws
+pub mod Columns
+pub mod Counting

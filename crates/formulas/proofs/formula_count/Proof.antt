@@ -1,0 +1,74 @@
+-- `formulas::formula_count` meets its contract. The invariant: `n` counts the formulas before `i`. Assumes nothing.
+use mathlib.Core.Path.{_≡_, sym}
+use Prim.Native.Nat.{_-_, _≤_}
+use lib.Dec.{eqb}
+use lib.ListN.{length}
+use Rattle.words.proofs.Choices.{one-le}
+use Rattle.job.specs.Before.{before, count}
+use Rattle.formulas.proofs.Counting.{count-none, count-more}
+use native.Mathlib.Omega.{arith}
+use borrow.Author.Needs.{needs}
+use Rattle.formulas.proofs.formula_count.Statement.{statement}
+use Rattle.formulas.proofs.formula_count.Tie as tie
+
+abbrev Inv-loop : tie.InvT-loop
+Inv-loop job n₀ i₀ n i = (i ≤ length job) × (n ≤ i) × (n ≡ count 5 (before job i))
+
+abbrev μ-loop : tie.MeasureT-loop
+μ-loop job n₀ i₀ n i = length job - i
+
+loop-holds : tie.Need-loop-holds Inv-loop μ-loop
+loop-holds c = (omega arith, omega arith, sym (count-none (c .before .args .job .now) 5))
+
+mul-kind-of : tie.Need-mul-kind-of Inv-loop μ-loop
+mul-kind-of c = search needs
+
+shared-slice-read-kind-of : tie.Need-shared-slice-read-kind-of Inv-loop μ-loop
+shared-slice-read-kind-of c = search needs
+
+kind-of-requires : tie.Need-kind-of-requires Inv-loop μ-loop
+kind-of-requires c κs = search needs
+
+one-if-requires : tie.Need-one-if-requires Inv-loop μ-loop
+one-if-requires c κs = search needs
+
+add-n : tie.Need-add-n Inv-loop μ-loop
+add-n c = omega (arith, c .one-if .ensures, one-le (eqb (c .before .kind-of .result) 5))
+
+add-i : tie.Need-add-i Inv-loop μ-loop
+add-i c = search needs
+
+loop-less : tie.Need-loop-less Inv-loop μ-loop
+loop-less c = omega arith
+
+loop-again : tie.Need-loop-again Inv-loop μ-loop
+loop-again c =
+    let job = c .before .before .before .before .before .before .args .job .now in
+    let i = c .before .before .before .before .loop .i in
+    let more = rw (← c .before .kind-of .ensures .0) at (count-more job 5 i) in (
+      omega arith,
+      omega (arith, c .one-if .ensures, one-le (eqb (c .before .kind-of .result) 5)),
+      rw more (omega (arith, c .one-if .ensures)),
+    )
+
+returns : tie.Need-returns Inv-loop μ-loop
+returns c =
+    let e : c .before .loop .i ≡ length (c .before .before .before .args .job .now) = omega arith in
+    rw (← e) (c .before .loop .inv .2)
+
+pub formula-count-spec : {M : Type 1} → statement M
+formula-count-spec =
+    tie.close
+    (tie.spec
+    Inv-loop
+    μ-loop
+    loop-holds
+    mul-kind-of
+    shared-slice-read-kind-of
+    kind-of-requires
+    one-if-requires
+    add-n
+    add-i
+    loop-less
+    loop-again
+    returns)

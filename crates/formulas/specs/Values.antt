@@ -1,0 +1,37 @@
+-- The value of formula k at moment t, over the whole history of states. 'And' and 'or' come in as two tables of three by three.
+use mathlib.Core.List.{List, [], _∷_}
+use Prim.Native.Nat.{ℕ, zero, suc, _+_, _-_, _*_}
+use lib.Dec.{eqb}
+use lib.ListN.{getD}
+use Rattle.words.specs.Tests.{pick}
+use Rattle.words.specs.Fields.{form, unknown, holds, formulaX, formulaY, atomFluent}
+use Rattle.job.specs.Parts.{headWord, formulaWord}
+
+-- in the order fails < open < holds: the lesser, and the greater
+abbrev pub andTable : List ℕ
+andTable = 0 ∷ 0 ∷ 0 ∷ 0 ∷ 1 ∷ 1 ∷ 0 ∷ 1 ∷ 2 ∷ []
+
+abbrev pub orTable : List ℕ
+orTable = 0 ∷ 1 ∷ 2 ∷ 1 ∷ 1 ∷ 2 ∷ 2 ∷ 2 ∷ 2 ∷ []
+
+abbrev pub byTable : List ℕ → ℕ → ℕ → ℕ
+byTable table a b = getD table (a * 3 + b) 0
+
+-- the value of a formula word at moment t: by the fluents' values at any moment, and the lower formulas' values at any moment
+unfoldable pub formValue : List ℕ → List ℕ → ℕ → ℕ → (ℕ → ℕ → ℕ) → (ℕ → ℕ → ℕ) → ℕ → ℕ
+formValue conj disj head w fluent lower t =
+    pick (eqb (form w) 0) holds
+    (pick (eqb (form w) 1) (fluent t (atomFluent head w))
+    (pick (eqb (form w) 2) (holds - lower (formulaX w) t)
+    (pick (eqb (form w) 3) (byTable conj (lower (formulaX w) t) (lower (formulaY w) t))
+    (byTable disj (lower (formulaX w) t) (lower (formulaY w) t)))))
+
+-- the values of the formulas below k, by the history of states: `fluent t f` is the value of fluent f at moment t
+unfoldable pub formulaBelow : List ℕ → List ℕ → List ℕ → (ℕ → ℕ → ℕ) → ℕ → ℕ → ℕ → ℕ
+formulaBelow conj disj job fluent zero x t = unknown
+formulaBelow conj disj job fluent (suc k) x t =
+    pick (eqb x k) (formValue conj disj (headWord job) (formulaWord job k) fluent (formulaBelow conj disj job fluent k) t)
+    (formulaBelow conj disj job fluent k x t)
+
+unfoldable pub formulaAt : List ℕ → List ℕ → List ℕ → (ℕ → ℕ → ℕ) → ℕ → ℕ → ℕ
+formulaAt conj disj job fluent k t = formulaBelow conj disj job fluent (suc k) k t
