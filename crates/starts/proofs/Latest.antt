@@ -1,0 +1,166 @@
+-- Rows 8 and 9 by the latest finish of each action: an earlier start of an action is still in hand where its latest one is. Assumes nothing.
+use mathlib.Core.Bool.{Bool, true, false}
+use mathlib.Core.List.{List}
+use mathlib.Core.Path.{_≡_, refl, ap, sym, _∙_}
+use Prim.Native.Nat.{ℕ, zero, suc, _+_, _^_, _≤_, _<_}
+use native.Mathlib.Decide.{decLt}
+use native.Mathlib.Omega.{arith}
+use borrow.Author.Tests.{eqb-true, eqb-false, leb-true, ltb-true, ltb-false, le-leb, lt-ltb, eq-eqb}
+use lib.Dec.{eqb, leb, ltb}
+use lib.ListN.{length, getD, set, replicate, length-set}
+use lib.Seq.{getD-set-same, getD-set-other}
+use Rattle.words.specs.Tests.{both}
+use Rattle.words.specs.Fields.{startMoment, startAction}
+use Rattle.words.proofs.Choices.{is-false, both-true}
+use Rattle.job.specs.Parts.{actions, lastMoment, duration}
+use Rattle.job.specs.WellFormed.{WellFormed}
+use Rattle.facts.specs.Actions.{finish, inHand}
+use Rattle.starts.specs.Rows.{restarts, inHandAlready, together, clashing, clashes}
+use Rattle.words.specs.Scan.{someBelow}
+use Rattle.starts.specs.Latest.{Worded, Unfinished, Latest, clashesAfter}
+use Rattle.starts.proofs.Below.{some-none, some-hit, some-same}
+use Rattle.starts.proofs.Words.{Right, right-word, moments-ascend, moments-differ}
+
+-- before the first start no entry is above 0
+zeros : (n a : ℕ) → _≡_ {A = ℕ} (getD (replicate n 0) a 0) 0
+zeros zero a = refl
+zeros (suc n) zero = refl
+zeros (suc n) (suc a) = zeros n a
+
+pub latest-start : (job starts : List ℕ) → Latest job starts 0 (replicate 64 0)
+latest-start job starts = record { size = refl; covers = λ j l. absurd (omega arith); comes = λ a u l. absurd (omega (arith, zeros 64 a)) }
+
+-- a start that is not later than another, which lasts and is at a moment of the job: they are in hand together where the first has not
+-- finished when the other begins
+module _ (job : List ℕ) (s s' : ℕ) (lasts : 0 < duration job (startAction s')) (first : startMoment s ≤ startMoment s')
+    (moment : startMoment s' ≤ lastMoment job) where
+  abbrev inBoth : ℕ → Bool
+  inBoth t = both (inHand job t s) (inHand job t s')
+
+  together-is : together job s s' ≡ ltb (startMoment s') (finish job s)
+  unfolding together
+  together-is = cases (ltb (startMoment s') (finish job s)) refl
+    where
+      -- a moment in both is in hand of the first, and not before the other
+      apart : finish job s ≤ startMoment s' → (t : ℕ) → inBoth t ≡ true → ⊥
+      apart l t e =
+          let a = both-true (inHand job t s) (inHand job t s') e in
+          let b = both-true (leb (startMoment s) t) (ltb t (finish job s)) (a .0) in
+          let c = both-true (leb (startMoment s') t) (ltb t (finish job s')) (a .1) in
+          omega (arith, ltb-true t (finish job s) (b .1), leb-true (startMoment s') t (c .0))
+
+      cases : (b : Bool) → ltb (startMoment s') (finish job s) ≡ b → someBelow inBoth (lastMoment job + 1) ≡ b
+      cases true e =
+          let u = startMoment s' in
+          some-hit inBoth (lastMoment job + 1) u (omega arith)
+          (rw (le-leb (startMoment s) u first, e, le-leb u u (omega arith), lt-ltb u (finish job s') (omega arith)))
+      cases false e =
+          some-none inBoth (lastMoment job + 1)
+          (λ t l. is-false (inBoth t) (apart (ltb-false (startMoment s') (finish job s) e) t))
+
+module _ (job starts : List ℕ) (words : (i : ℕ) → getD starts i 0 < 2 ^ 32) (right : Worded job starts)
+    (i : ℕ) (l : i < length starts) (table : List ℕ) (latest : Latest job starts i table) where
+  -- with one more start
+  pub latest-more : Latest job starts (i + 1) (set table (startAction (getD starts i 0)) (finish job (getD starts i 0)))
+  latest-more = record { size = length-set table a (finish job (getD starts i 0)) ∙ latest .size; covers = λ j m. covers j (eqb (startAction (getD starts j 0)) a) refl (decLt j i) m; comes = λ b u m. comes b u (eqb b a) refl m }
+    where
+      a : ℕ
+      a = startAction (getD starts i 0)
+
+      fits : a < length table
+      fits = omega (arith, latest .size)
+
+      after : List ℕ
+      after = set table a (finish job (getD starts i 0))
+
+      covers : (j : ℕ) (same : Bool) → eqb (startAction (getD starts j 0)) a ≡ same → Dec (j < i) → j < i + 1
+          → finish job (getD starts j 0) ≤ getD after (startAction (getD starts j 0)) 0
+      covers j true t (yes m) k =
+          let e : startAction (getD starts j 0) ≡ a = eqb-true _ _ t in
+          rw (e, getD-set-same table a (finish job (getD starts i 0)) 0 fits)
+          (omega (arith, moments-ascend job starts words right i j m l, ap (duration job) e))
+      covers j false t (yes m) k =
+          rw (getD-set-other table a (startAction (getD starts j 0)) (finish job (getD starts i 0)) 0 (eqb-false _ _ t)) (latest .covers j m)
+      covers j same t (no m) k =
+          let last : j ≡ i = omega arith in
+          rw (last, getD-set-same table a (finish job (getD starts i 0)) 0 fits) (omega arith)
+
+      comes : (b u : ℕ) (same : Bool) → eqb b a ≡ same → u < getD after b 0 → Unfinished job starts (i + 1) b u
+      comes b u true t m =
+          let e : b ≡ a = eqb-true b a t in
+          record {
+            place = i;
+            before = omega arith;
+            action = sym e;
+            later = rw (e, getD-set-same table a (finish job (getD starts i 0)) 0 fits) at m;
+          }
+      comes b u false t m =
+          let w = latest .comes b u (rw (getD-set-other table a b (finish job (getD starts i 0)) 0 (eqb-false b a t)) at m) in
+          let k = w .before in
+          record { place = w .place; before = omega arith; action = w .action; later = w .later }
+
+  -- row 8: its action's latest start has not finished
+  pub restart-is : inHandAlready job starts i ≡ ltb (startMoment (getD starts i 0)) (getD table (startAction (getD starts i 0)) 0)
+  unfolding inHandAlready
+  restart-is = cases (ltb (startMoment s) (getD table (startAction s) 0)) refl
+    where
+      s : ℕ
+      s = getD starts i 0
+
+      test : ℕ → Bool
+      test j = restarts job (getD starts j 0) s
+
+      hit : (w : Unfinished job starts i (startAction s) (startMoment s)) → test (w .place) ≡ true
+      hit w =
+          rw (
+            eq-eqb _ _ (w .action),
+            lt-ltb _ _ (moments-differ job starts words right i (w .place) (w .before) l (w .action)),
+            lt-ltb _ _ (w .later),
+          )
+
+      miss : getD table (startAction s) 0 ≤ startMoment s → (j : ℕ) → j < i → test j ≡ true → ⊥
+      miss h j m e =
+          let a = both-true (eqb (startAction (getD starts j 0)) (startAction s)) _ e in
+          let b = both-true (ltb (startMoment (getD starts j 0)) (startMoment s)) _ (a .1) in
+          let same : startAction (getD starts j 0) ≡ startAction s = eqb-true _ _ (a .0) in
+          omega (arith, latest .covers j m, ap (λ (a : ℕ). getD table a 0) same, ltb-true (startMoment s) (finish job (getD starts j 0)) (b .1))
+
+      cases : (b : Bool) → ltb (startMoment s) (getD table (startAction s) 0) ≡ b → someBelow test i ≡ b
+      cases true e =
+          let w = latest .comes (startAction s) (startMoment s) (ltb-true _ _ e) in
+          some-hit test i (w .place) (w .before) (hit w)
+      cases false e = some-none test i (λ j m. is-false (test j) (miss (ltb-false _ _ e) j m))
+
+  -- row 9: the latest start of some action that clashes has not finished
+  pub clash-is : WellFormed job
+      → clashes job starts i
+      ≡ someBelow (clashesAfter job table (startAction (getD starts i 0)) (startMoment (getD starts i 0))) (actions job)
+  unfolding clashes
+  clash-is formed = some-same test (clashesAfter job table b u) i (actions job) to from
+    where
+      b : ℕ
+      b = startAction (getD starts i 0)
+
+      u : ℕ
+      u = startMoment (getD starts i 0)
+
+      test : ℕ → Bool
+      test j = clashing job (getD starts j 0) (getD starts i 0)
+
+      joint : (j : ℕ) → j < i → together job (getD starts j 0) (getD starts i 0) ≡ ltb u (finish job (getD starts j 0))
+      joint j m =
+          let r = right-word right i l in
+          together-is job (getD starts j 0) (getD starts i 0) (formed .lasting b (r .action)) (moments-ascend job starts words right i j m l) (r .moment)
+
+      to : (j : ℕ) → j < i → test j ≡ true → someBelow (clashesAfter job table b u) (actions job) ≡ true
+      to j m e =
+          let p = both-true (together job (getD starts j 0) (getD starts i 0)) _ e in
+          let after = ltb-true u (finish job (getD starts j 0)) (sym (joint j m) ∙ p .0) in
+          some-hit (clashesAfter job table b u) (actions job) (startAction (getD starts j 0)) (right-word right j (omega arith) .action)
+          (rw (lt-ltb u (getD table (startAction (getD starts j 0)) 0) (omega (arith, latest .covers j m)), p .1))
+
+      from : (a : ℕ) → a < actions job → clashesAfter job table b u a ≡ true → someBelow test i ≡ true
+      from a m e =
+          let p = both-true (ltb u (getD table a 0)) _ e in
+          let w = latest .comes a u (ltb-true u (getD table a 0) (p .0)) in
+          some-hit test i (w .place) (w .before) (rw (joint (w .place) (w .before), lt-ltb _ _ (w .later), w .action) (p .1))

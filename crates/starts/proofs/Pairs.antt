@@ -1,0 +1,44 @@
+-- The table of the pairs of actions that clash, entry after entry. Assumes nothing.
+use mathlib.Core.List.{List}
+use mathlib.Core.Path.{_≡_, _∙_}
+use Prim.Native.Nat.{ℕ, _+_, _*_, _/_, _%_, _≤_, _<_}
+use native.Mathlib.Decide.{decLt}
+use native.Mathlib.Omega.{arith}
+use lib.ListN.{length, getD, set, length-set}
+use lib.Seq.{getD-set-same, getD-set-other}
+use Rattle.words.specs.Tests.{one}
+use Rattle.job.specs.Parts.{actions}
+use Rattle.job.specs.WellFormed.{WellFormed}
+use Rattle.starts.specs.Rows.{clash}
+use Rattle.starts.specs.Latest.{Clashes}
+
+-- an entry that is right, if it is one of the job's pairs
+abbrev pub EntryIs : List ℕ → ℕ → ℕ → Type 0
+EntryIs job k v = k / 64 < actions job → k % 64 < actions job → v ≡ one (clash job (k / 64) (k % 64))
+
+-- the entries below k are
+pub record Entered (job : List ℕ) (k : ℕ) (table : List ℕ) : Type 0 where
+  pub size : length table ≡ 4096
+  pub entry : (m : ℕ) → m < k → EntryIs job m (getD table m 0)
+
+module _ (job : List ℕ) where
+  pub entered-start : (table : List ℕ) → length table ≡ 4096 → Entered job 0 table
+  entered-start table e = record { size = e; entry = λ m l. absurd (omega arith) }
+
+  pub entered-more : (k v : ℕ) (table : List ℕ) → Entered job k table → k < 4096 → EntryIs job k v → Entered job (k + 1) (set table k v)
+  entered-more k v table h l e = record { size = length-set table k v ∙ h .size; entry = λ m n. cases m (decLt m k) n }
+    where
+      cases : (m : ℕ) → Dec (m < k) → m < k + 1 → EntryIs job m (getD (set table k v) m 0)
+      cases m (yes s) n = rw (getD-set-other table k m v 0 (λ z. omega arith)) (h .entry m s)
+      cases m (no s) n =
+          let same : m ≡ k = omega arith in
+          rw (same, getD-set-same table k v 0 (omega (arith, h .size))) e
+
+  pub entered-all : WellFormed job → (k : ℕ) (table : List ℕ) → 4096 ≤ k → Entered job k table → Clashes job table
+  entered-all formed k table l h = record { entry = λ a b m n. at a b (omega (arith, formed .few-actions)) (omega (arith, formed .few-actions)) m n }
+    where
+      at : (a b : ℕ) → a < 64 → b < 64 → a < actions job → b < actions job → getD table (a * 64 + b) 0 ≡ one (clash job a b)
+      at a b s t m n =
+          let x : (a * 64 + b) / 64 ≡ a = omega arith in
+          let y : (a * 64 + b) % 64 ≡ b = omega arith in
+          rw (x, y) at (h .entry (a * 64 + b) (omega arith)) m n

@@ -1,0 +1,68 @@
+-- The refusal of any starts, of any length, fits the fields of an answer: row 6 fits one of the first 4,097 words, or there are 4,096 at
+-- most. Assumes nothing.
+use mathlib.Core.Bool.{Bool, true, false}
+use mathlib.Core.List.{List, [], _∷_}
+use mathlib.Core.Path.{_≡_, refl}
+use Prim.Native.Nat.{ℕ, zero, suc, _^_, _≤_, _<_}
+use native.Mathlib.Omega.{arith}
+use borrow.Author.Tests.{eqb-true}
+use lib.Dec.{eqb}
+use lib.ListN.{length, getD}
+use Rattle.words.specs.Tests.{pick}
+use Rattle.answers.specs.Rows.{refusalAt, firstOf}
+use Rattle.answers.proofs.Range.{Fitting, pick-fits, refusal-fits, passed-fits, or-fits, first-fits}
+use Rattle.starts.specs.Rows.{wrongWord, endsLate, inHandAlready, clashes, needsUnmet, numbered, rowsRefusal, startsRefusal}
+use Rattle.starts.proofs.Below.{row-fits-none}
+use Rattle.starts.proofs.Words.{few-words}
+
+numbered-le : (number : ℕ) (test : ℕ → Bool) → number ≤ 13 → (i : ℕ) → numbered number test i ≤ 13
+numbered-le number test h i = cases (test i)
+  where
+    cases : (t : Bool) → pick t number 0 ≤ 13
+    cases true = h
+    cases false = omega arith
+
+-- rows with numbers of the document, on a list that is not too long
+abbrev Low : List (ℕ × (ℕ → Bool)) → Type 0
+Low [] = Unit {0}
+Low (row ∷ rest) = (row .0 ≤ 13) × Low rest
+
+rows-fit : (rows : List (ℕ × (ℕ → Bool))) (n : ℕ) → n ≤ 4096 → Low rows → Fitting (rowsRefusal rows n)
+unfolding rowsRefusal
+rows-fit [] n l h = passed-fits
+rows-fit (row ∷ rest) n l h =
+    or-fits (firstOf (numbered (row .0) (row .1)) n) (rowsRefusal rest n)
+    (first-fits (numbered (row .0) (row .1)) (numbered-le (row .0) (row .1) (h .0)) n (omega arith))
+    (rows-fit rest n l (h .1))
+
+module _ (job starts : List ℕ) (words : (i : ℕ) → getD starts i 0 < 2 ^ 32) where
+  few : (n : ℕ) → firstOf (numbered 6 (wrongWord job starts)) n .number ≡ 0 → n ≤ 4096
+  few n e = few-words job starts words n (row-fits-none (wrongWord job starts) 6 n (omega arith) e)
+
+  first-row-fits : (n : ℕ) → Fitting (firstOf (numbered 6 (wrongWord job starts)) n)
+  unfolding firstOf
+  first-row-fits zero = passed-fits
+  first-row-fits (suc n) = cases (eqb (firstOf f n .number) 0) refl (first-row-fits n)
+    where
+      f : ℕ → ℕ
+      f = numbered 6 (wrongWord job starts)
+
+      cases : (t : Bool) → eqb (firstOf f n .number) 0 ≡ t → Fitting (firstOf f n) → Fitting (pick t (refusalAt n (f n)) (firstOf f n))
+      cases true e ih =
+          pick-fits (eqb (f n) 0) passed-fits
+          (refusal-fits (numbered-le 6 (wrongWord job starts) (omega arith) n) (few n (eqb-true (firstOf f n .number) 0 e)))
+      cases false e ih = ih
+
+  pub starts-fit : Fitting (startsRefusal job starts)
+  unfolding startsRefusal rowsRefusal
+  starts-fit = cases (eqb (firstOf (numbered 6 (wrongWord job starts)) (length starts) .number) 0) refl
+    where
+      later : List (ℕ × (ℕ → Bool))
+      later = (7, endsLate job starts) ∷ (8, inHandAlready job starts) ∷ (9, clashes job starts) ∷ (10, needsUnmet job starts) ∷ []
+
+      cases : (t : Bool) → eqb (firstOf (numbered 6 (wrongWord job starts)) (length starts) .number) 0 ≡ t
+          → Fitting (pick t (rowsRefusal later (length starts)) (firstOf (numbered 6 (wrongWord job starts)) (length starts)))
+      cases true e =
+          rows-fit later (length starts) (few (length starts) (eqb-true (firstOf (numbered 6 (wrongWord job starts)) (length starts) .number) 0 e))
+          (omega arith, (omega arith, (omega arith, (omega arith, tt))))
+      cases false e = first-row-fits (length starts)

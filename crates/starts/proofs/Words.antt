@@ -1,0 +1,136 @@
+-- What row 6 shows of words that it does not fit: each is a start of the job, and their moments ascend. Assumes nothing.
+use mathlib.Core.Bool.{Bool, true, false}
+use mathlib.Core.List.{List}
+use mathlib.Core.Path.{_≡_}
+use Prim.Native.Nat.{ℕ, zero, suc, _+_, _-_, _*_, _^_, _≤_, _<_}
+use native.Mathlib.Decide.{decLt}
+use native.Mathlib.Omega.{arith}
+use borrow.Author.Tests.{not-false, eqb-true, leb-true, ltb-true, ne-eqb}
+use lib.Dec.{eqb}
+use lib.ListN.{length, getD}
+use Rattle.words.specs.Fields.{kind, field, startMoment, startAction}
+use Rattle.words.proofs.Choices.{both-true}
+use Rattle.job.specs.Parts.{actions, lastMoment}
+use Rattle.facts.specs.Actions.{finish}
+use Rattle.facts.specs.Tables.{Durations, Named}
+use Rattle.answers.specs.Rows.{firstOf}
+use Rattle.answers.proofs.Rows.{or-none}
+use Rattle.starts.specs.Rows.{isStart, ascends, wrongWord, numbered, rowsRefusal, startsRefusal}
+use Rattle.starts.specs.Latest.{Worded}
+use Rattle.starts.proofs.Below.{row-fits-none}
+
+-- what a right word says
+pub record Right (job : List ℕ) (s : ℕ) : Type 0 where
+  pub of-kind : kind s ≡ 9
+  pub bare : field s 27 12 ≡ 0
+  pub moment : startMoment s ≤ lastMoment job
+  pub action : startAction s < actions job
+
+-- a word that row 6 does not fit
+module _ (job starts : List ℕ) (i : ℕ) (h : wrongWord job starts i ≡ false) where
+  parts : (isStart job (getD starts i 0) ≡ true) × (ascends starts i ≡ true)
+  unfolding wrongWord
+  parts = both-true _ _ (not-false _ h)
+
+  pub right-at : Right job (getD starts i 0)
+  right-at =
+      let a = both-true _ _ (parts .0) in
+      let b = both-true _ _ (a .0) in
+      let k = both-true _ _ (b .0) in
+      record {
+        of-kind = eqb-true _ 9 (k .0);
+        bare = eqb-true _ 0 (k .1);
+        moment = leb-true _ _ (b .1);
+        action = ltb-true _ _ (a .1);
+      }
+
+  -- it is above the one before it
+  above-at : 0 < i → getD starts (i - 1) 0 < getD starts i 0
+  above-at p =
+      let e : eqb i 0 ≡ false = ne-eqb i 0 (λ z. omega arith) in
+      ltb-true _ _ (rw e at (parts .1))
+
+-- once row 6 gives no number
+pub worded : (job starts : List ℕ) → firstOf (numbered 6 (wrongWord job starts)) (length starts) .number ≡ 0 → Worded job starts
+worded job starts e = record { right = row-fits-none (wrongWord job starts) 6 (length starts) (omega arith) e }
+
+-- once no row fits
+pub starts-passed : (job starts : List ℕ) → startsRefusal job starts .number ≡ 0 → Worded job starts
+unfolding startsRefusal rowsRefusal
+starts-passed job starts e = worded job starts (or-none (firstOf (numbered 6 (wrongWord job starts)) (length starts)) _ e .0)
+
+pub right-word : {job starts : List ℕ} → Worded job starts → (i : ℕ) → i < length starts → Right job (getD starts i 0)
+right-word h i l = right-at _ _ i (h .right i l)
+
+pub named : {job starts : List ℕ} → Worded job starts → Named job starts
+named h = record { action = λ i l. right-word h i l .action }
+
+-- a start's finish, by the table of durations
+pub finish-is : {job durations starts : List ℕ} → Durations job durations → Worded job starts → (i : ℕ) → i < length starts
+    → startMoment (getD starts i 0) + getD durations (startAction (getD starts i 0)) 0 ≡ finish job (getD starts i 0)
+finish-is d h i l = rw (d .entry _ (right-word h i l .action))
+
+-- a right word is 9 · 2^28 + 64 u + a
+low-bits : (s : ℕ) → 2415919104 ≤ s → s < 2415919104 + 4096 → s ≡ 2415919104 + startMoment s * 64 + startAction s
+low-bits s l h = omega arith
+
+word-low : {job : List ℕ} {s : ℕ} → Right job s → s < 2 ^ 32 → (2415919104 ≤ s) × (s < 2415919104 + 4096)
+word-low r w = let k = r .of-kind in let b = r .bare in omega arith
+
+word-is : {job : List ℕ} {s : ℕ} → Right job s → s < 2 ^ 32 → s ≡ 2415919104 + startMoment s * 64 + startAction s
+word-is r w = let b = word-low r w in low-bits _ (b .0) (b .1)
+
+-- of lists of 32-bit words
+module _ (job starts : List ℕ) (words : (i : ℕ) → getD starts i 0 < 2 ^ 32) where
+  -- so the words that row 6 does not fit are 4,096 at most, however long the list
+  rises : (n : ℕ) → ((i : ℕ) → i < n → wrongWord job starts i ≡ false) → (i : ℕ) → i < n → 2415919104 + i ≤ getD starts i 0
+  rises n h zero l = omega (arith, word-is (right-at job starts 0 (h 0 l)) (words 0))
+  rises n h (suc i) l =
+      let same : suc i - 1 ≡ i = omega arith in
+      omega (arith, rises n h i (omega arith), rw same at (above-at job starts (suc i) (h (suc i) l) (omega arith)))
+
+  pub few-words : (n : ℕ) → ((i : ℕ) → i < n → wrongWord job starts i ≡ false) → n ≤ 4096
+  few-words n h = cases (decLt 4096 n)
+    where
+      cases : Dec (4096 < n) → n ≤ 4096
+      cases (yes l) = absurd (omega (arith, rises n h 4096 l, word-is (right-at job starts 4096 (h 4096 l)) (words 4096)))
+      cases (no l) = omega arith
+
+  module _ (h : Worded job starts) where
+    -- the words ascend
+    words-ascend : (i j : ℕ) → j < i → i < length starts → getD starts j 0 < getD starts i 0
+    words-ascend zero j l m = absurd (omega arith)
+    words-ascend (suc i) j l m = cases (decLt j i) (λ k. words-ascend i j k (omega arith))
+      where
+        last : getD starts i 0 < getD starts (suc i) 0
+        last =
+            let same : suc i - 1 ≡ i = omega arith in
+            rw same at (above-at job starts (suc i) (h .right (suc i) m) (omega arith))
+
+        cases : Dec (j < i) → (j < i → getD starts j 0 < getD starts i 0) → getD starts j 0 < getD starts (suc i) 0
+        cases (yes k) ih = omega (arith, last, ih k)
+        cases (no k) ih = let same : j ≡ i = omega arith in rw same last
+
+    -- so do their moments, strictly where the action is the same
+    module _ (i j : ℕ) (l : j < i) (m : i < length starts) where
+      pub moments-ascend : startMoment (getD starts j 0) ≤ startMoment (getD starts i 0)
+      moments-ascend =
+          let e = word-is (right-word h j (omega arith)) (words j) in
+          let e' = word-is (right-word h i m) (words i) in
+          let above = words-ascend i j l m in
+          ordered (getD starts j 0) (getD starts i 0) e e' above
+        where
+          ordered : (s s' : ℕ) → s ≡ 2415919104 + startMoment s * 64 + startAction s → s' ≡ 2415919104 + startMoment s' * 64 + startAction s' → s < s'
+              → startMoment s ≤ startMoment s'
+          ordered s s' e e' l = omega arith
+
+      pub moments-differ : startAction (getD starts j 0) ≡ startAction (getD starts i 0) → startMoment (getD starts j 0) < startMoment (getD starts i 0)
+      moments-differ a =
+          let e = word-is (right-word h j (omega arith)) (words j) in
+          let e' = word-is (right-word h i m) (words i) in
+          let above = words-ascend i j l m in
+          ordered (getD starts j 0) (getD starts i 0) e e' above a
+        where
+          ordered : (s s' : ℕ) → s ≡ 2415919104 + startMoment s * 64 + startAction s → s' ≡ 2415919104 + startMoment s' * 64 + startAction s' → s < s'
+              → startAction s ≡ startAction s' → startMoment s < startMoment s'
+          ordered s s' e e' l a = omega arith
