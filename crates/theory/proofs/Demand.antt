@@ -1,0 +1,49 @@
+-- Demand 2: the list that fill writes passes check. Assumes nothing.
+use mathlib.Core.Bool.{Bool, true, false}
+use mathlib.Core.List.{List}
+use mathlib.Core.Path.{_≡_, refl, ap, sym, _∙_}
+use Prim.Native.Nat.{ℕ}
+use native.Mathlib.Omega.{arith}
+use borrow.Author.Tests.{eqb-true}
+use lib.Dec.{eqb}
+use lib.ListN.{length, take}
+use lib.Seq.{take-at, take-length}
+use Rattle.words.specs.Tests.{pick}
+use Rattle.answers.specs.declared.Answer.{Answer}
+use Rattle.answers.specs.declared.Answer.the-variants.{Accepted, Refused}
+use Rattle.answers.specs.Packed.{answerOf}
+use Rattle.answers.proofs.Rows.{or-none}
+use Rattle.facts.specs.Facts.{factsOf}
+use Rattle.theory.specs.Answers.{bufferRefusal, planRefusal, checkRefusal, fillRefusal, checkAnswer, fillAnswer, written}
+use Rattle.theory.proofs.Laws.{or-passed, equal-passes}
+
+module _ (room : ℕ) (job starts : List ℕ) {l c : ℕ} (accepted : fillAnswer room job starts ≡ Accepted l c) where
+  -- no row fits, and the length is that of the list of facts
+  parts : (fillRefusal room job starts .number ≡ 0) × (l ≡ length (factsOf job starts))
+  unfolding fillAnswer
+  parts = cases (eqb (fillRefusal room job starts .number) 0) refl accepted
+    where
+      cases : (t : Bool) → eqb (fillRefusal room job starts .number) 0 ≡ t
+          → pick t (Accepted (length (factsOf job starts)) 0) (Refused (fillRefusal room job starts .number) (fillRefusal room job starts .position) 0) ≡ Accepted l c
+          → (fillRefusal room job starts .number ≡ 0) × (l ≡ length (factsOf job starts))
+      cases true t e = (eqb-true _ 0 t, cc)
+      cases false t e = let z : _≡_ {A = ℕ} 0 1 = cc in absurd (omega arith)
+
+  pub filled-length : l ≡ length (factsOf job starts)
+  filled-length = parts .1
+
+  plan-passes : planRefusal job starts .number ≡ 0
+  unfolding fillRefusal
+  plan-passes = or-none (bufferRefusal room) (planRefusal job starts) (parts .0) .1
+
+  -- the first l words of the buffer are that list
+  pub filled-words : (buffer : List ℕ) → take l (written (fillAnswer room job starts) (factsOf job starts) buffer) ≡ factsOf job starts
+  filled-words buffer = rw (accepted, filled-length, take-length) (take-at (factsOf job starts) _ (length (factsOf job starts)) refl)
+
+  pub facts-pass : checkAnswer job starts (factsOf job starts) ≡ Accepted 0 0
+  unfolding checkAnswer checkRefusal
+  facts-pass = ap (λ r. answerOf r 0 0) (sym (or-passed (planRefusal job starts) _ plan-passes) ∙ equal-passes (factsOf job starts) 0)
+
+  -- check passes with what fill wrote
+  pub filled-passes : (buffer : List ℕ) → checkAnswer job starts (take l (written (fillAnswer room job starts) (factsOf job starts) buffer)) ≡ Accepted 0 0
+  filled-passes buffer = rw (filled-words buffer) facts-pass

@@ -1,0 +1,78 @@
+-- Laws of the answers: rows one after the other, the comparison of two lists, and words written from the front. Assumes nothing.
+use mathlib.Core.Bool.{Bool, true, false}
+use mathlib.Core.List.{List, [], _∷_, _++_}
+use mathlib.Core.Path.{_≡_, refl, _∙_}
+use Prim.Native.Nat.{ℕ, suc, _+_, _≤_, _<_}
+use native.Mathlib.Nat.{zero-add}
+use native.Mathlib.Numerals.{add-one}
+use native.Mathlib.Omega.{arith}
+use borrow.Author.Tests.{eqb-true, eq-eqb, ne-eqb}
+use lib.Dec.{eqb}
+use lib.ListN.{length, getD, take, drop, drop-of-length-le}
+use lib.Seq.{sets, sets-eq, take-at, take-length}
+use Rattle.words.specs.Tests.{pick}
+use Rattle.words.proofs.Scan.{drop-next}
+use Rattle.answers.specs.declared.Refusal.{Refusal}
+use Rattle.answers.specs.Rows.{refusal, passed, orElse}
+use Rattle.answers.specs.Packed.{answerOf}
+use Rattle.theory.specs.Answers.{factsRefusal}
+
+-- a row that gives a number is the answer, and one that gives none leaves it to the next
+pub or-refused : (a b : Refusal) → (a .number ≡ 0 → ⊥) → a ≡ orElse a b
+or-refused a b h = rw (ne-eqb (a .number) 0 h)
+
+pub or-passed : (a b : Refusal) → a .number ≡ 0 → b ≡ orElse a b
+or-passed a b h = rw (eq-eqb (a .number) 0 h)
+
+-- a refusal has no length and no count
+pub answer-refused : (r : Refusal) (l c l' c' : ℕ) → (r .number ≡ 0 → ⊥) → answerOf r l c ≡ answerOf r l' c'
+answer-refused r l c l' c' h = rw (ne-eqb (r .number) 0 h)
+
+-- the comparison at position i: both have a word there, or a list ends
+module _ (given wanted : List ℕ) (i : ℕ) where
+  pub facts-same : i < length given → i < length wanted → getD given i 0 ≡ getD wanted i 0
+      → factsRefusal (drop i given) (drop i wanted) i ≡ factsRefusal (drop (i + 1) given) (drop (i + 1) wanted) (i + 1)
+  unfolding factsRefusal
+  facts-same g w e = rw (drop-next given i g, drop-next wanted i w, eq-eqb _ _ e, add-one i)
+
+  pub facts-differ : i < length given → i < length wanted → (getD given i 0 ≡ getD wanted i 0 → ⊥)
+      → factsRefusal (drop i given) (drop i wanted) i ≡ refusal 11 i
+  unfolding factsRefusal
+  facts-differ g w e = rw (drop-next given i g, drop-next wanted i w, ne-eqb _ _ e)
+
+  pub wanted-ends : i < length given → length wanted ≤ i → factsRefusal (drop i given) (drop i wanted) i ≡ refusal 11 i
+  unfolding factsRefusal
+  wanted-ends g w = rw (drop-next given i g, drop-of-length-le wanted w)
+
+  pub given-ends : length given ≤ i → i < length wanted → factsRefusal (drop i given) (drop i wanted) i ≡ refusal 11 i
+  unfolding factsRefusal
+  given-ends g w = rw (drop-of-length-le given g, drop-next wanted i w)
+
+  pub both-end : length given ≤ i → length wanted ≤ i → factsRefusal (drop i given) (drop i wanted) i ≡ passed
+  unfolding factsRefusal
+  both-end g w = rw (drop-of-length-le given g, drop-of-length-le wanted w)
+
+-- row 11 passes exactly the equal list
+pub equal-passes : (facts : List ℕ) (i : ℕ) → factsRefusal facts facts i ≡ passed
+unfolding factsRefusal
+equal-passes [] i = refl
+equal-passes (a ∷ facts) i = rw (eq-eqb a a refl) (equal-passes facts (suc i))
+
+pub passes-equal : (given wanted : List ℕ) (i : ℕ) → factsRefusal given wanted i .number ≡ 0 → given ≡ wanted
+unfolding factsRefusal
+passes-equal [] [] i e = refl
+passes-equal [] (b ∷ wanted) i e = absurd (omega arith)
+passes-equal (a ∷ given) [] i e = absurd (omega arith)
+passes-equal (a ∷ given) (b ∷ wanted) i e = cases (eqb a b) refl e (passes-equal given wanted (suc i))
+  where
+    cases : (t : Bool) → eqb a b ≡ t → pick t (factsRefusal given wanted (suc i)) (refusal 11 i) .number ≡ 0
+        → (factsRefusal given wanted (suc i) .number ≡ 0 → given ≡ wanted) → a ∷ given ≡ b ∷ wanted
+    cases true t e ih = rw (eqb-true a b t, ih e)
+    cases false t e ih = absurd (omega arith)
+
+-- words written from the front
+pub sets-front : (l vs : List ℕ) → length vs ≤ length l → sets l 0 vs ≡ take (length vs) vs ++ drop (length vs) l
+sets-front l vs h = sets-eq vs l 0 (rw zero-add h) ∙ rw (zero-add, take-length)
+
+pub take-front : (l vs : List ℕ) (n : ℕ) → length vs ≤ length l → n ≡ length vs → take n (sets l 0 vs) ≡ vs
+take-front l vs n h e = rw (e, sets-front l vs h, take-length) (take-at vs _ (length vs) refl)

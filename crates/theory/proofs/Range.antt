@@ -1,0 +1,71 @@
+-- Whatever the lists of 32-bit words, of any length, the answers of check and fill fit their fields. Assumes nothing.
+use mathlib.Core.Bool.{Bool, true, false}
+use mathlib.Core.List.{List, [], _∷_}
+use mathlib.Core.Path.{_≡_, refl}
+use Prim.Native.Nat.{ℕ, suc, _+_, _^_, _≤_, _<_}
+use native.Mathlib.Omega.{arith}
+use borrow.Author.Tests.{eqb-true}
+use lib.Dec.{eqb, ltb}
+use lib.ListN.{length, getD}
+use Rattle.words.specs.Tests.{pick}
+use Rattle.answers.specs.declared.Refusal.{Refusal}
+use Rattle.answers.specs.declared.Answer.the-variants.{Accepted, Refused}
+use Rattle.answers.specs.Rows.{orElse}
+use Rattle.answers.specs.Packed.{answerOf, InRange}
+use Rattle.answers.proofs.Rows.{or-none}
+use Rattle.answers.proofs.Range.{Fitting, pick-fits, refusal-fits, passed-fits, or-fits, row-fits, answer-fits}
+use Rattle.job.specs.Refusal.{jobRefusal}
+use Rattle.job.proofs.WellFormed.{well-formed}
+use Rattle.job.proofs.Range.{job-fits}
+use Rattle.facts.specs.Facts.{factsOf}
+use Rattle.facts.proofs.Lists.{facts-fit}
+use Rattle.starts.specs.Rows.{startsRefusal}
+use Rattle.starts.proofs.Range.{starts-fit}
+use Rattle.theory.specs.Answers.{bufferRefusal, planRefusal, factsRefusal, checkRefusal, fillRefusal, checkAnswer, fillAnswer}
+
+-- a second row that fits only where it is reached
+next-fits : (a b : Refusal) → Fitting a → (a .number ≡ 0 → Fitting b) → Fitting (orElse a b)
+next-fits a b h l = cases (eqb (a .number) 0) refl
+  where
+    cases : (t : Bool) → eqb (a .number) 0 ≡ t → Fitting (pick t b a)
+    cases true e = l (eqb-true (a .number) 0 e)
+    cases false e = h
+
+differ-fits : (given wanted : List ℕ) (i : ℕ) → i + length wanted ≤ 4096 → Fitting (factsRefusal given wanted i)
+unfolding factsRefusal
+differ-fits [] [] i l = passed-fits
+differ-fits [] (b ∷ wanted) i l = refusal-fits (omega arith) (omega arith)
+differ-fits (a ∷ given) [] i l = refusal-fits (omega arith) (omega arith)
+differ-fits (a ∷ given) (b ∷ wanted) i l = pick-fits (eqb a b) (differ-fits given wanted (suc i) (omega arith)) (refusal-fits (omega arith) (omega arith))
+
+-- an accepted answer's length is asked about only where it is accepted
+length-fits : (r : Refusal) (l : ℕ) → Fitting r → (r .number ≡ 0 → l ≤ 4096) → InRange (answerOf r l 0)
+length-fits r l h few = cases (eqb (r .number) 0) refl
+  where
+    cases : (t : Bool) → eqb (r .number) 0 ≡ t → InRange (pick t (Accepted l 0) (Refused (r .number) (r .position) 0))
+    cases true e = omega (arith, few (eqb-true (r .number) 0 e))
+    cases false e = omega (arith, h)
+
+-- a plan that passes rows 1 to 10 has at most 4,096 facts
+few-facts : (job starts : List ℕ) → planRefusal job starts .number ≡ 0 → length (factsOf job starts) ≤ 4096
+unfolding planRefusal
+few-facts job starts e = facts-fit job starts (well-formed job (or-none (jobRefusal job) (startsRefusal job starts) e .0))
+
+module _ (job starts : List ℕ) (words : (i : ℕ) → getD starts i 0 < 2 ^ 32) where
+  plan-fits : Fitting (planRefusal job starts)
+  unfolding planRefusal
+  plan-fits = or-fits (jobRefusal job) (startsRefusal job starts) (job-fits job) (starts-fit job starts words)
+
+  pub check-range : (facts : List ℕ) → InRange (checkAnswer job starts facts)
+  unfolding checkAnswer checkRefusal
+  check-range facts =
+      answer-fits _ 0 0
+      (next-fits (planRefusal job starts) (factsRefusal facts (factsOf job starts) 0) plan-fits
+      (λ e. differ-fits facts (factsOf job starts) 0 (omega (arith, few-facts job starts e))))
+      (omega arith) (omega arith)
+
+  pub fill-range : (room : ℕ) → InRange (fillAnswer room job starts)
+  unfolding fillAnswer fillRefusal
+  fill-range room =
+      length-fits _ _ (or-fits (bufferRefusal room) (planRefusal job starts) (row-fits (ltb room 4096) 12 0 (omega arith) (omega arith)) plan-fits)
+      (λ e. few-facts job starts (or-none (bufferRefusal room) (planRefusal job starts) e .1))

@@ -1,0 +1,70 @@
+-- `theory::compare_facts` meets its contract. The invariant: the lists are equal below `i`. Assumes nothing.
+use mathlib.Core.Path.{_≡_, refl, sym, _∙_}
+use Prim.Native.Nat.{ℕ, _≤_, _-_}
+use lib.ListN.{length, drop}
+use Rattle.theory.specs.Answers.{factsRefusal}
+use Rattle.theory.proofs.Laws.{facts-same, facts-differ, wanted-ends, given-ends, both-end}
+use native.Mathlib.Omega.{arith}
+use Rattle.theory.proofs.compare_facts.Statement.{statement}
+use Rattle.theory.proofs.compare_facts.Tie as tie
+
+abbrev Inv-loop : tie.InvT-loop
+Inv-loop given wanted i₀ i = (i ≤ length given) × (factsRefusal given wanted 0 ≡ factsRefusal (drop i given) (drop i wanted) i)
+
+abbrev μ-loop : tie.MeasureT-loop
+μ-loop given wanted i₀ i = length given - i
+
+loop-holds : tie.Need-loop-holds Inv-loop μ-loop
+loop-holds c = (omega arith, refl)
+
+returns : tie.Need-returns Inv-loop μ-loop
+returns c = sym (c .before .before .loop .inv .1 ∙ wanted-ends _ _ _ (c .before .loop-test .taken) (c .if1 .taken))
+
+mul-if2 : tie.Need-mul-if2 Inv-loop μ-loop
+mul-if2 c = omega arith
+
+shared-slice-read-if2 : tie.Need-shared-slice-read-if2 Inv-loop μ-loop
+shared-slice-read-if2 c = omega arith
+
+mul-if2-2 : tie.Need-mul-if2-2 Inv-loop μ-loop
+mul-if2-2 c = omega arith
+
+shared-slice-read-if2-2 : tie.Need-shared-slice-read-if2-2 Inv-loop μ-loop
+shared-slice-read-if2-2 c = omega arith
+
+returns-2 : tie.Need-returns-2 Inv-loop μ-loop
+returns-2 c = sym (c .before .before .before .before .before .loop .inv .1 ∙ facts-differ _ _ _ (c .before .before .before .before .loop-test .taken) (c .before .before .before .if1 .left) (c .if2 .taken))
+
+add-i : tie.Need-add-i Inv-loop μ-loop
+add-i c = omega arith
+
+loop-less : tie.Need-loop-less Inv-loop μ-loop
+loop-less c = omega arith
+
+loop-again : tie.Need-loop-again Inv-loop μ-loop
+loop-again c = (omega arith, c .before .before .before .before .before .loop .inv .1 ∙ facts-same _ _ _ (c .before .before .before .before .loop-test .taken) (c .before .before .before .if1 .left) (c .if2 .left))
+
+returns-3 : tie.Need-returns-3 Inv-loop μ-loop
+returns-3 c = sym (c .before .before .loop .inv .1 ∙ given-ends _ _ _ (c .before .loop-test .left) (c .if3 .taken))
+
+returns-4 : tie.Need-returns-4 Inv-loop μ-loop
+returns-4 c = sym (c .before .before .loop .inv .1 ∙ both-end _ _ _ (c .before .loop-test .left) (c .if3 .left))
+
+pub compare-facts-spec : {M : Type 1} → statement M
+compare-facts-spec =
+    tie.close
+    (tie.spec
+    Inv-loop
+    μ-loop
+    loop-holds
+    returns
+    mul-if2
+    shared-slice-read-if2
+    mul-if2-2
+    shared-slice-read-if2-2
+    returns-2
+    add-i
+    loop-less
+    loop-again
+    returns-3
+    returns-4)

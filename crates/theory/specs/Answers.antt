@@ -1,0 +1,48 @@
+-- The answers of check and fill for any lists of words, row by row, and what fill leaves in the lent buffer.
+use mathlib.Core.List.{List, [], _∷_, _++_}
+use Prim.Native.Nat.{ℕ, suc}
+use lib.Dec.{eqb, ltb}
+use lib.ListN.{length, take, drop}
+use Rattle.words.specs.Tests.{pick}
+use Rattle.answers.specs.declared.Refusal.{Refusal}
+use Rattle.answers.specs.declared.Answer.{Answer}
+use Rattle.answers.specs.declared.Answer.the-variants.{Accepted, Refused}
+use Rattle.answers.specs.Rows.{refusal, passed, row, orElse}
+use Rattle.answers.specs.Packed.{answerOf}
+use Rattle.job.specs.Refusal.{jobRefusal}
+use Rattle.facts.specs.Facts.{factsOf}
+use Rattle.starts.specs.Rows.{startsRefusal}
+
+-- row 12: the lent buffer is shorter than 4,096 words
+abbrev pub bufferRefusal : ℕ → Refusal
+bufferRefusal room = row (ltb room 4096) 12 0
+
+-- rows 1 to 10
+unfoldable pub planRefusal : List ℕ → List ℕ → Refusal
+planRefusal job starts = orElse (jobRefusal job) (startsRefusal job starts)
+
+-- row 11, on what is left of the two lists at position i: there they differ, or one of them ends
+unfoldable pub factsRefusal : List ℕ → List ℕ → ℕ → Refusal
+factsRefusal [] [] i = passed
+factsRefusal [] (b ∷ ys) i = refusal 11 i
+factsRefusal (a ∷ xs) [] i = refusal 11 i
+factsRefusal (a ∷ xs) (b ∷ ys) i = pick (eqb a b) (factsRefusal xs ys (suc i)) (refusal 11 i)
+
+-- check runs rows 1 to 11, fill rows 12 and 1 to 10
+unfoldable pub checkRefusal : List ℕ → List ℕ → List ℕ → Refusal
+checkRefusal job starts facts = orElse (planRefusal job starts) (factsRefusal facts (factsOf job starts) 0)
+
+unfoldable pub fillRefusal : ℕ → List ℕ → List ℕ → Refusal
+fillRefusal room job starts = orElse (bufferRefusal room) (planRefusal job starts)
+
+-- a success of check has length 0, one of fill the number of facts
+unfoldable pub checkAnswer : List ℕ → List ℕ → List ℕ → Answer
+checkAnswer job starts facts = answerOf (checkRefusal job starts facts) 0 0
+
+unfoldable pub fillAnswer : ℕ → List ℕ → List ℕ → Answer
+fillAnswer room job starts = answerOf (fillRefusal room job starts) (length (factsOf job starts)) 0
+
+-- the buffer after a call with that answer: its first words written, the rest as it was; a refusal changes no word
+abbrev pub written : Answer → List ℕ → List ℕ → List ℕ
+written (Accepted l c) words buffer = take l words ++ drop l buffer
+written (Refused n p c) words buffer = buffer
