@@ -1,4 +1,4 @@
-//! Links the proved archive: `libjob_host.a`, or `libplanreader.a` with the feature `plan`.
+//! Links the proved archive, `libplanreader.a`.
 
 use std::env;
 use std::path::PathBuf;
@@ -6,14 +6,10 @@ use std::path::PathBuf;
 fn main() {
     println!("cargo:rerun-if-env-changed=PLANREADER_LIB_DIR");
     println!("cargo:rerun-if-changed=build.rs");
-    let name = match env::var_os("CARGO_FEATURE_PLAN") {
-        Some(_) => "planreader",
-        None => "job_host",
-    };
     let folder = archive_folder();
-    println!("cargo:rerun-if-changed={}", folder.join(format!("lib{name}.a")).display());
+    println!("cargo:rerun-if-changed={}", folder.join("libplanreader.a").display());
     println!("cargo:rustc-link-search=native={}", folder.display());
-    println!("cargo:rustc-link-lib=static={name}");
+    println!("cargo:rustc-link-lib=static=planreader");
 }
 
 fn archive_folder() -> PathBuf {

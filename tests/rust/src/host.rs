@@ -2,12 +2,6 @@
 
 use crate::checker::answer::Answer;
 
-#[cfg(not(feature = "plan"))]
-extern "C" {
-    fn job_answer(job: *const u32, len: usize) -> u64;
-}
-
-#[cfg(feature = "plan")]
 extern "C" {
     #[link_name = "check"]
     fn c_check(
@@ -44,15 +38,8 @@ extern "C" {
     ) -> u64;
 }
 
-/// The answer of the job rows alone: 1 to 5 with its position, or 0 for a well-formed job.
-#[cfg(not(feature = "plan"))]
-pub fn job_rows(job: &[u32]) -> Answer {
-    // SAFETY: the pointer and the length are those of one live slice, which is only read.
-    Answer::unpack(unsafe { job_answer(job.as_ptr(), job.len()) })
-}
-
-/// The same through check without starts and facts: a well-formed job gives 0, or a number of a later row.
-#[cfg(feature = "plan")]
+/// The answer of the job rows, through check without starts and facts: 1 to 5 with its position, or 0 for a well-formed job, whatever
+/// the later rows say.
 pub fn job_rows(job: &[u32]) -> Answer {
     let answer = check(job, &[], &[]);
     match answer.number {
@@ -61,7 +48,6 @@ pub fn job_rows(job: &[u32]) -> Answer {
     }
 }
 
-#[cfg(feature = "plan")]
 pub fn check(job: &[u32], starts: &[u32], facts: &[u32]) -> Answer {
     // SAFETY: each pointer and length are those of one live slice, which is only read.
     Answer::unpack(unsafe {
@@ -69,7 +55,6 @@ pub fn check(job: &[u32], starts: &[u32], facts: &[u32]) -> Answer {
     })
 }
 
-#[cfg(feature = "plan")]
 pub fn fill(job: &[u32], starts: &[u32], buffer: &mut [u32]) -> Answer {
     // SAFETY: each pointer and length are those of one live slice; the buffer is lent for writing.
     Answer::unpack(unsafe {

@@ -9,6 +9,7 @@ use planreader_tests::vectors;
 
 const SEED: u64 = 0x5e3a_1071_0003;
 const TINY_SEED: u64 = 0x5e3a_1071_0004;
+const CROWDED_SEED: u64 = 0x5e3a_1071_0006;
 
 #[test]
 fn generated_finds_get_the_checker_s_outcomes() {
@@ -17,6 +18,14 @@ fn generated_finds_get_the_checker_s_outcomes() {
     assert!(report.cases >= 50_000);
     assert_eq!(report.differences, 0);
     assert_eq!(report.tally.missing(&find::possible()), [], "outcomes and situations that no case had");
+}
+
+#[test]
+fn crowded_sets_get_the_checker_s_outcomes() {
+    let report = find::run_crowded(CROWDED_SEED, 1_000, &host::find);
+    report.print(CROWDED_SEED, "crowded sets", &find::COLUMNS);
+    assert_eq!(report.differences, 0);
+    assert!(report.tally.count("find", "0") > 50 && report.tally.count("find", "13") > 50);
 }
 
 #[test]

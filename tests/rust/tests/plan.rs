@@ -1,5 +1,4 @@
 //! The archive's check and fill against the checker written apart.
-#![cfg(feature = "plan")]
 
 use planreader_tests::checker::answer::Answer;
 use planreader_tests::compare::plan::{self, Calls};

@@ -15,6 +15,9 @@ pub type Find = dyn Fn(&[u32], &[u32], &[u32], &mut [u32]) -> Answer;
 /// Task sets with more placements than this are left out of a run.
 const MOST_PLACEMENTS: usize = 300_000;
 
+/// The same for the few cases that are made crowded.
+const MOST_CROWDED: usize = 5_000_000;
+
 /// One run of so many cases.
 pub fn run(seed: u64, cases: usize, find: &Find) -> Report {
     let mut random = Random::new(seed);
@@ -34,6 +37,19 @@ pub fn run(seed: u64, cases: usize, find: &Find) -> Report {
     report
 }
 
+/// One run of so many cases with crowded sets.
+pub fn run_crowded(seed: u64, cases: usize, find: &Find) -> Report {
+    let mut random = Random::new(seed);
+    let mut report = Report::new();
+    while report.cases < cases {
+        let case = finds::crowded(&mut random);
+        let facts = calls::fill(&case.job, &case.starts, calls::LEAST_BUFFER).1;
+        let noise = random.words(calls::LEAST_BUFFER);
+        judge(&case, &facts, noise, MOST_CROWDED, find, &mut report);
+    }
+    report
+}
+
 /// The case as it is, or now and then with something that an earlier row refuses.
 fn find_case(random: &mut Random, case: &FindCase, find: &Find, report: &mut Report) {
     let mut case = case.clone();
@@ -47,13 +63,13 @@ fn find_case(random: &mut Random, case: &FindCase, find: &Find, report: &mut Rep
         _ => {}
     }
     let noise = random.words(length);
-    judge(&case, &facts, noise, find, report);
+    judge(&case, &facts, noise, MOST_PLACEMENTS, find, report);
 }
 
 /// One call with the buffer full of noise.
-fn judge(case: &FindCase, facts: &[u32], noise: Vec<u32>, find: &Find, report: &mut Report) {
+fn judge(case: &FindCase, facts: &[u32], noise: Vec<u32>, most: usize, find: &Find, report: &mut Report) {
     let FindCase { job, starts } = case;
-    let Some(outcome) = calls::find_within(job, starts, facts, noise.len(), MOST_PLACEMENTS) else {
+    let Some(outcome) = calls::find_within(job, starts, facts, noise.len(), most) else {
         return;
     };
     let mut buffer = noise.clone();
@@ -145,6 +161,14 @@ pub mod tests {
         report.print(SEED, "finds", &COLUMNS);
         assert_eq!(report.differences, 0);
         assert_eq!(report.tally.missing(&possible()), []);
+    }
+
+    #[test]
+    fn crowded_sets_read_and_do_not_read() {
+        let report = run_crowded(SEED, 60, &|_, _, _, _| Answer::success(0, 0));
+        report.print(SEED, "crowded sets", &COLUMNS);
+        assert!(report.tally.count("find", "0") > 10 && report.tally.count("find", "13") > 10);
+        assert_eq!(report.differences, report.cases);
     }
 
     #[test]

@@ -40,6 +40,50 @@ pub fn arbitrary(random: &mut Random, size: Size) -> FindCase {
     FindCase { job: draft.words(), starts }
 }
 
+/// A root set of three or four members that each read between many moments, with conditions drawn at random.
+pub fn crowded(random: &mut Random) -> FindCase {
+    let last = random.between(3, 8);
+    let (mut draft, starts) = plan_with_formulas(random, last);
+    draft.nodes.clear();
+    let members = random.between(3, 4);
+    let mut set = vec![words::node(8, 0, 0, 0, 0)];
+    for _ in 0..members {
+        set.push(words::member(add_wide(random, &mut draft)));
+    }
+    for _ in 0..*random.pick(&[0, 0, 1, 1, 2, 2, 3, 4, 8]) {
+        set.push(narrow_condition(random, draft.formulas.len(), members));
+    }
+    draft.nodes.push(set);
+    FindCase { job: draft.words(), starts }
+}
+
+/// Two tests with a wide window between them; the first formula always holds.
+fn add_wide(random: &mut Random, draft: &mut Draft) -> usize {
+    let x = draft.nodes.len();
+    for _ in 0..2 {
+        let formula = if random.chance(85) { 0 } else { random.below(draft.formulas.len()) };
+        draft.nodes.push(vec![words::node(1, formula, 0, 0, 0)]);
+    }
+    let m = random.below(4).saturating_sub(2);
+    let form = *random.pick(&[6, 7]);
+    draft.nodes.push(vec![words::node(form, x, x + 1, m, m + random.between(1, 8))]);
+    x + 2
+}
+
+/// A condition with M and N so low that they matter in few moments.
+fn narrow_condition(random: &mut Random, formulas: usize, members: usize) -> u32 {
+    let m = random.below(3);
+    let n = m + random.below(4);
+    let i = random.below(members);
+    let j = (i + random.between(1, members)) % members;
+    let formula = if random.chance(50) { 0 } else { random.below(formulas) };
+    match random.below(5) {
+        form @ (0 | 1) => words::condition(form, 0, i, j, m, n),
+        form @ (2 | 3) => words::condition(form, formula, i, 0, m, n),
+        form => words::condition(form, formula, i, j, m, random.below(4)),
+    }
+}
+
 /// The case with some fields or starts changed, still well formed and lawful.
 pub fn perturbed(random: &mut Random, case: &FindCase) -> FindCase {
     let mut case = case.clone();

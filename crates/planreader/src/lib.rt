@@ -1,0 +1,24 @@
+// The calls of the host in C. Each answers one 64-bit number: refusal number, position, length and count.
+ghost use mathlib.Core.Path.{_≡_};
+ghost use lib.ListN.{length};
+ghost use Rattle.answers.specs.Packed.{packed};
+ghost use Rattle.facts.specs.Facts.{factsOf};
+ghost use Rattle.theory.specs.Answers.{checkAnswer, fillAnswer, written};
+use answers::pack;
+use theory::check_plan;
+use theory::fill_plan;
+
+#[no_mangle]
+pub extern "C" fn check(job: &[u32], starts: &[u32], facts: &[u32]) -> u64
+    ensures { λ r. ⌜ r ≡ packed (checkAnswer (now (job .entry)) (now (starts .entry)) (now (facts .entry))) ⌝ }
+{
+    pack(check_plan(job, starts, facts))
+}
+
+#[no_mangle]
+pub extern "C" fn fill(job: &[u32], starts: &[u32], buffer: &mut [u32]) -> u64
+    ensures answer { λ r. ⌜ r ≡ packed (fillAnswer (length (now (buffer .entry))) (now (job .entry)) (now (starts .entry))) ⌝ }
+    ensures words { λ _. ⌜ now (buffer .exit) ≡ written (fillAnswer (length (now (buffer .entry))) (now (job .entry)) (now (starts .entry))) (factsOf (now (job .entry)) (now (starts .entry))) (now (buffer .entry)) ⌝ }
+{
+    pack(fill_plan(job, starts, buffer))
+}

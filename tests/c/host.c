@@ -1,0 +1,96 @@
+/* A host in C: calls check and fill, holds what each leaves in its buffer, and measures the stack that they use.
+ * Prints each fault, and exits with 1 if there is one. */
+#define _POSIX_C_SOURCE 200809L
+#include "planreader.h"
+#include "plan.h"
+#include <pthread.h>
+#include <stdio.h>
+#include <stdlib.h>
+#include <string.h>
+
+static int faults;
+
+static void expect(const char *what, uint64_t answer, unsigned number, unsigned position, unsigned length)
+{
+    if (planreader_number(answer) != number || planreader_position(answer) != position || planreader_length(answer) != length || planreader_count(answer) != 0) {
+        printf("%s: %u at %u, length %u, count %u\n", what, planreader_number(answer), planreader_position(answer), planreader_length(answer), planreader_count(answer));
+        faults++;
+    }
+}
+
+static void same(const char *what, const uint32_t *a, const uint32_t *b, size_t words)
+{
+    if (memcmp(a, b, words * sizeof *a)) {
+        printf("%s\n", what);
+        faults++;
+    }
+}
+
+/* The scope's example: one fluent, initially false, and one action of one moment that makes it true. */
+static const uint32_t job[] = {0x10010101u, 0x20000040u, 0x30000001u, 0x40000080u, 0x60000000u};
+static const uint32_t starts[] = {0x90000000u};
+static const uint32_t facts[] = {0xa0000001u, 0xa0000080u};
+static uint32_t buffer[5000], before[5000];
+
+static void small(void)
+{
+    const uint32_t late[] = {0x90000040u}, other[] = {0xa0000000u};
+    for (size_t i = 0; i < 5000; i++) before[i] = buffer[i] = 7u * (uint32_t)i;
+    expect("check, all empty", check(NULL, 0, NULL, 0, NULL, 0), 1, 0, 0);
+    expect("check, passes", check(job, 5, starts, 1, facts, 2), 0, 0, 0);
+    expect("check, no facts", check(job, 5, starts, 1, NULL, 0), 11, 0, 0);
+    expect("check, a fact missing", check(job, 5, starts, 1, facts, 1), 11, 1, 0);
+    expect("check, one list thrice", check(job, 5, job, 5, job, 5), 6, 0, 0);
+    expect("check, start of kind 10", check(job, 5, other, 1, facts, 2), 6, 0, 0);
+    expect("check, finish after the last moment", check(job, 5, late, 1, facts, 2), 7, 0, 0);
+    expect("fill, no buffer", fill(job, 5, starts, 1, NULL, 0), 12, 0, 0);
+    expect("fill, short buffer", fill(job, 5, starts, 1, buffer, 4095), 12, 0, 0);
+    expect("fill, bad job", fill(job, 4, starts, 1, buffer, 5000), 5, 0, 0);
+    expect("fill, bad start", fill(job, 5, late, 1, buffer, 5000), 7, 0, 0);
+    same("a refusal changed the buffer", buffer, before, 5000);
+    expect("fill", fill(job, 5, starts, 1, buffer, 4096), 0, 0, 2);
+    same("fill wrote other facts", buffer, facts, 2);
+    same("fill wrote after the facts", buffer + 2, before + 2, 4998);
+}
+
+static uint32_t large_job[JOB_WORDS], large_starts[STARTS], large_facts[4096];
+
+static void *large(void *unused)
+{
+    (void)unused;
+    uint64_t filled = fill(large_job, JOB_WORDS, large_starts, STARTS, large_facts, 4096);
+    expect("fill, large", filled, 0, 0, 4096);
+    expect("check, large", check(large_job, JOB_WORDS, large_starts, STARTS, large_facts, 4096), 0, 0, 0);
+    return NULL;
+}
+
+/* Runs the large plan on a painted stack, and looks how far the paint is gone. */
+static void measure(void)
+{
+    enum { SIZE = 1 << 20 };
+    unsigned char *stack;
+    pthread_attr_t attr;
+    pthread_t thread;
+    size_t left = 0;
+    if (posix_memalign((void **)&stack, 4096, SIZE)) exit(2);
+    memset(stack, 0xa5, SIZE);
+    pthread_attr_init(&attr);
+    if (pthread_attr_setstack(&attr, stack, SIZE) || pthread_create(&thread, &attr, large, NULL)) exit(2);
+    pthread_join(thread, NULL);
+    while (left < SIZE && stack[left] == 0xa5) left++;
+    printf("stack used: %zu bytes (of the header's %u, with the thread's own)\n", SIZE - left, PLANREADER_STACK);
+    if (SIZE - left > PLANREADER_STACK) {
+        printf("more than the header says\n");
+        faults++;
+    }
+    free(stack);
+}
+
+int main(void)
+{
+    small();
+    make_plan(large_job, large_starts);
+    measure();
+    printf("c host: %s\n", faults ? "FAILED" : "ok");
+    return faults != 0;
+}
