@@ -1,0 +1,283 @@
+-- The steps of the writers, at a node p that is to be written from b to e: that each call may be made, and that the pieces make a reading.
+-- Nothing here is about code. Assumes nothing.
+use Prim.Native.Nat.{ℕ, zero, suc, _+_, _-_, _≤_, _<_}
+use mathlib.Core.Path.{_≡_, refl, sym, ap, ap₂, _∙_}
+use mathlib.Core.Bool.{true, false}
+use mathlib.Core.Logic.{by-cases}
+use mathlib.Core.List.{List, [], _∷_, _++_, append-assoc, append-nil}
+use native.Mathlib.Decide.{ℕ-discrete}
+use native.Mathlib.Numerals.{add-one}
+use native.Mathlib.Omega.{arith}
+use lib.Dec.{eqb}
+use lib.ListN.{length, getD, length-append}
+use borrow.Author.Tests.{eq-eqb, ne-eqb}
+use Rattle.words.specs.Tests.{pick}
+use Rattle.words.specs.Fields.{readingWord}
+use Rattle.words.proofs.Choices.{true-false}
+use Rattle.theory.specs.Trajectory.{Trajectory}
+use Rattle.theory.specs.Procedure.{Procedure}
+use Rattle.reading.specs.Forms.{Form, While, formNumber, formAt, fieldY}
+use Rattle.reading.specs.Reading.{whole, passes, joined, Reading, act, test, sequence, first, second, taken, otherwise, loop, done, pass, startWindow, endWindow, set}
+use Rattle.reading.specs.Table.{InTable}
+use Rattle.reading.proofs.Step.{onward}
+use Rattle.lengths.specs.Bound.{isWhile}
+use Rattle.parts.specs.declared.Parts.{Parts}
+use Rattle.parts.specs.Parts.{Prepared, Chosen, nodeOf, beginOf, endOf}
+use Rattle.parts.specs.Search.{CutAt}
+use Rattle.parts.proofs.Choice.{end-last, moment}
+use Rattle.extract.specs.Contract.{Room, Full, Rest, Writable, Written}
+use Rattle.extract.proofs.Written.{written-none, written-then, written-map}
+
+-- ---- readings taken apart
+
+pub nonempty : {P : Procedure} {T : Trajectory} {p b e : ℕ} {ws : List ℕ} → Reading P T whole p b e ws → 1 ≤ length ws
+nonempty (act f s d) = omega arith
+nonempty (test f s d) = omega arith
+nonempty (sequence f x y) = omega arith
+nonempty (first f x) = omega arith
+nonempty (second f y) = omega arith
+nonempty (taken f t y) = omega arith
+nonempty (otherwise f t y) = omega arith
+nonempty (loop f r) = omega arith
+nonempty (startWindow f x y g h d) = omega arith
+nonempty (endWindow f x y g h) = omega arith
+nonempty (set f rs pl) = omega arith
+
+-- a form is not another
+other : {A : Type 0} {k l : Form} (j : Form) → j ≡ k → j ≡ l → isWhile k ≡ false → isWhile l ≡ true → A
+other j f g h t = absurd (true-false (sym t ∙ ap isWhile (sym g ∙ f) ∙ h))
+
+-- the reading of a loop is its word and its passes
+pub loop-of : {P : Procedure} {T : Trajectory} {p b e : ℕ} {ws : List ℕ} → formAt P p ≡ While → Reading P T whole p b e ws
+    → (us : List ℕ) × Reading P T passes p b e us
+loop-of {P} {p = p} g (act f s d) = other (formAt P p) f g refl refl
+loop-of {P} {p = p} g (test f s d) = other (formAt P p) f g refl refl
+loop-of {P} {p = p} g (sequence f x y) = other (formAt P p) f g refl refl
+loop-of {P} {p = p} g (first f x) = other (formAt P p) f g refl refl
+loop-of {P} {p = p} g (second f y) = other (formAt P p) f g refl refl
+loop-of {P} {p = p} g (taken f t y) = other (formAt P p) f g refl refl
+loop-of {P} {p = p} g (otherwise f t y) = other (formAt P p) f g refl refl
+loop-of g (loop f r) = (_, r)
+loop-of {P} {p = p} g (startWindow f x y l h d) = other (formAt P p) f g refl refl
+loop-of {P} {p = p} g (endWindow f x y l h) = other (formAt P p) f g refl refl
+loop-of {P} {p = p} g (set f rs pl) = other (formAt P p) f g refl refl
+
+pub no-pass : {P : Procedure} {T : Trajectory} {p b e : ℕ} {ws : List ℕ} → e ≤ b → Reading P T passes p b e ws → ws ≡ []
+no-pass l (done t d) = refl
+no-pass l (pass t h x r) = let g = onward r in absurd (omega arith)
+
+pub first-pass : {P : Procedure} {T : Trajectory} {p b e : ℕ} {ws : List ℕ} → b < e → Reading P T passes p b e ws
+    → (m : ℕ) × (us : List ℕ) × (vs : List ℕ) × (b < m) × Reading P T whole (fieldY P p) b m us × Reading P T passes p m e vs
+first-pass l (done t d) = absurd (omega arith)
+first-pass l (pass t h x r) = (_, _, _, h, x, r)
+
+pub holds-at : {P : Procedure} {T : Trajectory} {p b e : ℕ} {ws : List ℕ} → b < e → Reading P T passes p b e ws
+    → (m : ℕ) (us vs : List ℕ) → b < m → Reading P T whole (fieldY P p) b m us → Reading P T passes p m e vs → Reading P T passes p b e (us ++ vs)
+holds-at l (done t d) m us vs h x r = absurd (omega arith)
+holds-at l (pass t g y s) m us vs h x r = pass t h x r
+
+-- ---- the words of the parts so far
+
+-- ws are readings of the first i parts, one after the other
+pub record Done (P : Procedure) (T : Trajectory) (r : Parts) (i : ℕ) (ws : List ℕ) : Type 0 where
+  pub lists : ℕ → List ℕ
+  pub reads : (j : ℕ) → j < i → Reading P T whole (nodeOf r j) (beginOf r j) (endOf r j) (lists j)
+  pub words : ws ≡ joined lists i
+
+joined-cong : (us vs : ℕ → List ℕ) (k : ℕ) → ((j : ℕ) → j < k → us j ≡ vs j) → joined us k ≡ joined vs k
+unfolding joined
+joined-cong us vs zero h = refl
+joined-cong us vs (suc k) h = ap₂ _++_ (joined-cong us vs k (λ j l. h j (omega arith))) (h k (omega arith))
+
+module _ {P : Procedure} {T : Trajectory} {r : Parts} where
+  pub done-none : Done P T r 0 []
+  unfolding joined
+  done-none = record { lists = λ j. []; reads = λ j l. absurd (omega arith); words = refl }
+
+  pub done-more : {i : ℕ} {ws us : List ℕ} → Done P T r i ws → Reading P T whole (nodeOf r i) (beginOf r i) (endOf r i) us → Done P T r (i + 1) (ws ++ us)
+  unfolding joined
+  done-more {i} {ws} {us} d x =
+      record {
+        lists = λ j. pick (eqb j i) us (d .lists j);
+        reads = λ j l. by-cases (ℕ-discrete j i) (λ q. rw (eq-eqb j i q, q) x) (λ q. rw (ne-eqb j i q) (d .reads j (omega arith)));
+        words = rw add-one (ap₂ _++_ (d .words ∙ joined-cong (d .lists) (λ j. pick (eqb j i) us (d .lists j)) i (λ j l. rw (ne-eqb j i (λ q. omega arith)) refl)) (rw (eq-eqb i i refl) refl));
+      }
+
+-- what the writer of a loop has done when it stands at m: what it wrote goes before any further passes, and the table says that there are such
+pub record Halfway (P : Procedure) (T : Trajectory) (table : List ℕ) (p b e : ℕ) (before : List ℕ) (at m : ℕ) (buf : List ℕ) (end : ℕ) : Type 0 where
+  pub written : Written (λ ws. (vs : List ℕ) → Reading P T passes p m e vs → Reading P T passes p b e (ws ++ vs)) before at buf end
+  pub begin : m ≤ T .last
+  pub ahead : InTable table p m e
+
+-- a longer buffer, or another name of its length
+pub resize : {P : Procedure} {T : Trajectory} {job : ℕ} {places sizes limits table : List ℕ} {p b e at size size′ : ℕ} {R : Procedure → Trajectory → ℕ → ℕ → ℕ → List ℕ → Type 0}
+    → size′ ≡ size → Writable R P T job places sizes limits table p b e at size → Writable R P T job places sizes limits table p b e at size′
+resize h s = rw h s
+
+module _ {P : Procedure} {T : Trajectory} {job : ℕ} {places sizes limits table : List ℕ} (s : Prepared P T job places sizes limits table) where
+  -- what the table says is read
+  read : {p b e : ℕ} → p < P .count → b ≤ T .last → InTable table p b e → (ws : List ℕ) × Reading P T whole p b e ws
+  read {p} {b} {e} l h t = s .found .right p b e l h .0 t .1
+
+  -- a lower node, of the right moments
+  child : {q c d at size : ℕ} → q < P .count → c ≤ T .last → InTable table q c d → Room (Reading P T whole q c d) at size
+      → Writable Full P T job places sizes limits table q c d at size
+  child l h t r = record { prepared = s; node = l; begin = h; found = t; room = r }
+
+-- nodes and moments are below 64, and the node's word is there
+module _ {P : Procedure} {T : Trajectory} {job : ℕ} {places sizes limits table : List ℕ} {p b e at size : ℕ} {R : Procedure → Trajectory → ℕ → ℕ → ℕ → List ℕ → Type 0}
+    (s : Writable R P T job places sizes limits table p b e at size) where
+  pub moments : (p < 64) × (b < 64) × (e < 64)
+  moments =
+      let few = s .prepared .ready .few in
+      let last = s .prepared .ready .moments in
+      let node = s .node in
+      let begin = s .begin in
+      let end = end-last (s .prepared) node begin (s .found) in
+      (omega arith, omega arith, omega arith)
+
+  pub place-inside : getD places p 0 < job
+  place-inside = let h = s .prepared .ready .inside p (s .node) in omega arith
+
+-- the form's number, of a loop
+pub while-number : (k : ℕ) → formNumber k ≡ While → k ≡ 5
+while-number zero e = absurd (true-false (sym (ap isWhile e)))
+while-number (suc zero) e = absurd (true-false (sym (ap isWhile e)))
+while-number (suc (suc zero)) e = absurd (true-false (sym (ap isWhile e)))
+while-number (suc (suc (suc zero))) e = absurd (true-false (sym (ap isWhile e)))
+while-number (suc (suc (suc (suc zero)))) e = absurd (true-false (sym (ap isWhile e)))
+while-number (suc (suc (suc (suc (suc zero))))) e = refl
+while-number (suc (suc (suc (suc (suc (suc zero)))))) e = absurd (true-false (sym (ap isWhile e)))
+while-number (suc (suc (suc (suc (suc (suc (suc zero))))))) e = absurd (true-false (sym (ap isWhile e)))
+while-number (suc (suc (suc (suc (suc (suc (suc (suc zero)))))))) e = absurd (true-false (sym (ap isWhile e)))
+while-number (suc (suc (suc (suc (suc (suc (suc (suc (suc k))))))))) e = absurd (true-false (sym (ap isWhile e)))
+
+-- ---- the node's own word
+
+module _ {P : Procedure} {T : Trajectory} {job : ℕ} {places sizes limits table : List ℕ} {p b e at size : ℕ}
+    (s : Writable Full P T job places sizes limits table p b e at size) where
+  pub has-room : at + 1 ≤ size
+  has-room =
+      let r = read (s .prepared) (s .node) (s .begin) (s .found) in
+      omega (arith, s .room (r .0) (r .1), nonempty (r .1))
+
+  pub headed : Writable Rest P T job places sizes limits table p b e (at + 1) size
+  headed = record { prepared = s .prepared; node = s .node; begin = s .begin; found = s .found; room = λ ws r. omega (arith, s .room (readingWord p b e ∷ ws) r) }
+
+module _ {P : Procedure} {T : Trajectory} {job : ℕ} {places sizes limits table : List ℕ} {p b e at size : ℕ}
+    (s : Writable Rest P T job places sizes limits table p b e at size) where
+  -- ---- parts
+
+  module _ {r : Parts} (c : Chosen P T table p b e r) where
+    whole-parts : {ws : List ℕ} → Done P T r (r .count) ws → Rest P T p b e ws
+    whole-parts d = rw (d .words) (c .reads (d .lists) (d .reads))
+
+    pub part-moments : (i : ℕ) → i < r .count → (beginOf r i < 64) × (endOf r i < 64)
+    part-moments i l =
+        let n = c .lower i l in
+        let m = s .node in
+        let last = s .prepared .ready .moments in
+        let begin = c .begin i l in
+        let end = end-last (s .prepared) {p = nodeOf r i} (omega arith) begin (c .found i l) in
+        (omega arith, omega arith)
+
+    -- the parts that are left can be read
+    complete : (k i : ℕ) {ws : List ℕ} → i + k ≡ r .count → Done P T r i ws → (vs : List ℕ) × Done P T r (r .count) (ws ++ vs)
+    complete zero i {ws} h d = let q : i ≡ r .count = omega arith in ([], rw append-nil (rw q at d))
+    complete (suc k) i {ws} h d =
+        let l : i < r .count = omega arith in
+        let n = c .lower i l in
+        let m = s .node in
+        let (us, x) = read (s .prepared) {p = nodeOf r i} (omega arith) (c .begin i l) (c .found i l) in
+        let (vs, y) = complete k (i + 1) (omega arith) (done-more d x) in
+        (us ++ vs, rw append-assoc at y)
+
+    module _ {before buf : List ℕ} {i end : ℕ} (l : i < r .count) (w : Written (Done P T r i) before at buf end) where
+      pub part-child : Writable Full P T job places sizes limits table (nodeOf r i) (beginOf r i) (endOf r i) end size
+      part-child =
+          let n = c .lower i l in
+          let m = s .node in
+          child (s .prepared) (omega arith) (c .begin i l) (c .found i l)
+          (λ us x. let (k, q) = left in
+          let (vs, y) = complete k (i + 1) (omega arith) (done-more (w .allowed) x) in
+          omega (arith, s .room _ (whole-parts y), w .ended, length-append (w .words ++ us) vs, length-append (w .words) us))
+        where
+          left : (k : ℕ) × (i + 1 + k ≡ r .count)
+          left = (r .count - (i + 1), omega arith)
+
+      pub part-more : {buf′ : List ℕ} {end′ : ℕ} → Written (Reading P T whole (nodeOf r i) (beginOf r i) (endOf r i)) buf end buf′ end′
+          → Written (Done P T r (i + 1)) before at buf′ end′
+      part-more x = written-then (λ ws us d y. done-more d y) w x
+
+    pub part-end : {before buf : List ℕ} {i end : ℕ} → i ≡ r .count → Written (Done P T r i) before at buf end → Written (Rest P T p b e) before at buf end
+    part-end {i = i} h w = written-map (λ ws d. whole-parts (rw h at d)) w
+
+  -- ---- passes
+
+  module _ (f : formAt P p ≡ While) where
+    pub body-lower : fieldY P p < p
+    body-lower = rw f at (s .prepared .ready .formed p (s .node))
+
+    body-node : fieldY P p < P .count
+    body-node = let l = body-lower in let m = s .node in omega arith
+
+    end : e ≤ T .last
+    end = end-last (s .prepared) (s .node) (s .begin) (s .found)
+
+    -- the passes from a moment on
+    from : {m : ℕ} → m ≤ T .last → InTable table p m e → (us : List ℕ) × Reading P T passes p m e us
+    from l t = loop-of f (read (s .prepared) (s .node) l t .1)
+
+    pub pass-start : (l : List ℕ) → Halfway P T table p b e l at b l at
+    pass-start l = record { written = written-none l at (λ vs r. r); begin = s .begin; ahead = s .found }
+
+    module _ {before buf : List ℕ} {m here : ℕ} (h : Halfway P T table p b e before at m buf here) where
+      pub pass-some : {y : ℕ} → y ≡ fieldY P p → m < e → (k : ℕ) × (i : ℕ) × CutAt table y p m e 0 0 (m + 1) k i
+      pass-some {y} q l =
+          let (us, r) = from (h .begin) (h .ahead) in
+          let (k, xs, vs, g, x, rest) = first-pass l r in
+          let late = onward rest in
+          let last = s .prepared .ready .moments in
+          let n = end in
+          let right = s .prepared .found .right in (
+            k,
+            k,
+            record {
+              after = omega arith;
+              end = omega arith;
+              early = omega arith;
+              late = omega arith;
+              begin = omega arith;
+              ends = rw q (right (fieldY P p) m k body-node (h .begin) .1 (omega arith, (xs, x)));
+              begins = right p k e (s .node) (omega arith) .1 (n, (_, loop f rest));
+            },
+          )
+
+      module _ {y k i : ℕ} (q : y ≡ fieldY P p) (l : m < e) (c : CutAt table y p m e 0 0 (m + 1) k i) where
+        same : i ≡ k
+        same = let a = c .early in let z = c .late in omega arith
+
+        rest-begin : k ≤ T .last
+        rest-begin = moment (s .prepared) (s .node) (s .begin) (s .found) p k e (c .end) (rw same at (c .begins))
+
+        longer : (ws us : List ℕ) → ((vs : List ℕ) → Reading P T passes p m e vs → Reading P T passes p b e (ws ++ vs)) → Reading P T whole y m k us
+            → (vs : List ℕ) → Reading P T passes p k e vs → Reading P T passes p b e ((ws ++ us) ++ vs)
+        longer ws us w x vs r =
+            let g = c .after in
+            rw append-assoc (w (us ++ vs) (holds-at l (from (h .begin) (h .ahead) .1) k us vs (omega arith) (rw q at x) r))
+
+        pub pass-child : Writable Full P T job places sizes limits table y m k here size
+        pass-child =
+            child (s .prepared) (rw q body-node) (h .begin) (c .ends)
+            (λ us x. let w = h .written in
+            let (vs, r) = from rest-begin (rw same at (c .begins)) in
+            omega (arith, s .room _ (loop f (longer (w .words) us (w .allowed) x vs r)), w .ended, length-append (w .words ++ us) vs, length-append (w .words) us))
+
+        pub pass-more : {buf′ : List ℕ} {here′ : ℕ} → Written (Reading P T whole y m k) buf here buf′ here′ → Halfway P T table p b e before at k buf′ here′
+        pass-more w = record { written = written-then longer (h .written) w; begin = rest-begin; ahead = rw same at (c .begins) }
+
+      pub pass-end : e ≤ m → Written (Rest P T p b e) before at buf here
+      pass-end l =
+          let (us, r) = from (h .begin) (h .ahead) in
+          let none = no-pass l r in
+          written-map (λ ws w. loop f (rw (none, append-nil) at (w us r))) (h .written)

@@ -1,0 +1,2 @@
+-- What writing a reading asks and promises.
+pub mod Contract

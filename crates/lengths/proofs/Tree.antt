@@ -1,0 +1,60 @@
+-- What a node and all nodes below it weigh, by any weights w; where each node is named once, the root's is the sum over all nodes.
+-- Assumes nothing.
+use mathlib.Core.Path.{_≡_, refl, sym, ap, ap₂, _∙_}
+use Prim.Native.Nat.{ℕ, zero, suc, _+_, _*_, _≤_, _<_}
+use native.Mathlib.Nat.{le-refl, le-of-eq, one-mul, add-mul}
+use native.Mathlib.Omega.{arith}
+use Rattle.bitset.specs.Members.{sum}
+use Rattle.theory.specs.Procedure.{Procedure}
+use Rattle.lengths.specs.Children.{children, times, NamedOnce}
+use Rattle.lengths.proofs.Sums.{total, Below, below-le, below-times, sum-cong, sum-both, total-cong, total-times}
+
+-- children have lower numbers
+pub record Lower (P : Procedure) : Type 0 where
+  pub at : (p : ℕ) → p < P .count → Below p (children P p)
+
+-- as far as k steps lead
+tree : Procedure → (ℕ → ℕ) → ℕ → ℕ → ℕ
+tree P w zero p = 0
+tree P w (suc k) p = w p + total (tree P w k) (children P p)
+
+pub branch : Procedure → (ℕ → ℕ) → ℕ → ℕ
+branch P w p = tree P w (P .count) p
+
+module _ {P : Procedure} (lower : Lower P) where
+  module _ (w : ℕ → ℕ) where
+    -- more steps than p lead to no more
+    steady : (k p : ℕ) → p < k → p < P .count → tree P w (suc k) p ≡ tree P w k p
+    unfolding tree
+    steady zero p h n = absurd (omega arith)
+    steady (suc k) p h n =
+        ap (λ (s : ℕ). w p + s) (total-cong (children P p) (λ q i. let l = below-times q (children P p) (lower .at p n) i in steady k q (omega arith) (omega arith)))
+
+    pub branch-is : (p : ℕ) → p < P .count → branch P w p ≡ w p + total (branch P w) (children P p)
+    unfolding branch tree
+    branch-is p h = sym (steady (P .count) p h h)
+
+    -- ---- the root
+
+    named-sum : (f : ℕ → ℕ) (r n : ℕ) → n ≤ suc r → n ≤ P .count
+        → sum (λ p. total f (children P p)) n ≡ sum (λ q. sum (λ p. times q (children P p)) n * f q) r
+    unfolding sum
+    named-sum f r zero h l = sym (zeros r)
+      where
+        zeros : (k : ℕ) → sum (λ q. 0 * f q) k ≡ 0
+        zeros zero = refl
+        zeros (suc k) = omega (arith, zeros k)
+    named-sum f r (suc n) h l =
+        ap₂ _+_ (named-sum f r n (omega arith) (omega arith)) (total-times f r (children P n) (below-le (children P n) (omega arith) (lower .at n l)))
+        ∙ sym (sum-both (λ q. sum (λ p. times q (children P p)) n * f q) (λ q. times q (children P n) * f q) r (λ q k. add-mul (sum (λ p. times q (children P p)) n) (times q (children P n)) (f q)))
+
+    pub root-is : (r : ℕ) → suc r ≡ P .count → NamedOnce P → branch P w r ≡ sum w (P .count)
+    unfolding sum
+    root-is r e once =
+        let all : sum (branch P w) (suc r) ≡ sum w (suc r) + sum (λ p. total (branch P w) (children P p)) (suc r)
+        = sum-both w (λ p. total (branch P w) (children P p)) (suc r) (λ p l. branch-is p (omega arith)) in
+        let named : sum (λ p. total (branch P w) (children P p)) (suc r) ≡ sum (branch P w) r
+        = named-sum (branch P w) r (suc r) (le-refl (suc r)) (le-of-eq e)
+        ∙ sum-cong r (λ q l. ap (λ (k : ℕ). k * branch P w q) (ap (λ (c : ℕ). sum (λ p. times q (children P p)) c) e ∙ once q (omega arith)) ∙ one-mul (branch P w q)) in
+        let whole : sum w (suc r) ≡ sum w (P .count) = ap (sum w) e in
+        omega arith

@@ -1,0 +1,110 @@
+-- A reading of node p from b to e has at most as many words as there are nodes from p down, times the moments that it takes (at least 1):
+-- a loop's passes share out its moments. Assumes nothing.
+use mathlib.Core.Path.{_≡_}
+use mathlib.Core.List.{List}
+use Prim.Native.Nat.{ℕ, suc, _+_, _-_, _*_, _≤_, _<_, max, zero-le}
+use native.Mathlib.Nat.{le-trans, mul-le-mul-left, le-max-left, le-max-right}
+use native.Mathlib.Omega.{arith}
+use lib.ListN.{length, getD, length-append}
+use Rattle.theory.specs.Trajectory.{Trajectory}
+use Rattle.theory.specs.Procedure.{Procedure}
+use Rattle.reading.specs.Forms.{Form, Act, Test, Sequence, Choice, If, While, StartWindow, EndWindow, Set, Reserved, formAt, fieldY, FormedAs}
+use Rattle.reading.specs.Reading.{Mode, whole, passes, joined, Reading, act, test, sequence, first, second, taken, otherwise, loop, done, pass, startWindow, endWindow, set}
+use Rattle.reading.proofs.Step.{onward}
+use Rattle.lengths.specs.Children.{childrenAs, children}
+use Rattle.lengths.proofs.Sums.{total, Below, below-at, at-below, below-le, total-mul, joined-le}
+use Rattle.lengths.proofs.Tree.{Lower, branch, branch-is}
+
+-- a procedure whose nodes are formed has children with lower numbers
+lower-as : (P : Procedure) (T : Trajectory) (k : Form) (p : ℕ) → FormedAs P T k p → Below p (childrenAs P k p)
+lower-as P T Act p h = tt
+lower-as P T Test p h = tt
+lower-as P T Sequence p h = (h .0, (h .1, tt))
+lower-as P T Choice p h = (h .0, (h .1, tt))
+lower-as P T If p h = (h .0, (h .1, tt))
+lower-as P T While p h = (h, tt)
+lower-as P T StartWindow p h = (h .0, (h .1, tt))
+lower-as P T EndWindow p h = (h .0, (h .1, tt))
+lower-as P T Set p h = below-at (P .members p) (h .1)
+lower-as P T Reserved p h = tt
+
+pub lower : (P : Procedure) (T : Trajectory) → ((p : ℕ) → p < P .count → FormedAs P T (formAt P p) p) → Lower P
+lower P T h = record { at = λ p l. lower-as P T (formAt P p) p (h p l) }
+
+-- the words of two parts, of the sizes u and v, and the node's own
+two : (s u v d d₁ d₂ i j : ℕ) → s ≡ 1 + (u + (v + 0)) → 1 ≤ d → d₁ ≤ d → d₂ ≤ d → i ≤ u * d₁ → j ≤ v * d₂ → suc (i + j) ≤ s * d
+two s u v d d₁ d₂ i j e h h₁ h₂ l₁ l₂ = rw e (omega (arith, mul-le-mul-left u h₁, mul-le-mul-left v h₂))
+
+-- of one of the two
+left : (s u v d i : ℕ) → s ≡ 1 + (u + (v + 0)) → 1 ≤ d → i ≤ u * d → suc i ≤ s * d
+left s u v d i e h l = rw e (omega arith)
+
+right : (s u v d i : ℕ) → s ≡ 1 + (u + (v + 0)) → 1 ≤ d → i ≤ v * d → suc i ≤ s * d
+right s u v d i e h l = rw e (omega arith)
+
+-- of parts of the size t
+part : (s t d i : ℕ) → s ≡ 1 + t → 1 ≤ d → i ≤ t * d → suc i ≤ s * d
+part s t d i e h l = rw e (omega arith)
+
+-- what two stretches of time share out
+share : (v d₁ d₂ d i j : ℕ) → d₁ + d₂ ≡ d → i ≤ v * d₁ → j ≤ v * d₂ → i + j ≤ v * d
+share v d₁ d₂ d i j e l₁ l₂ = rw (← e) (omega arith)
+
+longer : {d d′ : ℕ} → d ≤ d′ → max 1 d ≤ max 1 d′
+longer h = omega arith
+
+-- how many nodes there are from p down
+abbrev pub nodes : Procedure → ℕ → ℕ
+nodes P p = branch P (λ q. 1) p
+
+-- the bound on a node's words, and on those of a loop's passes
+abbrev pub AtMost : Procedure → Mode → ℕ → ℕ → ℕ → List ℕ → Type 0
+AtMost P whole p b e ws = p < P .count → length ws ≤ nodes P p * max 1 (e - b)
+AtMost P passes p b e ws = fieldY P p < P .count → length ws ≤ nodes P (fieldY P p) * (e - b)
+
+module _ {P : Procedure} (low : Lower P) where
+  nodes-as : {p : ℕ} (k : Form) → formAt P p ≡ k → p < P .count → (nodes P p ≡ 1 + total (nodes P) (childrenAs P k p)) × Below (P .count) (childrenAs P k p)
+  nodes-as {p} k f l = rw (← f) (branch-is low (λ q. 1) p l, below-le (children P p) (omega arith) (low .at p l))
+
+  pub words-le : {T : Trajectory} {o : Mode} {p b e : ℕ} {ws : List ℕ} → Reading P T o p b e ws → AtMost P o p b e ws
+  unfolding total
+  words-le {b = b} {e = e} (act f s d) = λ n. part _ 0 _ 0 (nodes-as Act f n .0) (le-max-left 1 (e - b)) zero-le
+  words-le {b = b} {e = e} (test f t d) = λ n. part _ 0 _ 0 (nodes-as Test f n .0) (le-max-left 1 (e - b)) zero-le
+  words-le {b = b} {e = e} (sequence f x y) = λ n.
+      let (s, l) = nodes-as Sequence f n in
+      let hx = onward x in
+      let hy = onward y in
+      rw length-append (two _ _ _ _ _ _ _ _ s (le-max-left 1 (e - b)) (longer (omega arith)) (longer (omega arith)) (words-le x (l .0)) (words-le y (l .1 .0)))
+  words-le {b = b} {e = e} (first f x) = λ n.
+      let (s, l) = nodes-as Choice f n in left _ _ _ _ _ s (le-max-left 1 (e - b)) (words-le x (l .0))
+  words-le {b = b} {e = e} (second f y) = λ n.
+      let (s, l) = nodes-as Choice f n in right _ _ _ _ _ s (le-max-left 1 (e - b)) (words-le y (l .1 .0))
+  words-le {b = b} {e = e} (taken f t y) = λ n.
+      let (s, l) = nodes-as If f n in left _ _ _ _ _ s (le-max-left 1 (e - b)) (words-le y (l .0))
+  words-le {b = b} {e = e} (otherwise f t y) = λ n.
+      let (s, l) = nodes-as If f n in right _ _ _ _ _ s (le-max-left 1 (e - b)) (words-le y (l .1 .0))
+  words-le {p = p} {b = b} {e = e} (loop f r) = λ n.
+      let (s, l) = nodes-as While f n in
+      part _ _ _ _ s (le-max-left 1 (e - b)) (omega (arith, words-le r (l .0), mul-le-mul-left (nodes P (fieldY P p)) (le-max-right 1 (e - b))))
+  words-le {b = b} {e = e} (startWindow f x y g h d) = λ n.
+      let (s, l) = nodes-as StartWindow f n in
+      let hx = onward x in
+      let hy = onward y in
+      rw length-append (two _ _ _ _ _ _ _ _ s (le-max-left 1 (e - b)) (longer (omega arith)) (longer (omega arith)) (words-le x (l .0)) (words-le y (l .1 .0)))
+  words-le {b = b} {e = e} (endWindow f x y g h) = λ n.
+      let (s, l) = nodes-as EndWindow f n in
+      let hx = onward x in
+      let hy = onward y in
+      rw length-append (two _ _ _ _ _ _ _ _ s (le-max-left 1 (e - b)) (longer (omega arith)) (longer (omega arith)) (words-le x (l .0)) (words-le y (l .1 .0)))
+  words-le {p = p} {b = b} {e = e} (set {us = us} f rs pl) = λ n.
+      let (s, l) = nodes-as Set f n in
+      let members : length (joined us (length (P .members p))) ≤ total (λ q. nodes P q * max 1 (e - b)) (P .members p)
+      = joined-le us (λ q. nodes P q * max 1 (e - b)) (P .members p)
+      (λ i h. let g = pl .inside i h in
+      le-trans (words-le (rs i h) (at-below (P .members p) l i h)) (mul-le-mul-left (nodes P (getD (P .members p) i 0)) (longer (omega arith)))) in
+      part _ _ _ _ s (le-max-left 1 (e - b)) (rw (total-mul (nodes P) (max 1 (e - b)) (P .members p)) at members)
+  words-le (done t d) = λ n. zero-le
+  words-le {b = b} {e = e} (pass {m = m} t g x r) = λ n.
+      let hr = onward r in
+      let long : max 1 (m - b) ≡ m - b = omega arith in
+      rw length-append (share _ (m - b) (e - m) _ _ _ (omega arith) (rw long at (words-le x n)) (words-le r n))

@@ -1,0 +1,1 @@
+// How long a reading can be: definitions and laws.

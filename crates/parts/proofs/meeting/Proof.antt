@@ -1,0 +1,90 @@
+-- `parts::meeting` meets its contract. The loop's invariant: every begin that meets is m or later. Assumes nothing.
+use Prim.Native.Nat.{_-_}
+use native.Mathlib.Omega.{arith}
+use mathlib.Core.Path.{sym, _∙_}
+use borrow.Author.Needs.{needs}
+use Rattle.bitset.proofs.Laws.{not-both}
+use Rattle.parts.proofs.Search.{Onward, onward-more, none-meets}
+use Rattle.parts.proofs.meeting.Statement.{statement}
+use Rattle.parts.proofs.meeting.Tie as tie
+
+abbrev Inv-loop : tie.InvT-loop
+Inv-loop xs table y first last e m₀ m = Onward xs table y first last e m
+
+abbrev μ-loop : tie.MeasureT-loop
+μ-loop xs table y first last e m₀ m = 128 - m
+
+loop-holds : tie.Need-loop-holds Inv-loop μ-loop
+loop-holds c = record { from = omega arith; left = λ k h. h .from }
+
+returns : tie.Need-returns Inv-loop μ-loop
+returns c = none-meets (c .before .before .loop .inv) (λ k h l s. omega (arith, c .if1 .taken))
+
+mul-max-of : tie.Need-mul-max-of Inv-loop μ-loop
+mul-max-of c = search needs
+
+add-max-of : tie.Need-add-max-of Inv-loop μ-loop
+add-max-of c = search needs
+
+mul-max-of-2 : tie.Need-mul-max-of-2 Inv-loop μ-loop
+mul-max-of-2 c = search needs
+
+shared-slice-read-max-of : tie.Need-shared-slice-read-max-of Inv-loop μ-loop
+shared-slice-read-max-of c = search needs
+
+max-of-requires : tie.Need-max-of-requires Inv-loop μ-loop
+max-of-requires c κs = search needs
+
+cast-has : tie.Need-cast-has Inv-loop μ-loop
+cast-has c = search needs
+
+has-requires : tie.Need-has-requires Inv-loop μ-loop
+has-requires c κs = search needs
+
+returns-2 : tie.Need-returns-2 Inv-loop μ-loop
+returns-2 c =
+    let l = c .before .before .before .before .before .before .loop in
+    record {
+      found = λ h. record {
+        from = l .inv .from;
+        upto = c .before .before .before .before .before .loop-test .taken;
+        moment = h;
+        max = c .before .before .max-of .ensures _ .0 (sym (c .before .has .ensures) ∙ c .if2 .taken);
+      };
+      any = λ k h. c .before .before .before .before .if1 .left;
+    }
+
+add-m : tie.Need-add-m Inv-loop μ-loop
+add-m c = search needs
+
+loop-less : tie.Need-loop-less Inv-loop μ-loop
+loop-less c = omega arith
+
+loop-again : tie.Need-loop-again Inv-loop μ-loop
+loop-again c =
+    onward-more (c .before .before .before .before .before .before .loop .inv)
+    (λ h. not-both (c .before .before .max-of .ensures _ .1 h) (sym (c .before .has .ensures) ∙ c .if2 .left))
+
+returns-3 : tie.Need-returns-3 Inv-loop μ-loop
+returns-3 c = none-meets (c .before .loop .inv) (λ k h l s. omega (arith, c .loop-test .left))
+
+pub meeting-spec : {M : Type 1} → statement M
+meeting-spec =
+    tie.close
+    (tie.spec
+    Inv-loop
+    μ-loop
+    loop-holds
+    returns
+    mul-max-of
+    add-max-of
+    mul-max-of-2
+    shared-slice-read-max-of
+    max-of-requires
+    cast-has
+    has-requires
+    returns-2
+    add-m
+    loop-less
+    loop-again
+    returns-3)

@@ -1,0 +1,54 @@
+-- A choice of parts: how many there are, and the node, the begin and the end of each.
+use Prim.Native.Nat.{ℕ, _≤_, _<_}
+use mathlib.Core.Path.{_≡_}
+use mathlib.Core.List.{List, [], _∷_}
+use lib.ListN.{getD}
+use Rattle.words.specs.Fields.{readingWord}
+use Rattle.theory.specs.Trajectory.{Trajectory}
+use Rattle.theory.specs.Procedure.{Procedure}
+use Rattle.sets.specs.Set.{TaskSet, size, member}
+use Rattle.sets.specs.Ends.{Placed}
+use Rattle.reading.specs.Reading.{whole, joined, Reading}
+use Rattle.reading.specs.Table.{InTable, Found}
+use Rattle.reading.specs.World.{Ready}
+use Rattle.parts.specs.declared.Parts.{Parts}
+
+-- no part, one part, two parts
+abbrev pub noParts : Parts
+noParts = record { count = 0; nodes = 0 ∷ 0 ∷ 0 ∷ 0 ∷ []; begins = 0 ∷ 0 ∷ 0 ∷ 0 ∷ []; ends = 0 ∷ 0 ∷ 0 ∷ 0 ∷ [] }
+
+abbrev pub onePart : ℕ → ℕ → ℕ → Parts
+onePart q b e = record { count = 1; nodes = q ∷ 0 ∷ 0 ∷ 0 ∷ []; begins = b ∷ 0 ∷ 0 ∷ 0 ∷ []; ends = e ∷ 0 ∷ 0 ∷ 0 ∷ [] }
+
+abbrev pub twoParts : ℕ → ℕ → ℕ → ℕ → ℕ → ℕ → Parts
+twoParts x b k y m l = record { count = 2; nodes = x ∷ y ∷ 0 ∷ 0 ∷ []; begins = b ∷ m ∷ 0 ∷ 0 ∷ []; ends = k ∷ l ∷ 0 ∷ 0 ∷ [] }
+
+-- part i
+abbrev pub nodeOf : Parts → ℕ → ℕ
+nodeOf r i = getD (r .nodes) i 0
+
+abbrev pub beginOf : Parts → ℕ → ℕ
+beginOf r i = getD (r .begins) i 0
+
+abbrev pub endOf : Parts → ℕ → ℕ
+endOf r i = getD (r .ends) i 0
+
+-- the parts are the members of the set s, with begins and ends that are lawful from b to e
+pub record PlacedParts (s : TaskSet) (table : List ℕ) (b e : ℕ) (r : Parts) : Type 0 where
+  pub count : r .count ≡ size s
+  pub nodes : (i : ℕ) → i < size s → nodeOf r i ≡ member s i
+  pub placed : Placed s (InTable table) b e (beginOf r) (endOf r)
+
+-- what choosing parts, and writing them, needs: the procedure and the trajectory are there, and the table is theirs
+pub record Prepared (P : Procedure) (T : Trajectory) (size : ℕ) (places sizes limits table : List ℕ) : Type 0 where
+  pub ready : Ready P T size places sizes limits
+  pub found : Found P T table
+
+-- the parts are lower nodes that the table says can be read so, and readings of them, in order, make a reading of p from b to e
+pub record Chosen (P : Procedure) (T : Trajectory) (table : List ℕ) (p b e : ℕ) (r : Parts) : Type 0 where
+  pub few : r .count ≤ 4
+  pub lower : (i : ℕ) → i < r .count → nodeOf r i < p
+  pub begin : (i : ℕ) → i < r .count → beginOf r i ≤ T .last
+  pub found : (i : ℕ) → i < r .count → InTable table (nodeOf r i) (beginOf r i) (endOf r i)
+  pub reads : (us : ℕ → List ℕ) → ((i : ℕ) → i < r .count → Reading P T whole (nodeOf r i) (beginOf r i) (endOf r i) (us i))
+      → Reading P T whole p b e (readingWord p b e ∷ joined us (r .count))

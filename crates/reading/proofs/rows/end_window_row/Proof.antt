@@ -1,0 +1,51 @@
+-- `reading::rows::end_window_row` meets its contract. Assumes nothing.
+use Rattle.reading.proofs.Members.{in-joined}
+use borrow.Author.Needs.{needs}
+use Rattle.reading.proofs.rows.end_window_row.Statement.{statement}
+use Rattle.reading.proofs.rows.end_window_row.Tie as tie
+
+mul-windows : tie.Need-mul-windows
+mul-windows c = search needs
+
+add-windows : tie.Need-add-windows
+add-windows c = search needs
+
+mul-windows-2 : tie.Need-mul-windows-2
+mul-windows-2 c = search needs
+
+shared-slice-read-windows : tie.Need-shared-slice-read-windows
+shared-slice-read-windows c = search needs
+
+windows-requires : tie.Need-windows-requires
+windows-requires c κs = search needs
+
+mul-join-rows : tie.Need-mul-join-rows
+mul-join-rows c = search needs
+
+join-rows-requires : tie.Need-join-rows-requires
+join-rows-requires c κs = search needs
+
+returns : tie.Need-returns
+returns c = λ e.
+    let j = in-joined (c .join-rows .ensures) e in
+    let w = c .before .windows .ensures in
+    let inside = c .before .before .before .before .pre .6 in (
+      λ t.
+          let r = j .0 t in
+          let a = w (r .0) .0 (r .1) in
+          (a .end, r .0, inside (a .end) (a .member) .0, a .early, a .late, a .upto, a .member, r .2),
+      λ h. j .1 (h .1, w (h .1) .1 (record { end = h .0; member = h .6; early = h .3; late = h .4; upto = h .5 }), h .7),
+    )
+
+pub end-window-row-spec : {M : Type 1} → statement M
+end-window-row-spec =
+    tie.close
+    (tie.spec
+    mul-windows
+    add-windows
+    mul-windows-2
+    shared-slice-read-windows
+    windows-requires
+    mul-join-rows
+    join-rows-requires
+    returns)

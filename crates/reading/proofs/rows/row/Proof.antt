@@ -1,0 +1,236 @@
+-- `reading::rows::row` meets its contract: in each arm the rule of the form is what the row function ensures. Assumes nothing.
+use Rattle.reading.proofs.Nodes.{eighth, reserved}
+use Rattle.words.specs.Fields.{form}
+use mathlib.Core.Path.{sym, _∙_}
+use native.Mathlib.Omega.{arith}
+use Rattle.sets.proofs.Laws.{in-none}
+use borrow.Author.Needs.{needs}
+use Rattle.reading.proofs.rows.row.Statement.{statement}
+use Rattle.reading.proofs.rows.row.Tie as tie
+
+node-x-requires : tie.Need-node-x-requires
+node-x-requires c κs = search needs
+
+form-of-requires : tie.Need-form-of-requires
+form-of-requires c κs = search needs
+
+mul-act-row : tie.Need-mul-act-row
+mul-act-row c = search needs
+
+element-copy-out-act-row : tie.Need-element-copy-out-act-row
+element-copy-out-act-row c = search needs
+
+mul-act-row-2 : tie.Need-mul-act-row-2
+mul-act-row-2 c = search needs
+
+element-copy-out-act-row-2 : tie.Need-element-copy-out-act-row-2
+element-copy-out-act-row-2 c = search needs
+
+act-row-requires : tie.Need-act-row-requires
+act-row-requires c κs = search needs
+
+mul-test-row : tie.Need-mul-test-row
+mul-test-row c = search needs
+
+add-test-row : tie.Need-add-test-row
+add-test-row c = search needs
+
+element-copy-out-test-row : tie.Need-element-copy-out-test-row
+element-copy-out-test-row c = search needs
+
+test-row-requires : tie.Need-test-row-requires
+test-row-requires c κs = search needs
+
+node-y-requires : tie.Need-node-y-requires
+node-y-requires c κs = search needs
+
+sequence-row-requires : tie.Need-sequence-row-requires
+sequence-row-requires c κs =
+    let s = c .before .before .before .before .before .pre in
+    let g = rw (sym (c .before .before .form-of .ensures .0) ∙ c .before .match .keys3) at (s .formed) in
+    let x = c .before .before .before .node-x .ensures .0 in
+    let y = c .node-y .ensures .0 in
+    (omega arith, omega arith, omega arith, s .inside _ (omega arith))
+
+node-y-requires-2 : tie.Need-node-y-requires-2
+node-y-requires-2 c κs = search needs
+
+choice-row-requires : tie.Need-choice-row-requires
+choice-row-requires c κs =
+    let s = c .before .before .before .before .before .pre in
+    let g = rw (sym (c .before .before .form-of .ensures .0) ∙ c .before .match .keys4) at (s .formed) in
+    let x = c .before .before .before .node-x .ensures .0 in
+    let y = c .node-y2 .ensures .0 in
+    (omega arith, omega arith, omega arith)
+
+mul-if-row : tie.Need-mul-if-row
+mul-if-row c = search needs
+
+add-if-row : tie.Need-add-if-row
+add-if-row c = search needs
+
+element-copy-out-if-row : tie.Need-element-copy-out-if-row
+element-copy-out-if-row c = search needs
+
+node-y-requires-3 : tie.Need-node-y-requires-3
+node-y-requires-3 c κs = search needs
+
+node-m-requires : tie.Need-node-m-requires
+node-m-requires c κs = search needs
+
+if-row-requires : tie.Need-if-row-requires
+if-row-requires c κs =
+    let s = c .before .before .before .before .before .before .before .pre in
+    let g = rw (sym (c .before .before .before .before .form-of .ensures .0) ∙ c .before .before .before .match .keys5) at (s .formed) in
+    let x = c .before .before .before .before .before .node-x .ensures .0 in
+    let m = c .node-m .ensures .0 in
+    let y = c .before .node-y3 .ensures .0 in
+    (omega arith, omega arith, omega arith)
+
+mul-while-row : tie.Need-mul-while-row
+mul-while-row c = search needs
+
+add-while-row : tie.Need-add-while-row
+add-while-row c = search needs
+
+element-copy-out-while-row : tie.Need-element-copy-out-while-row
+element-copy-out-while-row c = search needs
+
+node-y-requires-4 : tie.Need-node-y-requires-4
+node-y-requires-4 c κs = search needs
+
+while-row-requires : tie.Need-while-row-requires
+while-row-requires c κs =
+    let s = c .before .before .before .before .before .before .pre in
+    let g = rw (sym (c .before .before .before .form-of .ensures .0) ∙ c .before .before .match .keys6) at (s .formed) in
+    let x = c .before .before .before .before .node-x .ensures .0 in
+    let y = c .node-y4 .ensures .0 in
+    (omega arith, omega arith, omega arith, omega arith)
+
+node-y-requires-5 : tie.Need-node-y-requires-5
+node-y-requires-5 c κs = search needs
+
+node-m-requires-2 : tie.Need-node-m-requires-2
+node-m-requires-2 c κs = search needs
+
+node-n-requires : tie.Need-node-n-requires
+node-n-requires c κs = search needs
+
+start-window-row-requires : tie.Need-start-window-row-requires
+start-window-row-requires c κs =
+    let s = c .before .before .before .before .before .before .before .pre in
+    let g = rw (sym (c .before .before .before .before .form-of .ensures .0) ∙ c .before .before .before .match .keys7) at (s .formed) in
+    let x = c .before .before .before .before .before .node-x .ensures .0 in
+    let k = c .node-n .ensures .0 in
+    let m = c .before .node-m2 .ensures .0 in
+    let y = c .before .before .node-y5 .ensures .0 in
+    (omega arith, omega arith, omega arith, omega arith, omega arith, omega arith)
+
+node-y-requires-6 : tie.Need-node-y-requires-6
+node-y-requires-6 c κs = search needs
+
+node-m-requires-3 : tie.Need-node-m-requires-3
+node-m-requires-3 c κs = search needs
+
+node-n-requires-2 : tie.Need-node-n-requires-2
+node-n-requires-2 c κs = search needs
+
+end-window-row-requires : tie.Need-end-window-row-requires
+end-window-row-requires c κs =
+    let s = c .before .before .before .before .before .before .before .pre in
+    let g = rw (sym (c .before .before .before .before .form-of .ensures .0) ∙ c .before .before .before .match .keys8) at (s .formed) in
+    let x = c .before .before .before .before .before .node-x .ensures .0 in
+    let k = c .node-n2 .ensures .0 in
+    let m = c .before .node-m3 .ensures .0 in
+    let y = c .before .before .node-y6 .ensures .0 in
+    (omega arith, omega arith, omega arith, omega arith, omega arith, omega arith, s .inside _ (omega arith))
+
+returns : tie.Need-returns
+returns c = λ e. rw (sym (c .before .before .before .before .form-of .ensures .0) ∙ c .before .before .before .match .keys1, ← (c .before .before .before .before .before .node-x .ensures .0)) (c .act-row .ensures e)
+
+returns-2 : tie.Need-returns-2
+returns-2 c = λ e. rw (sym (c .before .before .before .form-of .ensures .0) ∙ c .before .before .match .keys2, ← (c .before .before .before .before .node-x .ensures .0)) (c .test-row .ensures e)
+
+returns-3 : tie.Need-returns-3
+returns-3 c = λ e. rw (sym (c .before .before .before .form-of .ensures .0) ∙ c .before .before .match .keys3, ← (c .before .node-y .ensures .0), ← (c .before .before .before .before .node-x .ensures .0)) (c .sequence-row .ensures e)
+
+returns-4 : tie.Need-returns-4
+returns-4 c = λ e. rw (sym (c .before .before .before .form-of .ensures .0) ∙ c .before .before .match .keys4, ← (c .before .node-y2 .ensures .0), ← (c .before .before .before .before .node-x .ensures .0)) (c .choice-row .ensures e)
+
+returns-5 : tie.Need-returns-5
+returns-5 c = λ e. rw (sym (c .before .before .before .before .before .form-of .ensures .0) ∙ c .before .before .before .before .match .keys5, ← (c .before .node-m .ensures .0), ← (c .before .before .node-y3 .ensures .0), ← (c .before .before .before .before .before .before .node-x .ensures .0)) (c .if-row .ensures e)
+
+returns-6 : tie.Need-returns-6
+returns-6 c = λ e. rw (sym (c .before .before .before .before .form-of .ensures .0) ∙ c .before .before .before .match .keys6, ← (c .before .node-y4 .ensures .0), ← (c .before .before .before .before .before .node-x .ensures .0)) (c .while-row .ensures e)
+
+returns-7 : tie.Need-returns-7
+returns-7 c = λ e. rw (sym (c .before .before .before .before .before .form-of .ensures .0) ∙ c .before .before .before .before .match .keys7, ← (c .before .node-n .ensures .0), ← (c .before .before .node-m2 .ensures .0), ← (c .before .before .before .node-y5 .ensures .0), ← (c .before .before .before .before .before .before .node-x .ensures .0)) (c .start-window-row .ensures e)
+
+returns-8 : tie.Need-returns-8
+returns-8 c = λ e. rw (sym (c .before .before .before .before .before .form-of .ensures .0) ∙ c .before .before .before .before .match .keys8, ← (c .before .node-n2 .ensures .0), ← (c .before .before .node-m3 .ensures .0), ← (c .before .before .before .node-y6 .ensures .0), ← (c .before .before .before .before .before .before .node-x .ensures .0)) (c .end-window-row .ensures e)
+
+returns-9 : tie.Need-returns-9
+returns-9 c =
+    let f = c .before .before .before .form-of .ensures .0 in
+    λ e. rw (reserved (form (c .before .before .before .before .before .before .args .word)) (omega arith)) (in-none (λ e z. z) e)
+
+returns-10 : tie.Need-returns-10
+returns-10 c =
+    let f = c .before .before .form-of .ensures .0 in
+    let r = c .before .match .rest in
+    absurd (c .before .before .before .before .before .pre .single
+    (rw f at (eighth (c .before .before .form-of .result) (omega arith)
+    (r .0 .0 .0 .0 .0 .0 .0 .1) (r .0 .0 .0 .0 .0 .0 .1) (r .0 .0 .0 .0 .0 .1) (r .0 .0 .0 .0 .1) (r .0 .0 .0 .1) (r .0 .0 .1) (r .0 .1) (r .1))))
+
+returns-11 : tie.Need-returns-11
+returns-11 c = absurd (omega (arith, c .before .before .before .form-of .ensures .1))
+
+pub row-spec : {M : Type 1} → statement M
+row-spec =
+    tie.close
+    (tie.spec
+    node-x-requires
+    form-of-requires
+    mul-act-row
+    element-copy-out-act-row
+    mul-act-row-2
+    element-copy-out-act-row-2
+    act-row-requires
+    mul-test-row
+    add-test-row
+    element-copy-out-test-row
+    test-row-requires
+    node-y-requires
+    sequence-row-requires
+    node-y-requires-2
+    choice-row-requires
+    mul-if-row
+    add-if-row
+    element-copy-out-if-row
+    node-y-requires-3
+    node-m-requires
+    if-row-requires
+    mul-while-row
+    add-while-row
+    element-copy-out-while-row
+    node-y-requires-4
+    while-row-requires
+    node-y-requires-5
+    node-m-requires-2
+    node-n-requires
+    start-window-row-requires
+    node-y-requires-6
+    node-m-requires-3
+    node-n-requires-2
+    end-window-row-requires
+    returns
+    returns-2
+    returns-3
+    returns-4
+    returns-5
+    returns-6
+    returns-7
+    returns-8
+    returns-9
+    returns-10
+    returns-11)

@@ -1,0 +1,61 @@
+-- `reading::rows::start_window_row` meets its contract. Assumes nothing.
+use native.Mathlib.Omega.{arith}
+use Rattle.reading.proofs.Members.{in-joined, in-max}
+use borrow.Author.Needs.{needs}
+use Rattle.reading.proofs.rows.start_window_row.Statement.{statement}
+use Rattle.reading.proofs.rows.start_window_row.Tie as tie
+
+add-window : tie.Need-add-window
+add-window c = search needs
+
+add-window-2 : tie.Need-add-window-2
+add-window-2 c = search needs
+
+window-requires : tie.Need-window-requires
+window-requires c κs = search needs
+
+mul-max-of : tie.Need-mul-max-of
+mul-max-of c = search needs
+
+add-max-of : tie.Need-add-max-of
+add-max-of c = search needs
+
+mul-max-of-2 : tie.Need-mul-max-of-2
+mul-max-of-2 c = search needs
+
+shared-slice-read-max-of : tie.Need-shared-slice-read-max-of
+shared-slice-read-max-of c = search needs
+
+mul-join-rows : tie.Need-mul-join-rows
+mul-join-rows c = search needs
+
+join-rows-requires : tie.Need-join-rows-requires
+join-rows-requires c κs = search needs
+
+max-of-requires : tie.Need-max-of-requires
+max-of-requires c κs = search needs
+
+returns : tie.Need-returns
+returns c = λ e.
+    let x = in-max (c .max-of .ensures) e in
+    let j = in-joined (c .before .join-rows .ensures) in
+    let w = c .before .before .before .window .ensures in (
+      λ t. let r = x .0 t in let y = j (r .1) .0 (r .4) in let k = w (y .0) .0 (y .1) in (y .0, k .0, k .1, k .2, (r .0, r .1, r .2, r .3, y .2)),
+      λ h. x .1 (h .4 .0, h .4 .1, h .4 .2, h .4 .3, j (h .4 .1) .1 (h .0, w (h .0) .1 (h .1, h .2, h .3), h .4 .4)),
+    )
+
+pub start-window-row-spec : {M : Type 1} → statement M
+start-window-row-spec =
+    tie.close
+    (tie.spec
+    add-window
+    add-window-2
+    window-requires
+    mul-max-of
+    add-max-of
+    mul-max-of-2
+    shared-slice-read-max-of
+    mul-join-rows
+    join-rows-requires
+    max-of-requires
+    returns)

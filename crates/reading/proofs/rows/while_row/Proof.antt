@@ -1,0 +1,79 @@
+-- `reading::rows::while_row` meets its contract: one case for each value of the formula. Assumes nothing.
+use native.Mathlib.Omega.{arith}
+use mathlib.Core.Logic.{inl, inr, ⊎-elim}
+use Rattle.sets.proofs.Laws.{in-none, in-single, in-both}
+use Rattle.reading.proofs.Members.{in-joined}
+use borrow.Author.Needs.{needs}
+use Rattle.reading.proofs.rows.while_row.Statement.{statement}
+use Rattle.reading.proofs.rows.while_row.Tie as tie
+
+cast-single : tie.Need-cast-single
+cast-single c = search needs
+
+single-requires : tie.Need-single-requires
+single-requires c κs = search needs
+
+returns : tie.Need-returns
+returns c = λ e. let s = in-single (c .single .ensures) e in let v = c .before .if1 .taken in (
+  λ t. inl (v, s .0 t),
+  ⊎-elim (λ h. s .1 (h .1)) (λ h. absurd (omega (arith, h .0))),
+)
+
+mul-inter : tie.Need-mul-inter
+mul-inter c = search needs
+
+add-inter : tie.Need-add-inter
+add-inter c = search needs
+
+mul-inter-2 : tie.Need-mul-inter-2
+mul-inter-2 c = search needs
+
+shared-slice-read-inter : tie.Need-shared-slice-read-inter
+shared-slice-read-inter c = search needs
+
+add-window : tie.Need-add-window
+add-window c = search needs
+
+window-requires : tie.Need-window-requires
+window-requires c κs = search needs
+
+inter-requires : tie.Need-inter-requires
+inter-requires c κs = search needs
+
+mul-join-rows : tie.Need-mul-join-rows
+mul-join-rows c = search needs
+
+join-rows-requires : tie.Need-join-rows-requires
+join-rows-requires c κs = search needs
+
+returns-2 : tie.Need-returns-2
+returns-2 c = λ e.
+    let j = in-joined (c .join-rows .ensures) e in
+    let v = c .before .before .before .before .if2 .taken in
+    let x = in-both (c .before .inter .ensures) in
+    let w = c .before .before .window .ensures in (
+      λ t. let r = j .0 t in let i = x (r .0) .0 (r .1) in let k = w (r .0) .0 (i .1) in inr (v, (r .0, k .0, k .2, i .0, r .2)),
+      ⊎-elim (λ h. absurd (omega (arith, h .0))) (λ h. j .1 (h .1 .0, x (h .1 .0) .1 (h .1 .3, w (h .1 .0) .1 (h .1 .1, h .1 .2, h .1 .2)), h .1 .4)),
+    )
+
+returns-3 : tie.Need-returns-3
+returns-3 c = in-none (λ e. ⊎-elim (λ h. c .before .if1 .left (h .0)) (λ h. c .if2 .left (h .0)))
+
+pub while-row-spec : {M : Type 1} → statement M
+while-row-spec =
+    tie.close
+    (tie.spec
+    cast-single
+    single-requires
+    returns
+    mul-inter
+    add-inter
+    mul-inter-2
+    shared-slice-read-inter
+    add-window
+    window-requires
+    inter-requires
+    mul-join-rows
+    join-rows-requires
+    returns-2
+    returns-3)

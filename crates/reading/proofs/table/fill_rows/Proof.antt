@@ -1,0 +1,69 @@
+-- `reading::table::fill_rows` meets its contract. The invariant: the rows of p from b on are there. Assumes nothing.
+use Rattle.reading.proofs.Tables.{RowsFrom, rows-start, rows-end, row-ready, rows-more}
+use Rattle.reading.specs.World.{alone, trajectoryAt}
+use native.Mathlib.Omega.{arith}
+use Prim.Native.Nat.{_+_, _≤_}
+use borrow.Author.Needs.{needs}
+use Rattle.reading.proofs.table.fill_rows.Statement.{statement}
+use Rattle.reading.proofs.table.fill_rows.Tie as tie
+
+abbrev Inv-loop : tie.InvT-loop
+Inv-loop word starts durations values p n table₀ b₀ table b = (b ≤ n + 1) × RowsFrom (alone word) (trajectoryAt n starts durations values) p table₀ table b
+
+abbrev μ-loop : tie.MeasureT-loop
+μ-loop word starts durations values p n table₀ b₀ table b = b
+
+add-b : tie.Need-add-b Inv-loop μ-loop
+add-b c = search needs
+
+loop-holds : tie.Need-loop-holds Inv-loop μ-loop
+loop-holds c = (omega arith, rows-start)
+
+sub-b : tie.Need-sub-b Inv-loop μ-loop
+sub-b c = search needs
+
+row-requires : tie.Need-row-requires Inv-loop μ-loop
+row-requires c κs = let s = c .before .before .before .before .pre in row-ready (s .0) (omega arith) (omega arith) (c .before .before .loop .inv .1) (s .1)
+
+mul-table : tie.Need-mul-table Inv-loop μ-loop
+mul-table c = search needs
+
+add-table : tie.Need-add-table Inv-loop μ-loop
+add-table c = search needs
+
+mul-table-2 : tie.Need-mul-table-2 Inv-loop μ-loop
+mul-table-2 c = search needs
+
+slice-write-table : tie.Need-slice-write-table Inv-loop μ-loop
+slice-write-table c = let s = c .before .before .before .before .before .pre .0 in omega (arith, s .room, s .moments, c .before .before .before .loop .inv .1 .size)
+
+loop-less : tie.Need-loop-less Inv-loop μ-loop
+loop-less c = search needs
+
+loop-again : tie.Need-loop-again Inv-loop μ-loop
+loop-again c = let s = c .before .before .before .before .before .pre in (omega arith, rows-more (s .0) (omega arith) (omega arith) (c .before .before .before .loop .inv .1) (c .row .ensures))
+
+same-length : tie.Need-same-length Inv-loop μ-loop
+same-length c = c .before .loop .inv .1 .size
+
+returns : tie.Need-returns Inv-loop μ-loop
+returns c = rows-end (omega arith) (c .before .loop .inv .1)
+
+pub fill-rows-spec : {M : Type 1} → statement M
+fill-rows-spec =
+    tie.close
+    (tie.spec
+    Inv-loop
+    μ-loop
+    add-b
+    loop-holds
+    sub-b
+    row-requires
+    mul-table
+    add-table
+    mul-table-2
+    slice-write-table
+    loop-less
+    loop-again
+    same-length
+    returns)

@@ -1,0 +1,60 @@
+-- `reading::table::fill_table` meets its contract. The invariant: the rows of the nodes below p are right, and every other row is empty. Assumes nothing.
+use Rattle.reading.proofs.Nodes.{same-ready, same-rows}
+use Rattle.reading.proofs.Tables.{Built, built-start, built-ready, built-more, built-end}
+use Rattle.reading.specs.World.{procedureAt, trajectoryAt}
+use mathlib.Core.Path.{refl, sym, _∙_}
+use Prim.Native.Nat.{_-_, _≤_}
+use native.Mathlib.Omega.{arith}
+use denote.Ref.{now}
+use borrow.Author.Needs.{needs}
+use Rattle.reading.proofs.table.fill_table.Statement.{statement}
+use Rattle.reading.proofs.table.fill_table.Tie as tie
+
+abbrev Inv-loop : tie.InvT-loop
+Inv-loop words places sizes limits count starts durations values n table₀ p₀ table p = (p ≤ count) × Built (procedureAt count words places sizes limits) (trajectoryAt n starts durations values) table p
+
+abbrev μ-loop : tie.MeasureT-loop
+μ-loop words places sizes limits count starts durations values n table₀ p₀ table p = count - p
+
+loop-holds : tie.Need-loop-holds Inv-loop μ-loop
+loop-holds c = (omega arith, built-start (c .before .before .pre .1))
+
+fill-node-requires : tie.Need-fill-node-requires Inv-loop μ-loop
+fill-node-requires c κs =
+    let s = c .before .before .before .before .before in
+    let g = s .pre .0 in
+    let v = c .before .before .loop in
+    (omega (arith, g .few), g .inside (v .p) (omega arith), same-ready (procedureAt (s .args .count) (now (s .args .words)) (now (s .args .places)) (now (s .args .sizes)) (now (s .args .limits))) (procedureAt 64 (now (s .args .words)) (now (s .args .places)) (now (s .args .sizes)) (now (s .args .limits))) (trajectoryAt (s .args .n) (now (s .args .starts)) (now (s .args .durations)) (now (s .args .values))) (v .p) refl (λ f. (refl, refl)) (built-ready g (omega arith) (v .inv .1)))
+
+add-p : tie.Need-add-p Inv-loop μ-loop
+add-p c = search needs
+
+loop-less : tie.Need-loop-less Inv-loop μ-loop
+loop-less c = search needs
+
+loop-again : tie.Need-loop-again Inv-loop μ-loop
+loop-again c =
+    let s = c .before .before .before .before .before .before .before .before in
+    let g = s .pre .0 in
+    let v = c .before .before .before .before .before .loop in
+    (omega arith, built-more (g .moments) (g .formed (v .p) (omega arith)) (v .inv .1) (same-rows (procedureAt (s .args .count) (now (s .args .words)) (now (s .args .places)) (now (s .args .sizes)) (now (s .args .limits))) (procedureAt 64 (now (s .args .words)) (now (s .args .places)) (now (s .args .sizes)) (now (s .args .limits))) (trajectoryAt (s .args .n) (now (s .args .starts)) (now (s .args .durations)) (now (s .args .values))) (v .p) refl (λ f. (refl, refl)) (c .before .before .fill-node .ensures)) (search needs))
+
+same-length : tie.Need-same-length Inv-loop μ-loop
+same-length c = c .before .loop .inv .1 .size ∙ sym (c .before .before .before .before .pre .1 .size)
+
+returns : tie.Need-returns Inv-loop μ-loop
+returns c = built-end (omega arith) (c .before .loop .inv .1)
+
+pub fill-table-spec : {M : Type 1} → statement M
+fill-table-spec =
+    tie.close
+    (tie.spec
+    Inv-loop
+    μ-loop
+    loop-holds
+    fill-node-requires
+    add-p
+    loop-less
+    loop-again
+    same-length
+    returns)

@@ -1,0 +1,27 @@
+-- `reading::table::tabulate` meets its contract. Assumes nothing.
+use Rattle.reading.proofs.Listing.{pairs-small, counted}
+use borrow.Author.Needs.{needs}
+use Rattle.reading.proofs.table.tabulate.Statement.{statement}
+use Rattle.reading.proofs.table.tabulate.Tie as tie
+
+fill-table-requires : tie.Need-fill-table-requires
+fill-table-requires c κs = search needs
+
+count-all-requires : tie.Need-count-all-requires
+count-all-requires c κs = search needs
+
+same-length : tie.Need-same-length
+same-length c = search needs
+
+returns : tie.Need-returns
+returns c =
+    let s = c .before .before .before .before .before .before .before .before in
+    let g = s .pre .0 in
+    let found = c .before .before .before .before .fill-table .ensures in record {
+      table = found;
+      count = rw (c .count-all .ensures) (counted (g .few) (g .moments) found);
+      small = rw (c .count-all .ensures) (pairs-small found);
+    }
+
+pub tabulate-spec : {M : Type 1} → statement M
+tabulate-spec = tie.close (tie.spec fill-table-requires count-all-requires same-length returns)

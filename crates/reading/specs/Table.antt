@@ -1,0 +1,66 @@
+-- The table of ends: the set at p * 64 + b has the ends that node p reads to from b.
+use Prim.Native.Nat.{ℕ, _+_, _*_, _<_, _≤_}
+use mathlib.Core.Path.{_≡_}
+use mathlib.Core.Logic.{_↔_, _⊎_}
+use mathlib.Core.List.{List}
+use lib.ListN.{length, getD}
+use Rattle.bitset.specs.Members.{In}
+use Rattle.theory.specs.Trajectory.{Trajectory}
+use Rattle.theory.specs.Procedure.{Procedure}
+use Rattle.reading.specs.Forms.{Set, formAt, FormedAs}
+use Rattle.reading.specs.Reading.{Ends}
+use Rattle.reading.specs.Rule.{Rule}
+
+abbrev pub rowAt : List ℕ → ℕ → ℕ → ℕ
+rowAt t p b = getD t (p * 64 + b) 0
+
+-- the table says that node p has the end e from b
+abbrev pub InTable : List ℕ → ℕ → ℕ → ℕ → Type 0
+InTable t p b e = In (rowAt t p b) e
+
+-- the ends of row b of node q lie from b to n
+abbrev pub Inside : List ℕ → ℕ → ℕ → ℕ → Type 0
+Inside t q b n = (e : ℕ) → InTable t q b e → (b ≤ e) × (e ≤ n)
+
+-- m lies low to high after some member of the set ends, and not after n
+pub record After (ends low high n m : ℕ) : Type 0 where
+  pub end : ℕ
+  pub member : In ends end
+  pub early : end + low ≤ m
+  pub late : m ≤ end + high
+  pub upto : m ≤ n
+
+-- what the row of node p at b needs, p being no task set, and what it is: its members are the ends that the rule of p's form allows, by the table
+pub record RowReady (P : Procedure) (T : Trajectory) (t : List ℕ) (p b : ℕ) : Type 0 where
+  pub formed : FormedAs P T (formAt P p) p
+  pub single : formAt P p ≡ Set → ⊥
+  pub begin : b ≤ T .last
+  pub moments : T .last < 64
+  pub room : p * 64 + 64 ≤ length t
+  pub inside : (q : ℕ) → q < p → Inside t q b (T .last)
+
+abbrev pub RowOf : Procedure → Trajectory → List ℕ → ℕ → ℕ → ℕ → Type 0
+RowOf P T t p b r = (e : ℕ) → In r e ↔ Rule P T (InTable t) (formAt P p) p b e
+
+-- what filling the rows of node p needs: the rows of the lower nodes have ends within the moments alone
+pub record NodeReady (P : Procedure) (T : Trajectory) (p : ℕ) (t : List ℕ) : Type 0 where
+  pub formed : FormedAs P T (formAt P p) p
+  pub moments : T .last < 64
+  pub room : p * 64 + 64 ≤ length t
+  pub inside : (q b : ℕ) → q < p → b ≤ T .last → Inside t q b (T .last)
+
+-- and what it leaves: the rows of p are what the rule of its form allows, and every other row is as it was
+pub record NodeRows (P : Procedure) (T : Trajectory) (p : ℕ) (before after : List ℕ) : Type 0 where
+  pub rows : (b : ℕ) → b ≤ T .last → RowOf P T after p b (rowAt after p b)
+  pub others : (i : ℕ) → (i < p * 64) ⊎ (p * 64 + T .last < i) → getD after i 0 ≡ getD before i 0
+
+-- an empty table
+pub record Blank (t : List ℕ) : Type 0 where
+  pub size : length t ≡ 4096
+  pub empty : (i : ℕ) → getD t i 0 ≡ 0
+
+-- bit e of (p, b) is set exactly when (p, b, e) has a reading, and no other bit is set
+pub record Found (P : Procedure) (T : Trajectory) (t : List ℕ) : Type 0 where
+  pub size : length t ≡ 4096
+  pub right : (p b e : ℕ) → p < P .count → b ≤ T .last → InTable t p b e ↔ Ends P T p b e
+  pub beyond : (p b e : ℕ) → b < 64 → InTable t p b e → (p < P .count) × (b ≤ T .last)

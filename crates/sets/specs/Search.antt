@@ -1,0 +1,73 @@
+-- The search for begins: the masks of ends of a set's members while its begins are chosen one after the other.
+use Prim.Native.Nat.{ℕ, zero, suc, _+_, _*_, _/_, _%_, _≤_, _<_}
+use mathlib.Core.Path.{_≡_}
+use mathlib.Core.Logic.{_↔_, _⊎_}
+use mathlib.Core.List.{List}
+use lib.ListN.{length, getD}
+use Rattle.bitset.specs.Members.{In}
+use Rattle.words.specs.Fields.{form, conditionI, conditionJ}
+use Rattle.sets.specs.Set.{TaskSet, size, member, MetAt, SetRule, Formed}
+use Rattle.sets.specs.Ends.{InTable, at}
+
+-- a condition asks of member i either its begin or its end: the one that it asks
+abbrev pub asked : ℕ → ℕ → ℕ → ℕ
+asked zero x e = x
+asked (suc zero) x e = e
+asked (suc (suc zero)) x e = x
+asked (suc (suc (suc f))) x e = e
+
+-- the mask at c * 64 + x has the moments y at which member i may begin or end for condition c, where member j begins at x; so the first k
+pub record Allowed (value : ℕ → ℕ → ℕ) (cs : List ℕ) (n k : ℕ) (allow : List ℕ) : Type 0 where
+  pub mask : (c : ℕ) → c < k → (y : ℕ) → In (getD allow c 0) y ↔ ((y ≤ n) × MetAt value n (getD cs (c / 64) 0) y y (c % 64))
+
+-- e is an end of member i that the conditions on it and on a member below k allow
+pub record EndOf (s : TaskSet) (R : ℕ → ℕ → ℕ → Type 0) (bs : ℕ → ℕ) (k i e : ℕ) : Type 0 where
+  pub reads : R (member s i) (bs i) e
+  pub onward : bs i ≤ e
+  pub within : e ≤ s .last
+  pub met : (c : ℕ) → c < length (s .conditions) → let w = getD (s .conditions) c 0 in
+      conditionI w ≡ i → conditionJ w < k → MetAt (s .value) (s .last) w (bs i) e (bs (conditionJ w))
+
+-- the masks of the members below k
+pub record EndSets (s : TaskSet) (R : ℕ → ℕ → ℕ → Type 0) (bs : ℕ → ℕ) (k : ℕ) (Es : ℕ → ℕ) : Type 0 where
+  pub mask : (i e : ℕ) → i < k → In (Es i) e ↔ EndOf s R bs k i e
+
+-- the set reads b to e with the begins bs of the members below k
+pub record Completed (s : TaskSet) (R : ℕ → ℕ → ℕ → Type 0) (b e k : ℕ) (bs : ℕ → ℕ) : Type 0 where
+  pub rule : SetRule s R b e
+  pub agrees : (i : ℕ) → i < k → rule .begins i ≡ bs i
+
+-- what a search for begins needs: the set, its members' rows, and begins and masks so far
+pub record Searching (s : TaskSet) (allow table : List ℕ) (k : ℕ) (begins ends : List ℕ) (b : ℕ) : Type 0 where
+  pub formed : Formed s
+  pub rows : (i : ℕ) → i < size s → member s i * 64 + 64 ≤ length table
+  pub allowed : Allowed (s .value) (s .conditions) (s .last) (length (s .conditions) * 64) allow
+  pub room : length (s .conditions) * 64 ≤ length allow
+  pub step : k ≤ size s
+  pub from : b ≤ s .last
+  pub moments : (i : ℕ) → at begins i ≤ s .last
+  pub after : (i : ℕ) → i < k → b ≤ at begins i
+  pub sets : EndSets s (InTable table) (at begins) k (at ends)
+  pub small : (i e : ℕ) → In (at ends i) e → e < 64
+
+-- what the conditions need of their masks and of the begins and masks of the members
+pub record Narrowable (cs allow begins ends : List ℕ) : Type 0 where
+  pub named : (c : ℕ) → c < length cs → (conditionI (getD cs c 0) < 4) × (conditionJ (getD cs c 0) < 4)
+  pub room : length cs * 64 ≤ length allow
+  pub moments : (i : ℕ) → at begins i < 64
+  pub small : (i e : ℕ) → In (at ends i) e → e < 64
+
+-- k is the later of members i and j
+pub record Later (i j k : ℕ) : Type 0 where
+  pub first : i ≤ k
+  pub second : j ≤ k
+  pub one : (i ≡ k) ⊎ (j ≡ k)
+
+-- what condition d, where its later member is k, asks of the end e of member i, by its mask
+abbrev pub Asks : List ℕ → List ℕ → ℕ → List ℕ → ℕ → ℕ → ℕ → Type 0
+Asks cs allow k begins i e d = let w = getD cs d 0 in
+    conditionI w ≡ i → Later (conditionI w) (conditionJ w) k → In (getD allow (d * 64 + at begins (conditionJ w)) 0) (asked (form w) (at begins i) e)
+
+-- the masks `new` are the masks `old` with the first c conditions
+pub record Narrowed (cs allow : List ℕ) (k : ℕ) (begins old : List ℕ) (c : ℕ) (new : List ℕ) : Type 0 where
+  pub mask : (i e : ℕ) → In (at new i) e ↔ (In (at old i) e × ((d : ℕ) → d < c → Asks cs allow k begins i e d))

@@ -1,0 +1,63 @@
+-- The rule of a task set: its members, each read from some begin to some end within b..e, cover the moments of b..e, and the conditions are met.
+use Prim.Native.Nat.{ℕ, zero, suc, _+_, _≤_, _<_}
+use mathlib.Core.Path.{_≡_}
+use mathlib.Core.List.{List}
+use lib.ListN.{length, getD}
+use Rattle.words.specs.Fields.{form, holds, conditionFormula, conditionI, conditionJ, conditionM, conditionN}
+
+-- the nodes of the members, the condition words, the value of formula k at moment t, and the last moment
+pub record TaskSet : Type 0 where
+  pub members : List ℕ
+  pub conditions : List ℕ
+  pub value : ℕ → ℕ → ℕ
+  pub last : ℕ
+
+abbrev pub size : TaskSet → ℕ
+size s = length (s .members)
+
+abbrev pub member : TaskSet → ℕ → ℕ
+member s i = getD (s .members) i 0
+
+-- a condition of each form, on formula k with M and N, where member i begins at bi and ends at ei and member j begins at bj
+abbrev pub MetAs : ℕ → (ℕ → ℕ → ℕ) → ℕ → ℕ → ℕ → ℕ → ℕ → ℕ → ℕ → Type 0
+MetAs zero value n k M N bi ei bj = (bi + M ≤ bj) × (bj ≤ bi + N)
+MetAs (suc zero) value n k M N bi ei bj = (ei + M ≤ bj) × (bj ≤ ei + N)
+MetAs (suc (suc zero)) value n k M N bi ei bj = (N ≤ bi) × ((t : ℕ) → bi ≤ t + N → t + M ≤ bi → value k t ≡ holds)
+MetAs (suc (suc (suc zero))) value n k M N bi ei bj = (ei + N ≤ n) × ((t : ℕ) → ei + M ≤ t → t ≤ ei + N → value k t ≡ holds)
+MetAs (suc (suc (suc (suc zero)))) value n k M N bi ei bj = (t : ℕ) → ei + M ≤ t → t + N ≤ bj → value k t ≡ holds
+MetAs (suc (suc (suc (suc (suc f))))) value n k M N bi ei bj = ⊥
+
+-- the condition word w is met
+abbrev pub MetAt : (ℕ → ℕ → ℕ) → ℕ → ℕ → ℕ → ℕ → ℕ → Type 0
+MetAt value n w bi ei bj = MetAs (form w) value n (conditionFormula w) (conditionM w) (conditionN w) bi ei bj
+
+-- the same where member i begins at bs i and ends at es i
+abbrev pub Met : TaskSet → ℕ → (ℕ → ℕ) → (ℕ → ℕ) → Type 0
+Met s w bs es = MetAt (s .value) (s .last) w (bs (conditionI w)) (es (conditionI w)) (bs (conditionJ w))
+
+-- each moment of b..e lies in some member, ends included
+abbrev pub Covers : ℕ → (ℕ → ℕ) → (ℕ → ℕ) → ℕ → ℕ → Type 0
+Covers count bs es b e = (t : ℕ) → b ≤ t → t ≤ e → (i : ℕ) × (i < count) × (bs i ≤ t) × (t ≤ es i)
+
+-- begins and ends that are lawful from b to e, whatever the members read
+pub record Placing (s : TaskSet) (b e : ℕ) (bs es : ℕ → ℕ) : Type 0 where
+  pub onward : b ≤ e
+  pub within : e ≤ s .last
+  pub inside : (i : ℕ) → i < size s → (b ≤ bs i) × (bs i ≤ es i) × (es i ≤ e)
+  pub covers : Covers (size s) bs es b e
+  pub met : (c : ℕ) → c < length (s .conditions) → Met s (getD (s .conditions) c 0) bs es
+
+-- the rule: there is a placing with which each member reads, by R
+pub record SetRule (s : TaskSet) (R : ℕ → ℕ → ℕ → Type 0) (b e : ℕ) : Type 0 where
+  pub begins : ℕ → ℕ
+  pub ends : ℕ → ℕ
+  pub reads : (i : ℕ) → i < size s → R (member s i) (begins i) (ends i)
+  pub placing : Placing s b e begins ends
+
+-- a set has 1 to 4 members, and at most 8 conditions, on members that it has
+pub record Formed (s : TaskSet) : Type 0 where
+  pub some : 0 < size s
+  pub few : size s ≤ 4
+  pub conditions : length (s .conditions) ≤ 8
+  pub moments : s .last < 64
+  pub named : (c : ℕ) → c < length (s .conditions) → (conditionI (getD (s .conditions) c 0) < size s) × (conditionJ (getD (s .conditions) c 0) < size s)
