@@ -1,0 +1,55 @@
+-- `trajectory::world_by` meets its contract: each array is what its function promises. Assumes nothing.
+use native.Mathlib.Omega.{arith}
+use borrow.Author.Needs.{needs}
+use Rattle.trajectory.proofs.world_by.Statement.{statement}
+use Rattle.trajectory.proofs.world_by.Tie as tie
+
+shared-slice-read-last-of : tie.Need-shared-slice-read-last-of
+shared-slice-read-last-of c = omega (arith, c .before .before .before .pre .0 .0 .some)
+
+last-of-requires : tie.Need-last-of-requires
+last-of-requires c κs = search needs
+
+standard-values-requires : tie.Need-standard-values-requires
+standard-values-requires c κs =
+    let s = c .before .before .before .before .before .before in
+    (s .pre .0 .0, s .pre .0 .1, s .pre .1 .0, s .pre .1 .1, s .pre .1 .2)
+
+start-moments-requires : tie.Need-start-moments-requires
+start-moments-requires c κs = search needs
+
+member-counts-requires : tie.Need-member-counts-requires
+member-counts-requires c κs =
+    let s = c .before .before .before .before .before .before .before .before .before in
+    (s .pre .0 .0, s .pre .0 .2, s .pre .0 .3)
+
+condition-counts-requires : tie.Need-condition-counts-requires
+condition-counts-requires c κs =
+    let s = c .before .before .before .before .before .before .before .before .before .before .before .before in
+    (s .pre .0 .0, s .pre .0 .2, s .pre .0 .3, c .before .before .member-counts .ensures)
+
+returns : tie.Need-returns
+returns c =
+    let s = c .before .before .before .before .before .before .before .before .before .before .before .before .before in
+    record {
+      count = s .pre .0 .3;
+      last = c .before .before .before .before .before .before .before .before .before .last-of .ensures .0;
+      places = s .pre .0 .2;
+      sizes = c .before .before .before .member-counts .ensures;
+      limits = c .condition-counts .ensures;
+      moments = c .before .before .before .before .before .start-moments .ensures;
+      durations = s .pre .1 .0;
+      values = c .before .before .before .before .before .before .standard-values .ensures .entry;
+    }
+
+pub world-by-spec : {M : Type 1} → statement M
+world-by-spec =
+    tie.close
+    (tie.spec
+    shared-slice-read-last-of
+    last-of-requires
+    standard-values-requires
+    start-moments-requires
+    member-counts-requires
+    condition-counts-requires
+    returns)
