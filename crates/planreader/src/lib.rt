@@ -4,7 +4,9 @@ ghost use lib.ListN.{length};
 ghost use Rattle.answers.specs.Packed.{packed};
 ghost use Rattle.facts.specs.Facts.{factsOf};
 ghost use Rattle.theory.specs.Answers.{checkAnswer, fillAnswer, written};
+ghost use Rattle.planreader.specs.Promised.{Promised};
 use answers::pack;
+use finder::find_reading;
 use theory::check_plan;
 use theory::fill_plan;
 
@@ -21,4 +23,11 @@ pub extern "C" fn fill(job: &[u32], starts: &[u32], buffer: &mut [u32]) -> u64
     ensures words { λ _. ⌜ now (buffer .exit) ≡ written (fillAnswer (length (now (buffer .entry))) (now (job .entry)) (now (starts .entry))) (factsOf (now (job .entry)) (now (starts .entry))) (now (buffer .entry)) ⌝ }
 {
     pack(fill_plan(job, starts, buffer))
+}
+
+#[no_mangle]
+pub extern "C" fn find(job: &[u32], starts: &[u32], facts: &[u32], buffer: &mut [u32]) -> u64
+    ensures { λ r. ⌜ Promised (now (job .entry)) (now (starts .entry)) (now (facts .entry)) (now (buffer .entry)) r (now (buffer .exit)) ⌝ }
+{
+    pack(find_reading(job, starts, facts, buffer))
 }

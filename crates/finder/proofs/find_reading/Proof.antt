@@ -1,0 +1,63 @@
+-- `finder::find_reading` meets its contract: a row's refusal, or what `seek` finds. Assumes nothing.
+use mathlib.Core.Path.{_≡_, sym, subst}
+use native.Mathlib.Omega.{arith}
+use Rattle.answers.specs.Packed.{InRange}
+use Rattle.theory.proofs.Range.{check-range}
+use Rattle.trajectory.proofs.Passed.{job-clear}
+use Rattle.finder.proofs.Refusals.{plan-none, refused-length, short-buffer, check-refused, then-sought}
+use borrow.Author.Needs.{needs}
+use Rattle.finder.proofs.find_reading.Statement.{statement}
+use Rattle.finder.proofs.find_reading.Tie as tie
+
+returns : tie.Need-returns
+returns c = (short-buffer _ _ _ _ (c .if1 .taken), (omega arith, omega arith))
+
+check-plan-requires : tie.Need-check-plan-requires
+check-plan-requires c κs = search needs
+
+enum-told : tie.Need-enum-told
+enum-told c = search needs
+
+returns-2 : tie.Need-returns-2
+returns-2 c =
+    let e = c .before .before .check-plan .ensures in (
+      check-refused _ _ _ _ (omega (arith, c .before .before .before .if1)) (c .before .before .check-plan .ensures) (c .enum-told .given .1),
+      (
+        subst InRange (sym e) (check-range (c .before .before .before .before .before .before .before .before .args .job .now) (c .before .before .before .before .before .before .before .before .args .starts .now) (λ i. omega (arith, c .before .before .before .before .before .before .shared-slice-known2 .given i)) (c .before .before .before .before .before .before .before .before .args .facts .now)),
+        refused-length (c .enum-told .given .1),
+      ),
+    )
+
+enum-told-2 : tie.Need-enum-told-2
+enum-told-2 c = search needs
+
+world-of-requires : tie.Need-world-of-requires
+world-of-requires c κs = plan-none _ _ _ (c .before .before .check-plan .ensures) (c .enum-told2 .given .1)
+
+seek-requires : tie.Need-seek-requires
+seek-requires c κs = (
+  job-clear _ _ (plan-none _ _ _ (c .before .before .before .before .check-plan .ensures) (c .before .before .enum-told2 .given .1)),
+  c .before .world-of .ensures,
+  omega (arith, c .before .before .before .before .before .if1),
+)
+
+same-length : tie.Need-same-length
+same-length c = search needs
+
+returns-3 : tie.Need-returns-3
+returns-3 c =
+    (then-sought _ _ _ _ (omega (arith, c .before .before .before .before .before .before .before .before .if1)) (c .before .before .before .before .before .before .before .check-plan .ensures) (c .before .before .before .before .before .enum-told2 .given .1) (c .before .before .seek .ensures .0), c .before .before .seek .ensures .1)
+
+pub find-reading-spec : {M : Type 1} → statement M
+find-reading-spec =
+    tie.close
+    (tie.spec
+    returns
+    check-plan-requires
+    enum-told
+    returns-2
+    enum-told-2
+    world-of-requires
+    seek-requires
+    same-length
+    returns-3)

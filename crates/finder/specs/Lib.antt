@@ -1,0 +1,2 @@
+-- What find answers and leaves behind: Find.
+pub mod Find

@@ -1,0 +1,21 @@
+-- `planreader::find` meets its contract: the answer of `finder::find_reading`, which is in range, packed. Assumes nothing.
+use borrow.Author.Needs.{needs}
+use Rattle.planreader.proofs.find.Statement.{statement}
+use Rattle.planreader.proofs.find.Tie as tie
+
+find-reading-requires : tie.Need-find-reading-requires
+find-reading-requires c κs = search needs
+
+pack-requires : tie.Need-pack-requires
+pack-requires c κs = c .before .before .find-reading .ensures .1 .0
+
+same-length : tie.Need-same-length
+same-length c = search needs
+
+returns : tie.Need-returns
+returns c =
+    let made = c .before .before .before .find-reading in
+    record { answer = made .result; number = c .pack .ensures; outcome = made .ensures .0 }
+
+pub find-spec : {M : Type 1} → statement M
+find-spec = tie.close (tie.spec find-reading-requires pack-requires same-length returns)

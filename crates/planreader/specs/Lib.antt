@@ -1,0 +1,2 @@
+-- What find's number is: Promised.
+pub mod Promised
