@@ -1,0 +1,20 @@
+-- `dialog::are_sized` meets its contract, by the test of the first size. Assumes nothing.
+use mathlib.Core.Path.{sym, _∙_}
+use borrow.Author.Needs.{needs}
+use Rattle.dialog.proofs.are_sized.Statement.{statement}
+use Rattle.dialog.proofs.are_sized.Tie as tie
+
+is-sized-requires : tie.Need-is-sized-requires
+is-sized-requires c κs = search needs
+
+is-sized-requires-2 : tie.Need-is-sized-requires-2
+is-sized-requires-2 c κs = search needs
+
+returns : tie.Need-returns
+returns c = rw (sym (c .before .before .is-sized .ensures) ∙ c .before .if1 .taken) (c .is-sized2 .ensures)
+
+returns-2 : tie.Need-returns-2
+returns-2 c = rw (sym (c .before .is-sized .ensures) ∙ c .if1 .left)
+
+pub are-sized-spec : {M : Type 1} → statement M
+are-sized-spec = tie.close (tie.spec is-sized-requires is-sized-requires-2 returns returns-2)

@@ -1,0 +1,2 @@
+-- The definitions that the contracts of `dialog` cite: Reply (what planread prints for the bytes of its two files).
+pub mod Reply

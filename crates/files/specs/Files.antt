@@ -1,0 +1,47 @@
+-- Files of words: which sizes are good, the words of their bytes, and the starts and facts of a plan.
+use Prim.Native.Nat.{ℕ, _+_, _*_, _%_, _≤_}
+use mathlib.Core.Path.{_≡_}
+use mathlib.Core.Bool.{Bool}
+use mathlib.Core.List.{List, [], _∷_}
+use lib.Dec.{eqb, leb}
+use lib.ListN.{length, getD, take, drop}
+use Rattle.words.specs.Tests.{both}
+use Rattle.words.specs.Fields.{kind}
+use Rattle.words.specs.Scan.{leading, beyond}
+
+-- at most 32 KiB, and whole words
+abbrev pub sized : ℕ → Bool
+sized n = both (leb n 32768) (eqb (n % 4) 0)
+
+abbrev pub isStart : ℕ → Bool
+isStart w = eqb (kind w) 9
+
+-- the leading kind 9 words of a plan are its starts, the rest its facts
+abbrev pub startsOf : List ℕ → List ℕ
+startsOf plan = leading isStart plan
+
+abbrev pub givenFacts : List ℕ → List ℕ
+givenFacts plan = beyond isStart plan
+
+-- the word of four bytes, the lowest first
+abbrev pub wordOf : ℕ → ℕ → ℕ → ℕ → ℕ
+wordOf a b c d = a + b * 256 + c * 65536 + d * 16777216
+
+-- the word whose bytes begin at an index
+abbrev pub wordAt : List ℕ → ℕ → ℕ
+wordAt bytes at = wordOf (getD bytes at 0) (getD bytes (at + 1) 0) (getD bytes (at + 2) 0) (getD bytes (at + 3) 0)
+
+-- the words of a list of bytes; up to three bytes at the end that make no word are left out
+unfoldable pub wordsOf : List ℕ → List ℕ
+wordsOf [] = []
+wordsOf (a ∷ []) = []
+wordsOf (a ∷ b ∷ []) = []
+wordsOf (a ∷ b ∷ c ∷ []) = []
+wordsOf (a ∷ b ∷ c ∷ d ∷ rest) = wordOf a b c d ∷ wordsOf rest
+
+-- out is old with the words of bytes over its first r words. `within` and `counted` are what lending `&out[..r]` asks
+pub record Decoded (bytes old out : List ℕ) (r : ℕ) : Type 0 where
+  pub within : r ≤ length out
+  pub counted : r ≡ length (take r out)
+  pub words : take r out ≡ wordsOf bytes
+  pub rest : drop r out ≡ drop r old

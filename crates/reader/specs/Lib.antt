@@ -1,0 +1,2 @@
+-- The definitions that the contracts of `reader` cite: File (what came of reading a file).
+pub mod File

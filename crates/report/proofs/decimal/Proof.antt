@@ -1,0 +1,39 @@
+-- `report::decimal` meets its contract: the digits that `io::decimal` makes are the decimal text. Assumes nothing.
+use native.Mathlib.Omega.{arith}
+use Rattle.report.proofs.Numbers.{few, decimal-end}
+use borrow.Author.Needs.{needs}
+use Rattle.report.proofs.decimal.Statement.{statement}
+use Rattle.report.proofs.decimal.Tie as tie
+
+decimal-requires : tie.Need-decimal-requires
+decimal-requires c κs = search needs
+
+array-share-prefix-digits : tie.Need-array-share-prefix-digits
+array-share-prefix-digits c = search needs
+
+slice-aggregate-append : tie.Need-slice-aggregate-append
+slice-aggregate-append c = search needs
+
+append-requires : tie.Need-append-requires
+append-requires c κs =
+    let made = c .before .before .decimal .ensures in
+    omega (arith, few 10 1 20 _ _ (omega arith) (omega arith) (omega arith) (made .1 .0))
+
+same-length : tie.Need-same-length
+same-length c = search needs
+
+returns : tie.Need-returns
+returns c =
+    let made = c .before .before .before .before .before .decimal .ensures in
+    decimal-end _ _ _ (made .1 .1) (made .1 .0) (c .before .before .before .before .before .before .before .before .fits .n .fits) (c .before .before .append .ensures)
+
+pub decimal-spec : {M : Type 1} → statement M
+decimal-spec =
+    tie.close
+    (tie.spec
+    decimal-requires
+    array-share-prefix-digits
+    slice-aggregate-append
+    append-requires
+    same-length
+    returns)

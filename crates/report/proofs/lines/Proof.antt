@@ -1,0 +1,65 @@
+-- `report::lines` meets its contract: at i the lines of the first i words are written. Assumes nothing.
+use Prim.Native.Nat.{_+_, _*_, _-_, _≤_}
+use mathlib.Core.Path.{_≡_}
+use native.Mathlib.Omega.{arith}
+use lib.ListN.{take, getD}
+use Rattle.report.specs.Text.{Appended, hexLines}
+use Rattle.report.proofs.Texts.{nothing}
+use Rattle.report.proofs.Numbers.{length-hex-line, line-more, lines-all}
+use Rattle.report.proofs.lines.Statement.{statement}
+use Rattle.report.proofs.lines.Tie as tie
+
+abbrev Inv-loop : tie.InvT-loop
+Inv-loop out₀ at words n i₀ end₀ out i end = (i ≤ n) × ((end ≡ at + i * 9) × Appended out₀ at (hexLines (take i words)) out end)
+
+abbrev μ-loop : tie.MeasureT-loop
+μ-loop out₀ at words n i₀ end₀ out i end = n - i
+
+loop-holds : tie.Need-loop-holds Inv-loop μ-loop
+unfolding hexLines
+loop-holds c = (omega arith, (omega arith, nothing _ _))
+
+mul-hex-line : tie.Need-mul-hex-line Inv-loop μ-loop
+mul-hex-line c = omega arith
+
+shared-slice-read-hex-line : tie.Need-shared-slice-read-hex-line Inv-loop μ-loop
+shared-slice-read-hex-line c = omega arith
+
+hex-line-requires : tie.Need-hex-line-requires Inv-loop μ-loop
+hex-line-requires c κs = omega arith
+
+add-i : tie.Need-add-i Inv-loop μ-loop
+add-i c = omega arith
+
+loop-less : tie.Need-loop-less Inv-loop μ-loop
+loop-less c = omega arith
+
+loop-again : tie.Need-loop-again Inv-loop μ-loop
+loop-again c =
+    let head = c .before .before .before .before .before .before in
+    let words = head .before .before .before .args .words .now in
+    let line = c .before .before .hex-line .ensures in
+    (omega arith, (omega (arith, line .ends, length-hex-line (getD words (head .loop .i) 0)), line-more words (head .loop .i) (omega arith) (head .loop .inv .1 .1) line))
+
+same-length : tie.Need-same-length Inv-loop μ-loop
+same-length c = omega arith
+
+returns : tie.Need-returns Inv-loop μ-loop
+returns c =
+    lines-all (c .before .before .before .before .args .words .now) (c .before .loop .i) (c .before .before .before .before .args .n) (omega arith) (c .before .loop .inv .1 .1)
+
+pub lines-spec : {M : Type 1} → statement M
+lines-spec =
+    tie.close
+    (tie.spec
+    Inv-loop
+    μ-loop
+    loop-holds
+    mul-hex-line
+    shared-slice-read-hex-line
+    hex-line-requires
+    add-i
+    loop-less
+    loop-again
+    same-length
+    returns)
