@@ -34,7 +34,7 @@ extern "C" {
 #endif
 
 #define PLANREADER_BUFFER_WORDS 4096u /* a shorter buffer is refusal 12 */
-#define PLANREADER_STACK 65536u /* bytes: what the tests measured, rounded up */
+#define PLANREADER_STACK 131072u /* bytes: what the tests measured, rounded up */
 
 /* Is the plan lawful? Refusals 1 to 11, or 0. Writes nothing. */
 uint64_t check(const uint32_t *job, size_t job_len, const uint32_t *starts, size_t starts_len,
@@ -44,6 +44,12 @@ uint64_t check(const uint32_t *job, size_t job_len, const uint32_t *starts, size
  * Refusals 12 and 1 to 10. A refusal changes no word of the buffer, and a success none after the list. */
 uint64_t fill(const uint32_t *job, size_t job_len, const uint32_t *starts, size_t starts_len,
               uint32_t *buffer, size_t buffer_len);
+
+/* Reads the job's procedure against the plan from moment 0 to the last. Refusals 12 and 1 to 11; then 13, no list of words is a reading of
+ * the root, with the true count; or a reading's words in the buffer's first planreader_length words, with the true count: the number of
+ * (node, begin, end) triples that have a reading. A refusal, 13 too, changes no word of the buffer, and a success none after the reading. */
+uint64_t find(const uint32_t *job, size_t job_len, const uint32_t *starts, size_t starts_len,
+              const uint32_t *facts, size_t facts_len, uint32_t *buffer, size_t buffer_len);
 
 /* The fields of an answer. */
 static inline unsigned planreader_number(uint64_t answer) { return (unsigned)(answer >> 56); }

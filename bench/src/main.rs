@@ -1,5 +1,8 @@
-//! Times check and fill on the largest lawful plans, beside the checker written apart, in one run: best of several, in milliseconds.
-//! Exits with 1 where check or fill takes more than 10 ms, more than 3 ms of it on the job, or the two disagree.
+//! Times check and fill on the largest lawful plans, and find on a door of 40 nodes, beside the checker written apart, in one run, and find
+//! on crowded task sets: best of several, in milliseconds. Exits with 1 where check or fill takes more than 10 ms, more than 3 ms of it
+//! on the job, find more than 1 ms on the door or more than 1.5 s on a set, or the two disagree.
+mod finds;
+
 use planreader_tests::{checker::calls, host};
 use std::hint::black_box;
 use std::time::Instant;
@@ -21,10 +24,10 @@ fn plan(d: u32) -> (Vec<u32>, Vec<u32>) {
     (job, starts)
 }
 
-fn best<T>(mut run: impl FnMut() -> T) -> (f64, T) {
+pub fn best<T>(runs: usize, mut run: impl FnMut() -> T) -> (f64, T) {
     let mut least = f64::MAX;
     let mut last = None;
-    for _ in 0..30 {
+    for _ in 0..runs {
         let start = Instant::now();
         last = Some(black_box(run()));
         least = least.min(start.elapsed().as_secs_f64() * 1e3);
@@ -38,16 +41,17 @@ fn main() {
     for d in [1, 2, 7] {
         let (job, starts) = plan(d);
         let mut buffer = vec![0; 4096];
-        let (job_ms, _) = best(|| host::check(&job, &[], &[]));
-        let (fill_ms, filled) = best(|| host::fill(&job, &starts, &mut buffer));
+        let (job_ms, _) = best(10, || host::check(&job, &[], &[]));
+        let (fill_ms, filled) = best(10, || host::fill(&job, &starts, &mut buffer));
         let facts = buffer[..filled.length as usize].to_vec();
-        let (check_ms, checked) = best(|| host::check(&job, &starts, &facts));
-        let (plain_fill, plain) = best(|| calls::fill(&job, &starts, 4096));
-        let (plain_check, right) = best(|| calls::check(&job, &starts, &facts));
+        let (check_ms, checked) = best(10, || host::check(&job, &starts, &facts));
+        let (plain_fill, plain) = best(10, || calls::fill(&job, &starts, 4096));
+        let (plain_check, right) = best(10, || calls::check(&job, &starts, &facts));
         println!("{d:>3} {:>6} {:>6} {job_ms:>9.3} {check_ms:>9.3} {fill_ms:>9.3} {plain_check:>14.3} {plain_fill:>13.3}", job.len(), starts.len());
         failed |= job_ms > 3.0 || check_ms > 10.0 || fill_ms > 10.0;
         failed |= filled.number != 0 || checked != right || plain.0 != filled || plain.1 != facts;
     }
+    failed |= finds::failed();
     if failed {
         println!("FAILED");
         std::process::exit(1);

@@ -1,4 +1,4 @@
-/* A host in C: calls check and fill, holds what each leaves in its buffer, and measures the stack that they use.
+/* A host in C: calls check, fill and find, holds what each leaves in its buffer, and measures the stack that they use.
  * Prints each fault, and exits with 1 if there is one. */
 #define _POSIX_C_SOURCE 200809L
 #include "planreader.h"
@@ -10,12 +10,17 @@
 
 static int faults;
 
-static void expect(const char *what, uint64_t answer, unsigned number, unsigned position, unsigned length)
+static void expect_count(const char *what, uint64_t answer, unsigned number, unsigned position, unsigned length, unsigned count)
 {
-    if (planreader_number(answer) != number || planreader_position(answer) != position || planreader_length(answer) != length || planreader_count(answer) != 0) {
+    if (planreader_number(answer) != number || planreader_position(answer) != position || planreader_length(answer) != length || planreader_count(answer) != count) {
         printf("%s: %u at %u, length %u, count %u\n", what, planreader_number(answer), planreader_position(answer), planreader_length(answer), planreader_count(answer));
         faults++;
     }
+}
+
+static void expect(const char *what, uint64_t answer, unsigned number, unsigned position, unsigned length)
+{
+    expect_count(what, answer, number, position, length, 0);
 }
 
 static void same(const char *what, const uint32_t *a, const uint32_t *b, size_t words)
@@ -34,7 +39,7 @@ static uint32_t buffer[5000], before[5000];
 
 static void small(void)
 {
-    const uint32_t late[] = {0x90000040u}, other[] = {0xa0000000u};
+    const uint32_t late[] = {0x90000040u}, other[] = {0xa0000000u}, still[] = {0xa0000001u, 0xa0000081u}, reading[] = {0xb0000001u};
     for (size_t i = 0; i < 5000; i++) before[i] = buffer[i] = 7u * (uint32_t)i;
     expect("check, all empty", check(NULL, 0, NULL, 0, NULL, 0), 1, 0, 0);
     expect("check, passes", check(job, 5, starts, 1, facts, 2), 0, 0, 0);
@@ -47,7 +52,14 @@ static void small(void)
     expect("fill, short buffer", fill(job, 5, starts, 1, buffer, 4095), 12, 0, 0);
     expect("fill, bad job", fill(job, 4, starts, 1, buffer, 5000), 5, 0, 0);
     expect("fill, bad start", fill(job, 5, late, 1, buffer, 5000), 7, 0, 0);
+    expect("find, short buffer", find(job, 5, starts, 1, facts, 2, buffer, 4095), 12, 0, 0);
+    expect("find, a fact missing", find(job, 5, starts, 1, facts, 1, buffer, 5000), 11, 1, 0);
+    expect_count("find, no reading", find(job, 5, NULL, 0, still, 2, buffer, 5000), 13, 0, 0, 0);
     same("a refusal changed the buffer", buffer, before, 5000);
+    expect_count("find", find(job, 5, starts, 1, facts, 2, buffer, 5000), 0, 0, 1, 1);
+    same("find wrote another reading", buffer, reading, 1);
+    same("find wrote after the reading", buffer + 1, before + 1, 4999);
+    buffer[0] = before[0];
     expect("fill", fill(job, 5, starts, 1, buffer, 4096), 0, 0, 2);
     same("fill wrote other facts", buffer, facts, 2);
     same("fill wrote after the facts", buffer + 2, before + 2, 4998);
@@ -55,12 +67,32 @@ static void small(void)
 
 static uint32_t large_job[JOB_WORDS], large_starts[STARTS], large_facts[4096];
 
+static uint32_t large_reading[4096];
+
+/* A chain of 31 sequences of tests, n = 0, so that writing the reading goes as deep as it can. */
+static void deep(void)
+{
+    static uint32_t chain[1 + 1 + 1 + 64], reading[4096];
+    size_t n = 0;
+    chain[n++] = 0x10010100u;
+    chain[n++] = 0x30000001u;
+    chain[n++] = 0x50000000u;
+    chain[n++] = 0x61000000u;
+    for (uint32_t p = 1; p < 63; p += 2) {
+        chain[n++] = 0x61000000u;
+        chain[n++] = 0x62000000u | (p == 1 ? 0u : p - 1) << 18 | p << 12;
+    }
+    expect_count("find, deep", find(chain, n, NULL, 0, NULL, 0, reading, 4096), 0, 0, 63, 63);
+}
+
 static void *large(void *unused)
 {
     (void)unused;
     uint64_t filled = fill(large_job, JOB_WORDS, large_starts, STARTS, large_facts, 4096);
     expect("fill, large", filled, 0, 0, 4096);
     expect("check, large", check(large_job, JOB_WORDS, large_starts, STARTS, large_facts, 4096), 0, 0, 0);
+    expect_count("find, large", find(large_job, JOB_WORDS, large_starts, STARTS, large_facts, 4096, large_reading, 4096), 13, 0, 0, 64);
+    deep();
     return NULL;
 }
 
