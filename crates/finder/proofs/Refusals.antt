@@ -54,7 +54,7 @@ module _ (job starts facts buffer : List ℕ) where
   short-buffer h = refused {n = 12} {p = 0} (rw (lt-ltb (length buffer) 4096 h)) (λ e. omega arith)
 
   -- with room in the buffer the row is check's
-  same-row : 4096 ≤ length buffer → findRefusal (length buffer) job starts facts ≡ checkRefusal job starts facts
+  pub same-row : 4096 ≤ length buffer → findRefusal (length buffer) job starts facts ≡ checkRefusal job starts facts
   unfolding findRefusal
   same-row room = rw (le-ltb (length buffer) 4096 room)
 

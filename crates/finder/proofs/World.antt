@@ -76,6 +76,38 @@ unfolding times occurrences
 times-same q [] = refl
 times-same q (x ∷ xs) = omega (arith, times-same q xs)
 
+-- the nodes of a well-formed job are as their forms need
+module _ (job starts : List ℕ) (formed : WellFormed job) where
+  module _ (p : ℕ) (h : p < nodeCount job) where
+    -- the node is as its form needs
+    formed-by : (n : ℕ) → form (nodeWord job p) ≡ n → FormedAs (procedureOf job) (trajectoryOf job starts) (formNumber n) p
+    unfolding procedureOf trajectoryOf
+    formed-by zero e = tt
+    formed-by (suc zero) e = tt
+    formed-by (suc (suc zero)) e = let g = formed .node p h in (g .lower-x (inl (omega arith, omega arith)), g .lower-y (omega arith) (omega arith))
+    formed-by (suc (suc (suc zero))) e = let g = formed .node p h in (g .lower-x (inl (omega arith, omega arith)), g .lower-y (omega arith) (omega arith))
+    formed-by (suc (suc (suc (suc zero)))) e = let g = formed .node p h in (g .lower-y (omega arith) (omega arith), g .lower-m e)
+    formed-by (suc (suc (suc (suc (suc zero))))) e = formed .node p h .lower-y (omega arith) (omega arith)
+    formed-by (suc (suc (suc (suc (suc (suc zero)))))) e = let g = formed .node p h in (g .lower-x (inr (omega arith, omega arith)), g .lower-y (omega arith) (omega arith))
+    formed-by (suc (suc (suc (suc (suc (suc (suc zero))))))) e = let g = formed .node p h in (g .lower-x (inr (omega arith, omega arith)), g .lower-y (omega arith) (omega arith))
+    formed-by (suc (suc (suc (suc (suc (suc (suc (suc zero)))))))) e =
+        let s = formed .set p h e in
+        let q = length-map (memberWords job p) memberNode in (
+          record {
+            some = rw q (s .some-members);
+            few = rw q (s .few-members);
+            conditions = s .few-conditions;
+            moments = omega (arith, formed .few-moments);
+            named = λ i l. rw q (s .condition i l .first, s .condition i l .second);
+          },
+          λ i l. rw (List·getD-map memberNode (memberWords job p) i 0) (s .lower i (omega arith)),
+        )
+    formed-by (suc (suc (suc (suc (suc (suc (suc (suc (suc n))))))))) e = tt
+
+  pub formed-job : (p : ℕ) → p < procedureOf job .count → FormedAs (procedureOf job) (trajectoryOf job starts) (formAt (procedureOf job) p) p
+  unfolding procedureOf
+  formed-job p h = formed-by p h (form (nodeWord job p)) refl
+
 module _ (job starts : List ℕ) (w : World) (formed : WellFormed job) (c : Carried job starts w) where
   abbrev P : Procedure
   P = procedureIn job w
@@ -120,31 +152,6 @@ module _ (job starts : List ℕ) (w : World) (formed : WellFormed job) (c : Carr
         rw (a .3) ((rw conditions-are at (s .condition)) (a .0) (a .1) .formula (a .2))
     asked k (suc (suc (suc (suc (suc (suc (suc (suc (suc n))))))))) e a = absurd a
 
-    -- the node is as its form needs
-    formed-by : (n : ℕ) → form (nodeWord job p) ≡ n → FormedAs (procedureOf job) (trajectoryOf job starts) (formNumber n) p
-    unfolding procedureOf trajectoryOf
-    formed-by zero e = tt
-    formed-by (suc zero) e = tt
-    formed-by (suc (suc zero)) e = let g = formed .node p h in (g .lower-x (inl (omega arith, omega arith)), g .lower-y (omega arith) (omega arith))
-    formed-by (suc (suc (suc zero))) e = let g = formed .node p h in (g .lower-x (inl (omega arith, omega arith)), g .lower-y (omega arith) (omega arith))
-    formed-by (suc (suc (suc (suc zero)))) e = let g = formed .node p h in (g .lower-y (omega arith) (omega arith), g .lower-m e)
-    formed-by (suc (suc (suc (suc (suc zero))))) e = formed .node p h .lower-y (omega arith) (omega arith)
-    formed-by (suc (suc (suc (suc (suc (suc zero)))))) e = let g = formed .node p h in (g .lower-x (inr (omega arith, omega arith)), g .lower-y (omega arith) (omega arith))
-    formed-by (suc (suc (suc (suc (suc (suc (suc zero))))))) e = let g = formed .node p h in (g .lower-x (inr (omega arith, omega arith)), g .lower-y (omega arith) (omega arith))
-    formed-by (suc (suc (suc (suc (suc (suc (suc (suc zero)))))))) e =
-        let s = formed .set p h e in
-        let q = length-map (memberWords job p) memberNode in (
-          record {
-            some = rw q (s .some-members);
-            few = rw q (s .few-members);
-            conditions = s .few-conditions;
-            moments = omega (arith, formed .few-moments);
-            named = λ i l. rw q (s .condition i l .first, s .condition i l .second);
-          },
-          λ i l. rw (List·getD-map memberNode (memberWords job p) i 0) (s .lower i (omega arith)),
-        )
-    formed-by (suc (suc (suc (suc (suc (suc (suc (suc (suc n))))))))) e = tt
-
   pub agrees : Agrees P T (procedureOf job) (trajectoryOf job starts)
   unfolding procedureOf trajectoryOf
   agrees = record {
@@ -158,16 +165,12 @@ module _ (job starts : List ℕ) (w : World) (formed : WellFormed job) (c : Carr
     values = λ p k t h a l. sym (c .values k t (asked p (here h) k (form (P .node p)) refl a) (let q = c .last in omega arith));
   }
 
-  formed-job : (p : ℕ) → p < procedureOf job .count → FormedAs (procedureOf job) (trajectoryOf job starts) (formAt (procedureOf job) p) p
-  unfolding procedureOf
-  formed-job p h = formed-by p h (form (nodeWord job p)) refl
-
   pub ready : Ready P T (length job) (w .places) (w .sizes) (w .limits)
   ready = record {
     few = rw (c .count) (formed .few-nodes);
     moments = let q = c .last in omega (arith, formed .few-moments);
     inside = λ p h. rw (c .sizes p (here h), c .limits p (here h)) (conditions-fit (c .places) p (here h));
-    formed = formed-there (agrees-back agrees) formed-job;
+    formed = formed-there (agrees-back agrees) (formed-job job starts formed);
   }
 
   -- ---- each node but the root is named once

@@ -23,7 +23,7 @@ use Rattle.reading.proofs.Step.{step, Filled, carry}
 
 -- ---- tests
 
-abbrev Tells : Bool → Type 0 → Type 0
+abbrev pub Tells : Bool → Type 0 → Type 0
 Tells t A = (t ≡ true) ↔ A
 
 -- the second test may rest on the first
@@ -31,10 +31,10 @@ and-given : {A B : Type 0} (s t : Bool) → Tells s A → (A → Tells t B) → 
 and-given true t f g = (λ h. (f .0 refl, g (f .0 refl) .0 h), λ h. g (h .0) .1 (h .1))
 and-given false t f g = (λ h. absurd (false≢true h), λ h. f .1 (h .0))
 
-and-law : {A B : Type 0} (s t : Bool) → Tells s A → Tells t B → Tells (s && t) (A × B)
+pub and-law : {A B : Type 0} (s t : Bool) → Tells s A → Tells t B → Tells (s && t) (A × B)
 and-law s t f g = and-given s t f (λ a. g)
 
-or-law : {A B : Type 0} (s t : Bool) → Tells s A → Tells t B → Tells (s || t) (A ⊎ B)
+pub or-law : {A B : Type 0} (s t : Bool) → Tells s A → Tells t B → Tells (s || t) (A ⊎ B)
 or-law true t f g = (λ h. inl (f .0 refl), λ h. refl)
 or-law false t f g = (λ h. inr (g .0 h), ⊎-elim (λ a. absurd (false≢true (f .1 a))) (g .1))
 
@@ -42,10 +42,10 @@ implied : (a b : Bool) → (a ≡ true → b ≡ true) → implies a b ≡ true
 implied true b h = h refl
 implied false b h = refl
 
-eq-law : (a b : ℕ) → Tells (eqb a b) (a ≡ b)
+pub eq-law : (a b : ℕ) → Tells (eqb a b) (a ≡ b)
 eq-law a b = (eqb-true a b, eq-eqb a b)
 
-le-law : (a b : ℕ) → Tells (leb a b) (a ≤ b)
+pub le-law : (a b : ℕ) → Tells (leb a b) (a ≤ b)
 le-law a b = (leb-true a b, le-leb a b)
 
 some-law : (f : ℕ → Bool) (k : ℕ) → Tells (some f k) ((m : ℕ) × (m < k) × (f m ≡ true))
@@ -56,7 +56,7 @@ some-law f (suc k) = Iff·trans (or-law (f k) (some f k) Iff·rfl (some-law f k)
   λ h. by-cases (decLt (h .0) k) (λ l. inr (h .0, l, h .2)) (λ l. let q : h .0 ≡ k = omega (arith, h .1) in inl (rw q at (h .2))),
 )
 
-each-law : (f : ℕ → Bool) (k : ℕ) → Tells (each f k) ((m : ℕ) → m < k → f m ≡ true)
+pub each-law : (f : ℕ → Bool) (k : ℕ) → Tells (each f k) ((m : ℕ) → m < k → f m ≡ true)
 unfolding each
 each-law f zero = (λ h m l. absurd (omega arith), λ h. refl)
 each-law f (suc k) = Iff·trans (and-law (f k) (each f k) Iff·rfl (each-law f k)) (

@@ -1,0 +1,172 @@
+-- What find's contract owes to a case that passes its test, and so to each case of the table. Assumes nothing.
+use Prim.Native.Nat.{ℕ, zero, suc, _-_, _*_, _≤_, _<_}
+use mathlib.Core.Bool.{Bool, true, false, _&&_, _||_, not, false≢true}
+use mathlib.Core.Path.{_≡_, refl, sym, ap, _∙_, subst}
+use mathlib.Core.Logic.{⊎-elim, Iff·rfl, Iff·trans}
+use mathlib.Core.List.{List, [], _∷_, List·Memᴰ, List·Memᴰ·head, List·Memᴰ·tail, List·Memᴰ·cases-cons, List·Memᴰ·not-nil}
+use native.Mathlib.Omega.{arith}
+use lib.Dec.{eqb, leb}
+use lib.ListN.{length}
+use Rattle.answers.specs.declared.Refusal.{Refusal}
+use Rattle.answers.specs.declared.Answer.{Answer}
+use Rattle.answers.specs.declared.Answer.the-variants.{Accepted, Refused}
+use Rattle.answers.specs.Rows.{refusal}
+use Rattle.answers.proofs.Rows.{or-none}
+use Rattle.job.specs.Refusal.{jobRefusal}
+use Rattle.job.specs.Parts.{nodeCount, lastMoment}
+use Rattle.job.proofs.WellFormed.{well-formed}
+use Rattle.facts.specs.Facts.{factsOf}
+use Rattle.starts.specs.Rows.{startsRefusal}
+use Rattle.theory.specs.Answers.{planRefusal, factsRefusal, checkRefusal}
+use Rattle.theory.specs.Trajectory.{trajectoryOf}
+use Rattle.theory.specs.Procedure.{procedureOf}
+use Rattle.reading.specs.Reading.{Ends}
+use Rattle.reading.specs.Count.{Triple, Distinct, none, more, Read}
+use Rattle.reading.specs.Decision.{each}
+use Rattle.reading.proofs.Decides.{Tells, and-law, or-law, eq-law, le-law, each-law, decides}
+use Rattle.finder.specs.Find.{findRefusal, RootReading, Triples, Outcome, refused, sought}
+use Rattle.finder.specs.Find.{unread as without-reading, read as with-reading}
+use Rattle.finder.proofs.World.{formed-job}
+use Rattle.finder.proofs.Refusals.{same-row}
+use Rattle.cases.specs.Cases.{Expected, refuses, unread, read, readIn, Case, triple, table, decided, same, listed, distinct, sound, complete, exactly, fits, rooted, rootWords, worded, answers, passes, all, Owed}
+use Rattle.cases.proofs.Counts.{counted-once}
+use Rattle.cases.proofs.Words.{words-are}
+use Rattle.cases.proofs.Computed.{computed}
+
+-- ---- the tests on lists of triples
+
+both : (a b : Bool) → (a && b) ≡ true → (a ≡ true) × (b ≡ true)
+both a b = and-law a b Iff·rfl Iff·rfl .0
+
+no : (a : Bool) → not a ≡ true → a ≡ true → ⊥
+no true h e = false≢true h
+no false h e = false≢true e
+
+same-law : (s r : Triple) → Tells (same s r) (s ≡ r)
+same-law s r = Iff·trans
+    (and-law _ _ (eq-law (s .node) (r .node)) (and-law _ _ (eq-law (s .begin) (r .begin)) (eq-law (s .end) (r .end))))
+    (λ h. λ i. record { node = h .0 i; begin = h .1 .0 i; end = h .1 .1 i }, λ e. (ap (λ (t : Triple). t .node) e, (ap (λ (t : Triple). t .begin) e, ap (λ (t : Triple). t .end) e)))
+
+listed-law : (s : Triple) (rs : List Triple) → Tells (listed s rs) (List·Memᴰ s rs)
+unfolding listed
+listed-law s [] = (λ h. absurd (false≢true h), λ m. absurd (List·Memᴰ·not-nil m))
+listed-law s (r ∷ rs) = Iff·trans (or-law _ _ (same-law s r) (listed-law s rs)) (⊎-elim List·Memᴰ·head List·Memᴰ·tail, List·Memᴰ·cases-cons)
+
+distinct-law : (rs : List Triple) → distinct rs ≡ true → Distinct rs
+unfolding distinct
+distinct-law [] h = none
+distinct-law (r ∷ rs) h = let (a, b) = both (not (listed r rs)) (distinct rs) h in more (λ m. no (listed r rs) a (listed-law r rs .1 m)) (distinct-law rs b)
+
+-- ---- a job that is well formed: the test tells the readings, and the listed triples are those that have one
+
+module _ (job starts : List ℕ) (ok : jobRefusal job .number ≡ 0) where
+  decided-law : {p b e : ℕ} → p < nodeCount job → b ≤ lastMoment job → Tells (decided job starts p b e) (Ends (procedureOf job) (trajectoryOf job starts) p b e)
+  unfolding decided procedureOf trajectoryOf
+  decided-law {p} {b} {e} h l =
+      let w = well-formed job ok in
+      decides (formed-job job starts w) (omega (arith, w .few-moments)) (nodeCount job * 64) p b e h l (omega arith)
+
+  sound-law : (rs : List Triple) → sound job starts rs ≡ true → (s : Triple) → List·Memᴰ s rs → Read (procedureOf job) (trajectoryOf job starts) s
+  unfolding sound procedureOf trajectoryOf
+  sound-law [] h s m = absurd (List·Memᴰ·not-nil m)
+  sound-law (r ∷ rs) h s m =
+      let (a, b) = both _ (sound job starts rs) h in
+      let (c, d) = both (leb (suc (r .node)) (nodeCount job) && leb (r .begin) (r .end)) (leb (r .end) (lastMoment job) && decided job starts (r .node) (r .begin) (r .end)) a in
+      let (i, j) = and-law _ _ (le-law (suc (r .node)) (nodeCount job)) (le-law (r .begin) (r .end)) .0 c in
+      let (k, l) = and-law _ _ (le-law (r .end) (lastMoment job)) Iff·rfl .0 d in
+      let here : Read (procedureOf job) (trajectoryOf job starts) r = (i, j, decided-law {p = r .node} {b = r .begin} {e = r .end} i (omega arith) .0 l) in
+      ⊎-elim (λ e. subst (λ (t : Triple). Read (procedureOf job) (trajectoryOf job starts) t) (sym e) here) (sound-law rs b s) (List·Memᴰ·cases-cons m)
+
+  complete-law : (rs : List Triple) → complete job starts rs ≡ true → (s : Triple) → Read (procedureOf job) (trajectoryOf job starts) s → List·Memᴰ s rs
+  unfolding complete procedureOf trajectoryOf
+  complete-law rs h s (i, j, k) =
+      let n = lastMoment job in
+      let a = each-law (λ p. each (λ b. each (λ e. not (decided job starts p b e) || listed (triple p b e) rs) (suc n)) (suc n)) (nodeCount job) .0 h (s .node) i in
+      let b = each-law (λ b. each (λ e. not (decided job starts (s .node) b e) || listed (triple (s .node) b e) rs) (suc n)) (suc n) .0 a (s .begin) (omega (arith, k .0)) in
+      let c = each-law (λ e. not (decided job starts (s .node) (s .begin) e) || listed (triple (s .node) (s .begin) e) rs) (suc n) .0 b (s .end) (omega (arith, k .0)) in
+      ⊎-elim (λ d. absurd (no _ d (decided-law i (omega (arith, k .0)) .1 k))) (λ d. d) (or-law _ _ Iff·rfl (listed-law s rs) .0 c)
+
+  exactly-law : (rs : List Triple) → exactly job starts rs ≡ true → Triples job starts (length rs)
+  unfolding exactly
+  exactly-law rs h =
+      let (a, b) = both (distinct rs) _ h in
+      let (c, d) = both (sound job starts rs) (complete job starts rs) b in
+      record { triples = rs; distinct = distinct-law rs a; exact = λ s. (sound-law rs c s, complete-law rs d s); many = refl }
+
+  root-law : Tells (rooted job starts) (Ends (procedureOf job) (trajectoryOf job starts) (nodeCount job - 1) 0 (lastMoment job))
+  unfolding rooted
+  root-law = decided-law (omega (arith, well-formed job ok .some-nodes)) (omega arith)
+
+-- ---- a case that passes
+
+module _ (job starts facts before : List ℕ) (room : 4096 ≤ length before) where
+  abbrev row : Refusal
+  row = checkRefusal job starts facts
+
+  formed : row .number ≡ 0 → jobRefusal job .number ≡ 0
+  unfolding checkRefusal planRefusal
+  formed h = or-none (jobRefusal job) (startsRefusal job starts) (or-none (planRefusal job starts) (factsRefusal facts (factsOf job starts) 0) h .0) .0
+
+  -- a plan that passes is not refused
+  not-refused : {n p : ℕ} → row .number ≡ 0 → findRefusal (length before) job starts facts ≡ refusal n p → n ≡ 0
+  not-refused z e = sym (ap (λ (r : Refusal). r .number) (sym (same-row job starts facts before room) ∙ e)) ∙ z
+
+  -- a plan that passes, whose root reads: a reading is found, with the count of the listed triples
+  found : (rs : List Triple) → (eqb (row .number) 0 && (rooted job starts && exactly job starts rs)) ≡ true
+      → {a : Answer} {after : List ℕ} → Outcome job starts facts before a after → (ws : List ℕ) × RootReading job starts ws × (a ≡ Accepted (length ws) (length rs))
+  found rs h (refused e z) = absurd (z (not-refused (eq-law (row .number) 0 .0 (both (eqb (row .number) 0) _ h .0)) e))
+  found rs h (sought e (without-reading t f)) =
+      let (a, b) = both (eqb (row .number) 0) _ h in
+      let k = root-law job starts (formed (eq-law (row .number) 0 .0 a)) .0 (both (rooted job starts) _ b .0) in
+      absurd (f (k .1 .0) (k .1 .1))
+  found rs h (sought e (with-reading {ws = ws} t r)) =
+      let (a, b) = both (eqb (row .number) 0) _ h in
+      let ok = formed (eq-law (row .number) 0 .0 a) in
+      (ws, r, ap (Accepted (length ws)) (counted-once t (exactly-law job starts ok rs (both (rooted job starts) _ b .1))))
+
+  -- each reading of the root has l words
+  root-words : (l : ℕ) → worded job l ≡ true → {ws : List ℕ} → RootReading job starts ws → length ws ≡ l
+  unfolding worded
+  root-words zero h r = absurd (false≢true (both (eqb (rootWords job) 0) false h .1))
+  root-words (suc l) h r = words-are (nodeCount job) r l (eq-law (rootWords job) (suc l) .0 (both (eqb (rootWords job) (suc l)) (not (eqb (suc l) 0)) h .0))
+
+  owed : (x : Expected) → answers job starts row x ≡ true → {a : Answer} {after : List ℕ} → Outcome job starts facts before a after → Owed x a
+  unfolding answers fits trajectoryOf
+  owed (refuses n p) h (refused {n = m} {p = q} e z) =
+      let (a, b) = both (eqb (row .number) n && eqb (row .position) p) (not (eqb n 0)) h in
+      let (c, d) = and-law _ _ (eq-law (row .number) n) (eq-law (row .position) p) .0 a in
+      let same = sym (same-row job starts facts before room) ∙ e in
+      let i : m ≡ n = sym (ap (λ (r : Refusal). r .number) same) ∙ c in
+      let j : q ≡ p = sym (ap (λ (r : Refusal). r .position) same) ∙ d in
+      rw (i, j)
+  owed (refuses n p) h (sought e s) =
+      let (a, b) = both (eqb (row .number) n && eqb (row .position) p) (not (eqb n 0)) h in
+      let (c, d) = and-law _ _ (eq-law (row .number) n) (eq-law (row .position) p) .0 a in
+      let zero : row .number ≡ 0 = rw (same-row job starts facts before room) at e in
+      absurd (no (eqb n 0) b (eq-law n 0 .1 (sym c ∙ zero)))
+  owed (unread rs) h (refused e z) = absurd (z (not-refused (eq-law (row .number) 0 .0 (both (eqb (row .number) 0) _ h .0)) e))
+  owed (unread rs) h (sought e (without-reading t f)) =
+      let (a, b) = both (eqb (row .number) 0) _ h in
+      let ok = formed (eq-law (row .number) 0 .0 a) in
+      ap (Refused 13 0) (counted-once t (exactly-law job starts ok rs (both (not (rooted job starts)) (exactly job starts rs) b .1)))
+  owed (unread rs) h (sought e (with-reading {ws = ws} t r)) =
+      let (a, b) = both (eqb (row .number) 0) _ h in
+      let ok = formed (eq-law (row .number) 0 .0 a) in
+      absurd (no _ (both (not (rooted job starts)) (exactly job starts rs) b .0) (root-law job starts ok .1 (omega arith, (ws, r))))
+  owed (read rs) h o = let f = found rs h o in (length (f .0), f .2)
+  owed (readIn l rs) h o =
+      let (a, b) = both (worded job l) _ h in
+      let f = found rs b o in
+      f .2 ∙ ap (λ (m : ℕ). Accepted m (length rs)) (root-words l a (f .1))
+
+-- each case of a list that passes does
+each-passes : (cs : List Case) → all cs ≡ true → (c : Case) → List·Memᴰ c cs → passes c ≡ true
+unfolding all
+each-passes [] h c m = absurd (List·Memᴰ·not-nil m)
+each-passes (d ∷ cs) h c m = let (a, b) = both (passes d) (all cs) h in ⊎-elim (λ e. ap passes e ∙ a) (each-passes cs b c) (List·Memᴰ·cases-cons m)
+
+-- the law of the table: whatever find's contract allows for a case, with at least 4,096 words of buffer, is what the case is owed
+pub each-owed : (c : Case) → List·Memᴰ c table → {before after : List ℕ} {a : Answer} → 4096 ≤ length before
+    → Outcome (c .job) (c .starts) (c .facts) before a after → Owed (c .expected) a
+unfolding passes
+each-owed c m {before} room o = owed (c .job) (c .starts) (c .facts) before room (c .expected) (each-passes table computed c m) o

@@ -1,0 +1,6 @@
+-- The cases hold: Computed (the table passes its test, by computing), Counts (a count of triples is the only one), Words
+-- (how many words a reading has), Laws (what a case that passes is owed by find's contract).
+pub mod Computed
+pub mod Counts
+pub mod Words
+pub mod Laws

@@ -1,0 +1,2 @@
+-- The proved cases as data: Cases.
+pub mod Cases

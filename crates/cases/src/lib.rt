@@ -1,0 +1,1 @@
+// The proved cases: jobs, plans and answers as data, and their law.
