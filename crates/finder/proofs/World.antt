@@ -25,8 +25,10 @@ use Rattle.job.specs.WellFormed.{WellFormed}
 use Rattle.job.proofs.Laws.{before-more}
 use Rattle.job.proofs.Parts.{word, word-at}
 use Rattle.facts.proofs.Placed.{word-place, words-after}
-use Rattle.theory.specs.Trajectory.{Trajectory, trajectoryOf}
-use Rattle.theory.specs.Procedure.{Procedure, procedureOf}
+use Rattle.promise.specs.Trajectory.{Trajectory}
+use Rattle.theory.specs.Trajectory.{trajectoryOf}
+use Rattle.promise.specs.Procedure.{Procedure}
+use Rattle.theory.specs.Procedure.{procedureOf}
 use Rattle.theory.proofs.Followers.{members-at, conditions-at, conditions-fit}
 use Rattle.reading.specs.Forms.{Act, formNumber, formAt, fieldX, FormedAs}
 use Rattle.reading.specs.World.{procedureAt, trajectoryAt, Ready}

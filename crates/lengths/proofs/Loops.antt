@@ -8,7 +8,7 @@ use native.Mathlib.Decide.{ℕ-discrete, decLt}
 use native.Mathlib.Omega.{arith}
 use borrow.Author.Tests.{lt-ltb, le-ltb}
 use Rattle.words.specs.Tests.{both, either}
-use Rattle.theory.specs.Procedure.{Procedure}
+use Rattle.promise.specs.Procedure.{Procedure}
 use Rattle.reading.specs.Forms.{formAt}
 use Rattle.lengths.specs.Children.{children, times, NamedOnce}
 use Rattle.lengths.specs.Bound.{isWhile, names, loopWithin, loopAbove}

@@ -5,7 +5,7 @@ use lib.Dec.{ltb}
 use Rattle.words.specs.Tests.{pick, both, either}
 use Rattle.words.specs.Scan.{someBelow}
 use Rattle.bitset.specs.Members.{sum}
-use Rattle.theory.specs.Procedure.{Procedure}
+use Rattle.promise.specs.Procedure.{Procedure}
 use Rattle.reading.specs.Forms.{Form, Act, Test, Sequence, Choice, If, While, StartWindow, EndWindow, Set, Reserved, formAt}
 use Rattle.lengths.specs.Children.{children, times}
 

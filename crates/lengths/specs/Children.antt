@@ -5,7 +5,7 @@ use mathlib.Core.List.{List, [], _∷_}
 use lib.Dec.{eqb}
 use Rattle.words.specs.Tests.{one}
 use Rattle.bitset.specs.Members.{sum}
-use Rattle.theory.specs.Procedure.{Procedure}
+use Rattle.promise.specs.Procedure.{Procedure}
 use Rattle.reading.specs.Forms.{Form, Act, Test, Sequence, Choice, If, While, StartWindow, EndWindow, Set, Reserved, formAt, fieldX, fieldY, fieldM}
 
 -- X, Y of forms 2, 3, 6, 7; Y and M of form 4; Y of form 5; the members of form 8

@@ -12,8 +12,8 @@ use borrow.Author.Tests.{eqb-true, eq-eqb, leb-true, le-leb}
 use Rattle.words.specs.Tests.{implies}
 use Rattle.words.proofs.Choices.{implies-true}
 use Rattle.words.specs.Fields.{form, fails, holds, conditionFormula, conditionI, conditionJ, conditionM, conditionN}
-use Rattle.theory.specs.Trajectory.{Trajectory}
-use Rattle.theory.specs.Procedure.{Procedure}
+use Rattle.promise.specs.Trajectory.{Trajectory}
+use Rattle.promise.specs.Procedure.{Procedure}
 use Rattle.sets.specs.Set.{TaskSet, size, member, MetAs, Met, Placing, SetRule, Formed}
 use Rattle.reading.specs.Forms.{Form, Act, Test, Sequence, Choice, If, While, StartWindow, EndWindow, Set, Reserved, formAt, fieldX, fieldY, fieldM, fieldN, taskSet, FormedAs}
 use Rattle.reading.specs.Reading.{Ends}

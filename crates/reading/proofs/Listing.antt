@@ -9,8 +9,8 @@ use native.Mathlib.Omega.{arith}
 use lib.ListN.{length, getD, length-append}
 use Rattle.bitset.specs.Members.{has, In, one, count, sum, pairs, size}
 use Rattle.bitset.proofs.Counts.{count-le}
-use Rattle.theory.specs.Trajectory.{Trajectory}
-use Rattle.theory.specs.Procedure.{Procedure}
+use Rattle.promise.specs.Trajectory.{Trajectory}
+use Rattle.promise.specs.Procedure.{Procedure}
 use Rattle.reading.specs.Table.{InTable, Found}
 use Rattle.reading.specs.Count.{Triple, Distinct, none, more, Read, Counted}
 use Rattle.reading.proofs.Step.{onward}

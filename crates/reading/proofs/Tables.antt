@@ -9,8 +9,8 @@ use lib.ListN.{length, getD, set, length-set, replicate, length-replicate}
 use lib.Seq.{getD-set-same, getD-set-other}
 use Rattle.bitset.specs.Members.{In}
 use Rattle.bitset.proofs.Laws.{not-both, has-zero}
-use Rattle.theory.specs.Trajectory.{Trajectory}
-use Rattle.theory.specs.Procedure.{Procedure}
+use Rattle.promise.specs.Trajectory.{Trajectory}
+use Rattle.promise.specs.Procedure.{Procedure}
 use Rattle.reading.specs.Forms.{Set, formAt, FormedAs}
 use Rattle.reading.specs.Reading.{Ends}
 use Rattle.reading.specs.Rule.{Rule}

@@ -4,8 +4,8 @@ use mathlib.Core.Path.{_≡_}
 use mathlib.Core.Logic.{_↔_}
 use mathlib.Core.List.{List, [], _∷_, List·Memᴰ}
 use lib.ListN.{length}
-use Rattle.theory.specs.Trajectory.{Trajectory}
-use Rattle.theory.specs.Procedure.{Procedure}
+use Rattle.promise.specs.Trajectory.{Trajectory}
+use Rattle.promise.specs.Procedure.{Procedure}
 use Rattle.reading.specs.Reading.{Ends}
 use Rattle.reading.specs.Table.{Found}
 

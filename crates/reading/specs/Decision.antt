@@ -7,8 +7,8 @@ use lib.Dec.{eqb, leb}
 use lib.ListN.{length, getD}
 use Rattle.words.specs.Tests.{implies}
 use Rattle.words.specs.Fields.{form, fails, holds, conditionFormula, conditionI, conditionJ, conditionM, conditionN}
-use Rattle.theory.specs.Trajectory.{Trajectory}
-use Rattle.theory.specs.Procedure.{Procedure}
+use Rattle.promise.specs.Trajectory.{Trajectory}
+use Rattle.promise.specs.Procedure.{Procedure}
 use Rattle.sets.specs.Set.{TaskSet, size}
 use Rattle.reading.specs.Forms.{Form, Act, Test, Sequence, Choice, If, While, StartWindow, EndWindow, Set, Reserved, formAt, fieldX, fieldY, fieldM, fieldN, taskSet}
 

@@ -7,8 +7,8 @@ use mathlib.Core.List.{List, [], _∷_, _++_}
 use native.Mathlib.Omega.{arith}
 use lib.ListN.{length, getD}
 use Rattle.words.specs.Fields.{fails, holds, readingWord}
-use Rattle.theory.specs.Trajectory.{Trajectory}
-use Rattle.theory.specs.Procedure.{Procedure}
+use Rattle.promise.specs.Trajectory.{Trajectory}
+use Rattle.promise.specs.Procedure.{Procedure}
 use Rattle.sets.specs.Set.{Placing}
 use Rattle.reading.specs.Forms.{Form, Act, Test, Sequence, Choice, If, While, StartWindow, EndWindow, Set, formAt, fieldX, fieldY, fieldM, fieldN, taskSet}
 

@@ -5,8 +5,8 @@ use mathlib.Core.Logic.{_↔_, _⊎_}
 use mathlib.Core.List.{List}
 use lib.ListN.{length, getD}
 use Rattle.bitset.specs.Members.{In}
-use Rattle.theory.specs.Trajectory.{Trajectory}
-use Rattle.theory.specs.Procedure.{Procedure}
+use Rattle.promise.specs.Trajectory.{Trajectory}
+use Rattle.promise.specs.Procedure.{Procedure}
 use Rattle.reading.specs.Forms.{Set, formAt, FormedAs}
 use Rattle.reading.specs.Reading.{Ends}
 use Rattle.reading.specs.Rule.{Rule}

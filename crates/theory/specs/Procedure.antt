@@ -1,17 +1,9 @@
--- The procedure of a job: its nodes, and the members and conditions of its task sets.
-use Prim.Native.Nat.{ℕ}
+-- The procedure of a job.
 use mathlib.Core.List.{List, map}
+use Prim.Native.Nat.{ℕ}
 use Rattle.words.specs.Fields.{memberNode}
+use Rattle.promise.specs.Procedure.{Procedure}
 use Rattle.job.specs.Parts.{nodeCount, nodeWord, memberWords, conditionWords}
-
-pub record Procedure : Type 0 where
-  -- how many nodes there are; the last is the root
-  pub count : ℕ
-  -- the word of node p, whose fields are form, X, Y, M, N
-  pub node : ℕ → ℕ
-  -- of the task set at node p: the nodes of its members, and its condition words
-  pub members : ℕ → List ℕ
-  pub conditions : ℕ → List ℕ
 
 unfoldable pub procedureOf : List ℕ → Procedure
 procedureOf job = record {

@@ -1,0 +1,1 @@
+// What the theory promises to the reading layer: two records, and no code.
