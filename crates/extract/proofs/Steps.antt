@@ -139,19 +139,6 @@ module _ {P : Procedure} {T : Trajectory} {job : ℕ} {places sizes limits table
   pub place-inside : getD places p 0 < job
   place-inside = let h = s .prepared .ready .inside p (s .node) in omega arith
 
--- the form's number, of a loop
-pub while-number : (k : ℕ) → formNumber k ≡ While → k ≡ 5
-while-number zero e = absurd (true-false (sym (ap isWhile e)))
-while-number (suc zero) e = absurd (true-false (sym (ap isWhile e)))
-while-number (suc (suc zero)) e = absurd (true-false (sym (ap isWhile e)))
-while-number (suc (suc (suc zero))) e = absurd (true-false (sym (ap isWhile e)))
-while-number (suc (suc (suc (suc zero)))) e = absurd (true-false (sym (ap isWhile e)))
-while-number (suc (suc (suc (suc (suc zero))))) e = refl
-while-number (suc (suc (suc (suc (suc (suc zero)))))) e = absurd (true-false (sym (ap isWhile e)))
-while-number (suc (suc (suc (suc (suc (suc (suc zero))))))) e = absurd (true-false (sym (ap isWhile e)))
-while-number (suc (suc (suc (suc (suc (suc (suc (suc zero)))))))) e = absurd (true-false (sym (ap isWhile e)))
-while-number (suc (suc (suc (suc (suc (suc (suc (suc (suc k))))))))) e = absurd (true-false (sym (ap isWhile e)))
-
 -- ---- the node's own word
 
 module _ {P : Procedure} {T : Trajectory} {job : ℕ} {places sizes limits table : List ℕ} {p b e at size : ℕ}

@@ -14,7 +14,7 @@ use lib.Dec.{eqb, leb, ltb}
 use lib.ListN.{length, getD, drop, length-drop}
 use lib.Seq.{getD-drop, drop-drop}
 use Rattle.words.specs.Tests.{pick, both, either, implies, one, within}
-use Rattle.words.specs.Fields.{kind, form, spare, isSet, memberNode, conditionFormula, conditionI, conditionJ, conditionM, conditionN}
+use Rattle.words.specs.Fields.{ofKind, kind, form, spare, isSet, memberNode, conditionFormula, conditionI, conditionJ, conditionM, conditionN}
 use Rattle.words.specs.Scan.{leading, beyond}
 use Rattle.words.proofs.Choices.{true-false, both-true, either-true, implies-true, pick-same, true-within}
 use Rattle.words.proofs.Scan.{leading-entry, leading-stop, beyond-drop}
@@ -22,7 +22,7 @@ use Rattle.answers.proofs.Rows.{first-none}
 use Rattle.job.specs.Rules.{grade, conditionShape, conditionRange}
 use Rattle.job.specs.Before.{before, last, count, since, latest}
 use Rattle.job.specs.Refusal.{wordRefusal, refusalOf, nameRefusal, emptySet, endRefusal, jobRefusal}
-use Rattle.job.specs.Parts.{ofKind, total, nodeWord, memberWords, conditionWords, formulaCount}
+use Rattle.job.specs.Parts.{total, nodeWord, memberWords, conditionWords, formulaCount}
 use Rattle.job.specs.WellFormed.{ConditionFormed, SetFormed}
 use Rattle.job.proofs.Laws.{before-more, latest-more, count-more, count-since-more, count-grows}
 use Rattle.job.proofs.Table.{within-limit, rule-passed, Clear, clear, end-clear}

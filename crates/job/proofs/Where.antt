@@ -8,16 +8,17 @@ use native.Mathlib.Nat.{zero-add}
 use native.Mathlib.Numerals.{add-one}
 use native.Mathlib.Decide.{decLt}
 use native.Mathlib.Omega.{arith}
-use borrow.Author.Tests.{eq-eqb, ne-eqb, eqb-true, eqb-false}
+use borrow.Author.Tests.{eq-eqb, ne-eqb}
 use lib.Dec.{eqb}
 use lib.ListN.{length, getD, drop, set, replicate, length-append, length-set, List·getD-append}
 use lib.Seq.{sets, sets-eq, getD-at}
 use Rattle.words.specs.Tests.{pick, one}
-use Rattle.words.specs.Fields.{kind}
+use Rattle.words.specs.Fields.{ofKind, kind}
+use Rattle.words.proofs.Choices.{same-or-not}
 use Rattle.job.specs.Before.{before, count}
 use Rattle.words.specs.Scan.{fromNumber}
 use Rattle.job.specs.Index.{positions, placesUpto}
-use Rattle.job.specs.Parts.{ofKind, total}
+use Rattle.job.specs.Parts.{total}
 use Rattle.job.specs.WellFormed.{Placed}
 use Rattle.job.proofs.Laws.{count-more, count-none, count-grows}
 
@@ -82,13 +83,6 @@ module _ {k : ℕ} {job : List ℕ} {i : ℕ} {ps : List ℕ} {n : ℕ} (m : Mar
 
   pub miss : (kind (getD job i 0) ≡ k → ⊥) → Marked k job (i + 1) ps n
   miss h = let e = positions-miss k job i h in record { long = m .long; total = rw e (m .total); entries = rw e (m .entries) }
-
-same-or-not : (a b : ℕ) → (a ≡ b) ⊎ (a ≡ b → ⊥)
-same-or-not a b = cases (eqb a b) refl
-  where
-    cases : (t : Bool) → eqb a b ≡ t → (a ≡ b) ⊎ (a ≡ b → ⊥)
-    cases true e = inl (eqb-true a b e)
-    cases false e = inr (eqb-false a b e)
 
 -- position i has word j of kind k
 pub record IsWord (job : List ℕ) (k j i : ℕ) : Type 0 where

@@ -4,7 +4,7 @@ use mathlib.Core.List.{List, map}
 use Prim.Native.Nat.{ℕ}
 use lib.Dec.{eqb}
 use lib.ListN.{getD, length, drop}
-use Rattle.words.specs.Fields.{kind, fluentsOf, actionsOf, lastOf, durationOf, memberNode}
+use Rattle.words.specs.Fields.{ofKind, fluentsOf, actionsOf, lastOf, durationOf, memberNode}
 use Rattle.words.specs.Scan.{leading, beyond, fromNumber}
 use Rattle.job.specs.Before.{before, count}
 
@@ -19,9 +19,6 @@ actions job = actionsOf (headWord job)
 
 abbrev pub lastMoment : List ℕ → ℕ
 lastMoment job = lastOf (headWord job)
-
-abbrev pub ofKind : ℕ → ℕ → Bool
-ofKind k w = eqb (kind w) k
 
 -- how many words of kind k there are; the job's words from number j of them on; that word
 abbrev pub total : ℕ → List ℕ → ℕ

@@ -9,20 +9,20 @@ use borrow.Author.Tests.{eqb-true, ne-eqb}
 use lib.Dec.{eqb, ltb}
 use lib.ListN.{length, getD}
 use Rattle.words.specs.Tests.{either}
-use Rattle.words.specs.Fields.{kind, isSet, memberNode}
-use Rattle.words.specs.Scan.{leading, fromNumber}
+use Rattle.words.specs.Fields.{ofKind, kind, isSet, memberNode}
+use Rattle.words.specs.Scan.{leading, fromNumber, times}
 use Rattle.words.proofs.Choices.{both-true, same-or-not, eqb-swap, true-false}
 use Rattle.bitset.specs.Members.{sum}
 use Rattle.job.specs.Rules.{names}
 use Rattle.job.specs.Before.{before, last, count, since, named}
 use Rattle.job.specs.Refusal.{jobRefusal}
-use Rattle.job.specs.Parts.{ofKind, nodeCount, nodeWord, memberWords}
+use Rattle.job.specs.Parts.{nodeCount, nodeWord, memberWords}
 use Rattle.job.proofs.Laws.{before-suc}
 use Rattle.job.proofs.Table.{within-limit}
 use Rattle.job.proofs.Where.{count-cons}
 use Rattle.job.proofs.Parts.{rule}
 use Rattle.job.proofs.WellFormed.{well-formed}
-use Rattle.naming.specs.Naming.{times, childTimes}
+use Rattle.naming.specs.Naming.{childTimes}
 
 -- a sum with its first term apart
 sum-first : (f : ℕ → ℕ) (n : ℕ) → sum f (suc n) ≡ f 0 + sum (λ i. f (suc i)) n

@@ -7,7 +7,8 @@ use mathlib.Core.List.{List, [], _∷_, _++_, List·Memᴰ, List·Memᴰ·head, 
 use native.Mathlib.Decide.{decLt}
 use native.Mathlib.Omega.{arith}
 use lib.ListN.{length, getD, length-append}
-use Rattle.bitset.specs.Members.{has, In, one, count, sum, pairs, size}
+use Rattle.words.specs.Tests.{one}
+use Rattle.bitset.specs.Members.{has, In, count, sum, pairs, size}
 use Rattle.bitset.proofs.Counts.{count-le}
 use Rattle.promise.specs.Trajectory.{Trajectory}
 use Rattle.promise.specs.Procedure.{Procedure}

@@ -9,9 +9,9 @@ use lib.Dec.{eqb}
 use lib.ListN.{length, getD, drop, length-drop}
 use lib.Seq.{getD-drop, drop-drop}
 use Rattle.words.specs.Tests.{both, either, pick}
-use Rattle.words.specs.Fields.{kind, fails, holds, fluentOf, roleOf}
+use Rattle.words.specs.Fields.{ofKind, kind, fails, holds, fluentOf, roleOf}
 use Rattle.words.specs.Scan.{any, leading}
-use Rattle.job.specs.Parts.{headWord, fluents, actions, ofKind, lawsOf}
+use Rattle.job.specs.Parts.{headWord, fluents, actions, lawsOf}
 use Rattle.job.specs.WellFormed.{WellFormed, Placed}
 use Rattle.facts.specs.Values.{valueAt}
 use Rattle.facts.specs.Tables.{StateAt}

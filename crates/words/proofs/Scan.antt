@@ -3,12 +3,12 @@
 use mathlib.Core.Bool.{Bool, true, false}
 use mathlib.Core.List.{List, [], _∷_}
 use mathlib.Core.Logic.{by-cases}
-use mathlib.Core.Path.{_≡_, refl}
+use mathlib.Core.Path.{_≡_, refl, ap}
 use Prim.Native.Nat.{ℕ, zero, suc, _+_, _<_, _≤_}
 use native.Mathlib.Numerals.{add-one}
 use native.Mathlib.Decide.{decLt}
 use native.Mathlib.Omega.{arith}
-use lib.ListN.{length, getD, drop, drop-of-length-le}
+use lib.ListN.{length, getD, take, drop, drop-of-length-le}
 use lib.Seq.{drop-cons}
 use Rattle.words.specs.Tests.{pick, either}
 use Rattle.words.specs.Scan.{any, firstGives, leading, beyond}
@@ -122,6 +122,17 @@ module _ (test : ℕ → Bool) where
           → pick t (beyond test ws) (w ∷ ws) ≡ drop (length (pick t (w ∷ leading test ws) [])) (w ∷ ws)
       cases false ih = refl
       cases true ih = ih
+
+  -- they are the first of the list, as many as they are
+  pub leading-take : (ws : List ℕ) → take (length (leading test ws)) ws ≡ leading test ws
+  unfolding leading
+  leading-take [] = refl
+  leading-take (w ∷ ws) = cases (test w) (leading-take ws)
+    where
+      cases : (t : Bool) → take (length (leading test ws)) ws ≡ leading test ws
+          → take (length (pick t (w ∷ leading test ws) [])) (w ∷ ws) ≡ pick t (w ∷ leading test ws) []
+      cases false ih = refl
+      cases true ih = ap (λ (l : List ℕ). w ∷ l) ih
 
   -- how many lead, from a position on
   module _ (ws : List ℕ) (i : ℕ) where

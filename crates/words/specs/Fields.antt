@@ -16,6 +16,9 @@ spare w hi lo = eqb (field w hi lo) 0
 abbrev pub kind : ℕ → ℕ
 kind w = field w 31 28
 
+abbrev pub ofKind : ℕ → ℕ → Bool
+ofKind k w = eqb (kind w) k
+
 abbrev pub form : ℕ → ℕ
 form w = field w 27 24
 

@@ -1,8 +1,9 @@
 -- What a list of words has, by a test on a word.
 use mathlib.Core.Bool.{Bool, true, false}
 use mathlib.Core.List.{List, [], _∷_}
-use Prim.Native.Nat.{ℕ, zero, suc}
-use Rattle.words.specs.Tests.{pick, either}
+use Prim.Native.Nat.{ℕ, zero, suc, _+_}
+use lib.Dec.{eqb}
+use Rattle.words.specs.Tests.{pick, either, one}
 
 -- some word passes
 unfoldable pub any : (ℕ → Bool) → List ℕ → Bool
@@ -34,3 +35,8 @@ fromNumber test (suc j) (w ∷ ws) = pick (test w) (fromNumber test j ws) (fromN
 unfoldable pub someBelow : (ℕ → Bool) → ℕ → Bool
 someBelow test zero = false
 someBelow test (suc n) = either (someBelow test n) (test n)
+
+-- how often q is in a list
+unfoldable pub times : ℕ → List ℕ → ℕ
+times q [] = 0
+times q (x ∷ xs) = one (eqb q x) + times q xs

@@ -6,7 +6,8 @@ use lib.Seq.{drop-drop}
 use borrow.Author.Tests.{eq-eqb, ne-eqb}
 use Rattle.words.specs.Scan.{any, leading}
 use Rattle.words.proofs.Scan.{any-laws-hit, any-laws-miss, any-laws-stop, any-laws-end}
-use Rattle.job.specs.Parts.{headWord, ofKind}
+use Rattle.words.specs.Fields.{ofKind}
+use Rattle.job.specs.Parts.{headWord}
 use Rattle.starts.specs.Rows.{unmet}
 use borrow.Author.Needs.{needs}
 use native.Mathlib.Omega.{arith}

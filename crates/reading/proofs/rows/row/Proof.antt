@@ -1,5 +1,5 @@
 -- `reading::rows::row` meets its contract: in each arm the rule of the form is what the row function ensures. Assumes nothing.
-use Rattle.reading.proofs.Nodes.{eighth, reserved}
+use Rattle.reading.proofs.Forms.{eighth, reserved}
 use Rattle.words.specs.Fields.{form}
 use mathlib.Core.Path.{sym, _∙_}
 use native.Mathlib.Omega.{arith}

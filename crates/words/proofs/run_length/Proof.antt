@@ -1,22 +1,22 @@
--- `theory::runs::run_length` meets its contract. The invariant: what leads from `at` is what was passed and what leads from `i`. Assumes nothing.
+-- `words::run_length` meets its contract. The invariant: what leads from `at` is what was passed and what leads from `i`. Assumes nothing.
 use mathlib.Core.Path.{_≡_, refl, sym, _∙_}
 use Prim.Native.Nat.{_+_, _-_, _≤_}
 use native.Mathlib.Omega.{arith}
 use borrow.Author.Tests.{eq-eqb, ne-eqb}
 use lib.ListN.{length, drop}
 use Rattle.words.specs.Scan.{leading}
 use Rattle.words.proofs.Scan.{lead-hit, lead-miss, lead-end}
-use Rattle.job.specs.Parts.{ofKind}
+use Rattle.words.specs.Fields.{ofKind}
 use borrow.Author.Needs.{needs}
-use Rattle.theory.proofs.runs.run_length.Statement.{statement}
-use Rattle.theory.proofs.runs.run_length.Tie as tie
+use Rattle.words.proofs.run_length.Statement.{statement}
+use Rattle.words.proofs.run_length.Tie as tie
 
 abbrev Inv-loop : tie.InvT-loop
-Inv-loop job at k i₀ i =
-    (at ≤ i) × (i ≤ length job) × (at + length (leading (ofKind k) (drop at job)) ≡ i + length (leading (ofKind k) (drop i job)))
+Inv-loop ws at k i₀ i =
+    (at ≤ i) × (i ≤ length ws) × (at + length (leading (ofKind k) (drop at ws)) ≡ i + length (leading (ofKind k) (drop i ws)))
 
 abbrev μ-loop : tie.MeasureT-loop
-μ-loop job at k i₀ i = length job - i
+μ-loop ws at k i₀ i = length ws - i
 
 loop-holds : tie.Need-loop-holds Inv-loop μ-loop
 loop-holds c = (omega arith, omega arith, refl)
@@ -35,7 +35,7 @@ sub-result c = search needs
 
 returns : tie.Need-returns Inv-loop μ-loop
 returns c =
-    let l = lead-miss (ofKind (c .before .before .before .before .before .before .args .k)) (c .before .before .before .before .before .before .args .job .now) (c .before .before .before .before .loop .i) (c .before .before .before .loop-test .taken)
+    let l = lead-miss (ofKind (c .before .before .before .before .before .before .args .k)) (c .before .before .before .before .before .before .args .ws .now) (c .before .before .before .before .loop .i) (c .before .before .before .loop-test .taken)
     (ne-eqb _ _ (λ e. c .if1 .taken (c .before .kind-of .ensures .0 ∙ e))) in
     omega (arith, l)
 
@@ -47,7 +47,7 @@ loop-less c = search needs
 
 loop-again : tie.Need-loop-again Inv-loop μ-loop
 loop-again c =
-    let l = lead-hit (ofKind (c .before .before .before .before .before .before .args .k)) (c .before .before .before .before .before .before .args .job .now) (c .before .before .before .before .loop .i) (c .before .before .before .loop-test .taken)
+    let l = lead-hit (ofKind (c .before .before .before .before .before .before .args .k)) (c .before .before .before .before .before .before .args .ws .now) (c .before .before .before .before .loop .i) (c .before .before .before .loop-test .taken)
     (eq-eqb _ _ (sym (c .before .kind-of .ensures .0) ∙ c .if1 .left)) in
     (omega arith, omega arith, omega (arith, l))
 
@@ -56,7 +56,7 @@ sub-result-2 c = search needs
 
 returns-2 : tie.Need-returns-2 Inv-loop μ-loop
 returns-2 c =
-    let l = lead-end (ofKind (c .before .before .before .args .k)) (c .before .before .before .args .job .now) (c .before .loop .i) (omega arith) in
+    let l = lead-end (ofKind (c .before .before .before .args .k)) (c .before .before .before .args .ws .now) (c .before .loop .i) (omega arith) in
     omega (arith, l)
 
 pub run-length-spec : {M : Type 1} → statement M
