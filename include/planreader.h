@@ -1,4 +1,4 @@
-/* The plan reader's calls. Link with libplanreader.a: no other library is needed, not even libc.
+/* The plan reader's calls. Link with libplanreader.a, which needs memcpy and memset of the C library and nothing else.
  *
  * Each list is a pointer and its number of 32-bit words, in the machine's own byte order. A job, a plan's starts, a plan's facts and
  * the words that a call writes are as the scope lays them out; examples/door lists such words, and examples/host.c is a whole host.
