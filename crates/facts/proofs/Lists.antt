@@ -14,8 +14,8 @@ use Rattle.words.specs.Fields.{unknown, factWord}
 use Rattle.job.specs.Parts.{headWord, fluents, lastMoment}
 use Rattle.job.specs.WellFormed.{WellFormed}
 use Rattle.facts.specs.Values.{valueAt}
-use Rattle.facts.specs.Tables.{StateAt}
-use Rattle.facts.specs.Facts.{gather, factOf, stateFacts, factsAt, factsOf}
+use Rattle.facts.specs.Tables.{stateFacts, StateAt}
+use Rattle.facts.specs.Facts.{gather, factOf, factsAt, factsOf}
 
 -- one list written after another
 sets-append : (vs ws l : List ℕ) (i : ℕ) → sets l i (vs ++ ws) ≡ sets (sets l i vs) (i + length vs) ws

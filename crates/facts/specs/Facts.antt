@@ -2,7 +2,6 @@
 use mathlib.Core.List.{List, [], _∷_, _++_}
 use Prim.Native.Nat.{ℕ, zero, suc, _+_}
 use lib.Dec.{eqb}
-use lib.ListN.{getD}
 use Rattle.words.specs.Tests.{pick}
 use Rattle.words.specs.Fields.{unknown, factWord}
 use Rattle.job.specs.Parts.{headWord, fluents, lastMoment}
@@ -16,10 +15,6 @@ gather g (suc n) = gather g n ++ g n
 -- the fact word of a value, where it is not open
 abbrev pub factOf : ℕ → ℕ → ℕ → ℕ → List ℕ
 factOf head t f value = pick (eqb value unknown) [] (factWord head t f value ∷ [])
-
--- the facts at moment t of the first n fluents, whose values are the bytes of a state
-unfoldable pub stateFacts : ℕ → ℕ → List ℕ → ℕ → List ℕ
-stateFacts head t state n = gather (λ f. factOf head t f (getD state f 0)) n
 
 -- the facts at moment t
 unfoldable pub factsAt : List ℕ → List ℕ → ℕ → List ℕ

@@ -6,7 +6,7 @@ use lib.Dec.{eqb}
 use lib.ListN.{getD, length, drop}
 use Rattle.words.specs.Fields.{ofKind, fluentsOf, actionsOf, lastOf, durationOf, memberNode}
 use Rattle.words.specs.Scan.{leading, beyond, fromNumber}
-use Rattle.job.specs.Before.{before, count}
+use Rattle.job.specs.Before.{before, countOfKind}
 
 abbrev pub headWord : List ℕ → ℕ
 headWord job = getD job 0 0
@@ -22,7 +22,7 @@ lastMoment job = lastOf (headWord job)
 
 -- how many words of kind k there are; the job's words from number j of them on; that word
 abbrev pub total : ℕ → List ℕ → ℕ
-total k job = count k (before job (length job))
+total k job = countOfKind k (before job (length job))
 
 abbrev pub wordsFrom : ℕ → List ℕ → ℕ → List ℕ
 wordsFrom k job j = fromNumber (ofKind k) j job

@@ -34,15 +34,15 @@ pub form-number : (k : ℕ) {f : Form} → formNumber k ≡ f → numberOf f < 9
 form-number k h l = sym (number-back k (rw h l)) ∙ ap numberOf h
 
 -- a number from 9 on is reserved
-pub reserved : (k : ℕ) → 9 ≤ k → formNumber k ≡ Reserved
+reserved : (k : ℕ) → 9 ≤ k → formNumber k ≡ Reserved
 reserved k h = let e : k ≡ suc (suc (suc (suc (suc (suc (suc (suc (suc (k - 9))))))))) = omega arith in ap formNumber e
 
--- and one below 9 that is no other form's is a task set's
+-- and so is one that no form has
 from-four : (k : ℕ) → (k ≡ 0 → ⊥) → (k ≡ 1 → ⊥) → (k ≡ 2 → ⊥) → (k ≡ 3 → ⊥) → 4 ≤ k
 from-four k a b c d = omega arith
 
-last-one : (k : ℕ) → 4 ≤ k → k < 9 → (k ≡ 4 → ⊥) → (k ≡ 5 → ⊥) → (k ≡ 6 → ⊥) → (k ≡ 7 → ⊥) → k ≡ 8
-last-one k l h e f g i = omega arith
+from-nine : (k : ℕ) → 4 ≤ k → (k ≡ 4 → ⊥) → (k ≡ 5 → ⊥) → (k ≡ 6 → ⊥) → (k ≡ 7 → ⊥) → (k ≡ 8 → ⊥) → 9 ≤ k
+from-nine k l a b c d e = omega arith
 
-pub eighth : (k : ℕ) → k < 9 → (k ≡ 0 → ⊥) → (k ≡ 1 → ⊥) → (k ≡ 2 → ⊥) → (k ≡ 3 → ⊥) → (k ≡ 4 → ⊥) → (k ≡ 5 → ⊥) → (k ≡ 6 → ⊥) → (k ≡ 7 → ⊥) → formNumber k ≡ Set
-eighth k h a b c d e f g i = ap formNumber (last-one k (from-four k a b c d) h e f g i)
+pub no-form : (k : ℕ) → (k ≡ 0 → ⊥) → (k ≡ 1 → ⊥) → (k ≡ 2 → ⊥) → (k ≡ 3 → ⊥) → (k ≡ 4 → ⊥) → (k ≡ 5 → ⊥) → (k ≡ 6 → ⊥) → (k ≡ 7 → ⊥) → (k ≡ 8 → ⊥) → formNumber k ≡ Reserved
+no-form k a b c d e f g h i = reserved k (from-nine k (from-four k a b c d) e f g h i)

@@ -189,7 +189,9 @@ pub fn row(
             b,
             n,
         ),
-        // reserved: nothing reads such a node
+        // a task set's rows are filled together, by `sets::set_rows`
+        8 => 0,
+        // reserved: refused in a job, and nothing reads such a node
         9..=15 => 0,
         _ => 0,
     }

@@ -4,7 +4,7 @@ ghost use Prim.Native.Nat.{ℕ, _+_, _-_, _*_, _/_, _%_, _<_, _≤_};
 ghost use lib.ListN.{length, getD, drop};
 ghost use Rattle.words.specs.Tests.{one};
 ghost use Rattle.words.specs.Fields.{ofKind, startMoment, startAction};
-ghost use Rattle.words.specs.Scan.{any, leading, someBelow};
+ghost use Rattle.words.specs.Scan.{someWord, leading, someBelow};
 ghost use Rattle.answers.specs.Rows.{firstOf};
 ghost use Rattle.job.specs.Parts.{headWord, actions};
 ghost use Rattle.job.specs.WellFormed.{WellFormed, Placed};
@@ -217,7 +217,7 @@ fn is_unmet(head: u32, state: &[u8; 64], w: u32) -> bool
 
 fn has_unmet(job: &[u32], at: usize, state: &[u8; 64]) -> bool
     requires { ⌜ at < length (now job) ⌝ }
-    ensures { λ r. ⌜ r ≡ any (unmet (headWord (now (job .entry))) (λ f. getD (now (state .entry)) f 0)) (leading (ofKind 4) (drop 1 (drop at (now (job .entry))))) ⌝ }
+    ensures { λ r. ⌜ r ≡ someWord (unmet (headWord (now (job .entry))) (λ f. getD (now (state .entry)) f 0)) (leading (ofKind 4) (drop 1 (drop at (now (job .entry))))) ⌝ }
 {
     let head = job[0];
     let mut i = at + 1;

@@ -6,9 +6,9 @@ use lib.Dec.{eqb}
 use Rattle.words.specs.Tests.{pick, either, one}
 
 -- some word passes
-unfoldable pub any : (ℕ → Bool) → List ℕ → Bool
-any test [] = false
-any test (w ∷ ws) = either (test w) (any test ws)
+unfoldable pub someWord : (ℕ → Bool) → List ℕ → Bool
+someWord test [] = false
+someWord test (w ∷ ws) = either (test w) (someWord test ws)
 
 -- what the first word that passes gives, or `other` where none does
 unfoldable pub firstGives : (ℕ → Bool) → (ℕ → ℕ) → ℕ → List ℕ → ℕ

@@ -4,7 +4,7 @@ use Prim.Native.Nat.{_-_, _≤_}
 use lib.Dec.{eqb}
 use lib.ListN.{length}
 use Rattle.words.proofs.Choices.{one-le}
-use Rattle.job.specs.Before.{before, count}
+use Rattle.job.specs.Before.{before, countOfKind}
 use Rattle.job.proofs.Laws.{count-none, count-more}
 use native.Mathlib.Omega.{arith}
 use borrow.Author.Needs.{needs}
@@ -12,7 +12,7 @@ use Rattle.formulas.proofs.formula_count.Statement.{statement}
 use Rattle.formulas.proofs.formula_count.Tie as tie
 
 abbrev Inv-loop : tie.InvT-loop
-Inv-loop job n₀ i₀ n i = (i ≤ length job) × (n ≤ i) × (n ≡ count 5 (before job i))
+Inv-loop job n₀ i₀ n i = (i ≤ length job) × (n ≤ i) × (n ≡ countOfKind 5 (before job i))
 
 abbrev μ-loop : tie.MeasureT-loop
 μ-loop job n₀ i₀ n i = length job - i
