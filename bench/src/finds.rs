@@ -49,17 +49,48 @@ fn door() -> (Vec<u32>, Vec<u32>) {
     (job, starts)
 }
 
-/// A task set of four members, each of which reads from b to e for all b ≤ e ≤ 63 (or, if `short`, e ≤ b + 3), with idle conditions.
-fn crowd(short: bool, conditions: u32) -> Vec<u32> {
-    let mut job = vec![1 << 28 | 1 << 16 | 1 << 8 | 63, 3 << 28 | 1, 5 << 28];
-    let span = if short { 3 } else { 63 };
+/// A task set of four members, each of which reads from b to e for all b ≤ e ≤ 63 with e ≤ b + span. Formula 0 holds always, 1 never.
+fn crowd(span: u32, conditions: &[u32]) -> Vec<u32> {
+    let mut job = vec![1 << 28 | 1 << 16 | 1 << 8 | 63, 3 << 28 | 1, 5 << 28, 5 << 28 | 2 << 24];
     for i in 0..4 {
         job.extend([node(1, 0, 0, 0, 0), node(1, 0, 0, 0, 0), node(7, 3 * i, 3 * i + 1, 0, span)]);
     }
     job.push(node(8, 0, 0, 0, 0));
     job.extend((0..4).map(|i| 7 << 28 | (3 * i + 2)));
-    job.extend((0..conditions).map(|c| 8 << 28 | 4 << 24 | (c % 4) << 15 | 3 << 12 | 63 << 6 | 63));
+    job.extend(conditions);
     job
+}
+
+fn condition(form: u32, formula: u32, i: u32, j: u32, m: u32, n: u32) -> u32 {
+    8 << 28 | form << 24 | formula << 18 | i << 15 | j << 12 | m << 6 | n
+}
+
+/// Sets for which a search could be long: members that end soon, and conditions that leave out an end or bind one member to all.
+fn crowds() -> Vec<(&'static str, u32, Vec<u32>)> {
+    // met always, by an empty range
+    let idle: Vec<u32> = (0..8).map(|c| condition(4, 0, c % 4, 3, 63, 63)).collect();
+    // member i does not end at 63
+    let before = |i: u32| condition(3, 0, i, 0, 1, 1);
+    // member i ends after the begin of j
+    let after = |i: u32, j: u32| condition(4, 1, i, j, 0, 0);
+    let none_last = (0..4).map(before).chain(idle[..4].iter().copied()).collect();
+    let last_after = (0..4).map(before).chain((0..4).map(|j| after(3, j))).collect();
+    let upto_first = (1..4).map(|i| condition(1, 0, i, 0, 0, 63)).chain([before(0)]).collect();
+    let ordered = [condition(0, 0, 3, 0, 0, 63), condition(0, 0, 0, 1, 1, 63), before(1), before(2)].to_vec();
+    vec![
+        ("all placements", 63, vec![]),
+        ("all placements, 8 idle conditions", 63, idle.clone()),
+        ("ends up to b + 3", 3, vec![]),
+        ("ends up to b + 3, 8 idle conditions", 3, idle.clone()),
+        ("ends up to b + 8, 8 idle conditions", 8, idle.clone()),
+        ("ends up to b + 15, 8 idle conditions", 15, idle),
+        ("no end at 63", 63, none_last),
+        ("no end at 63, the last member after all begins", 63, last_after),
+        ("the last member after all begins, twice", 63, (0..8).map(|c| after(3, c % 4)).collect()),
+        ("each member after the next begins", 63, (0..8).map(|c| after(c % 4, (c + 1 + c / 4) % 4)).collect()),
+        ("the others end by the begin of the first", 63, upto_first),
+        ("begins in order", 63, ordered),
+    ]
 }
 
 pub fn failed() -> bool {
@@ -74,10 +105,10 @@ pub fn failed() -> bool {
         _ => false,
     };
     let mut failed = ms > SLACK * 1.0 || found.number != 0 || !same;
-    for (short, conditions) in [(false, 0), (false, 8), (true, 0), (true, 8)] {
-        let job = crowd(short, conditions);
+    for (name, span, conditions) in crowds() {
+        let job = crowd(span, &conditions);
         let (ms, found) = best(1, || host::find(&job, &[], &[], &mut buffer));
-        println!("four members, {}, {conditions} conditions: find {ms:.1} ms, number {}, {} triples", if short { "short" } else { "all placements" }, found.number, found.count);
+        println!("four members, {name}: find {ms:.1} ms, number {}, {} triples", found.number, found.count);
         failed |= ms > SLACK * 1500.0;
     }
     failed

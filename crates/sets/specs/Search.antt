@@ -37,7 +37,22 @@ pub record Completed (s : TaskSet) (R : ℕ → ℕ → ℕ → Type 0) (b e k :
   pub rule : SetRule s R b e
   pub agrees : (i : ℕ) → i < k → rule .begins i ≡ bs i
 
--- what a search for begins needs: the set, its members' rows, and begins and masks so far
+-- member k begins at r at the latest, where the set reads from b with the begins bs of the members below k
+pub record LastBegin (s : TaskSet) (R : ℕ → ℕ → ℕ → Type 0) (b k : ℕ) (bs : ℕ → ℕ) (r : ℕ) : Type 0 where
+  pub from : b ≤ r
+  pub within : r ≤ s .last
+  pub latest : (e : ℕ) → (h : Completed s R b e k bs) → h .rule .begins k ≤ r
+
+-- e is an end of node m, at most n, from a begin that is at least a and before z
+pub record Begun (R : ℕ → ℕ → ℕ → Type 0) (m a z n e : ℕ) : Type 0 where
+  pub begin : ℕ
+  pub from : a ≤ begin
+  pub before : begin < z
+  pub reads : R m begin e
+  pub onward : begin ≤ e
+  pub within : e ≤ n
+
+-- what a search for begins needs: the set, its members' rows, and begins and masks so far; the masks of the members from k on have all ends
 pub record Searching (s : TaskSet) (allow table : List ℕ) (k : ℕ) (begins ends : List ℕ) (b : ℕ) : Type 0 where
   pub formed : Formed s
   pub rows : (i : ℕ) → i < size s → member s i * 64 + 64 ≤ length table
@@ -48,6 +63,7 @@ pub record Searching (s : TaskSet) (allow table : List ℕ) (k : ℕ) (begins en
   pub moments : (i : ℕ) → at begins i ≤ s .last
   pub after : (i : ℕ) → i < k → b ≤ at begins i
   pub sets : EndSets s (InTable table) (at begins) k (at ends)
+  pub later : (i e : ℕ) → k ≤ i → i < size s → Begun (InTable table) (member s i) b (s .last + 1) (s .last) e → In (at ends i) e
   pub small : (i e : ℕ) → In (at ends i) e → e < 64
 
 -- what the conditions need of their masks and of the begins and masks of the members

@@ -8,7 +8,7 @@ use lib.Seq.{getD-set-same}
 use Rattle.words.specs.Fields.{memberNode}
 use Rattle.sets.specs.Ends.{taskset, at, InTable}
 use Rattle.sets.specs.Search.{Searching, Completed}
-use Rattle.sets.proofs.Search.{nothing-placed, search-start, search-begin, search-next, some-end, placed-at}
+use Rattle.sets.proofs.Search.{nothing-placed, node-rows, later-start, search-start, search-begin, search-next, some-end, placed-at}
 use borrow.Author.Needs.{needs}
 use Rattle.sets.proofs.place.Statement.{statement}
 use Rattle.sets.proofs.place.Tie as tie
@@ -23,7 +23,7 @@ abbrev μ-loop : tie.MeasureT-loop
 
 -- the function's entry, seen from the loop
 abbrev entry : tie.At-loop Inv-loop μ-loop → tie.Start Inv-loop μ-loop
-entry l = l .before .before .before .before .before .before .before
+entry l = l .before .before .before .before .before .before .before .before
 
 -- the next begin's place in the array, and what the search needs with it
 long : (c : tie.After-next-begin Inv-loop μ-loop) → let l = c .before .before .before .loop in let a = entry (c .before .before .before) .args in
@@ -36,7 +36,7 @@ long c =
 placing : (c : tie.After-next-begin Inv-loop μ-loop) →
     let l = c .before .before .before .loop in
     let a = entry (c .before .before .before) .args in
-    Searching (taskset (a .members .now) (a .conds .now) (a .values .now) (a .n)) (c .before .before .before .before .before .fill-allowed .last .1 .1 .1 .0) (a .table .now) (l .k) (set (l .begins) (l .k) (c .next-begin .result)) (l .sets) (a .b)
+    Searching (taskset (a .members .now) (a .conds .now) (a .values .now) (a .n)) (c .before .before .before .before .before .before .fill-allowed .last .1 .1 .1 .0) (a .table .now) (l .k) (set (l .begins) (l .k) (c .next-begin .result)) (l .sets) (a .b)
 placing c = let l = c .before .before .before .loop in
     search-begin (l .inv .2) (long c .0) (c .next-begin .result) (c .next-begin .ensures .0) (c .next-begin .ensures .1) (long c .1)
 
@@ -47,13 +47,23 @@ fill-allowed-requires : tie.Need-fill-allowed-requires Inv-loop μ-loop
 fill-allowed-requires c κs = let g = c .before .before .before .before .pre in
     (g .formed .moments, omega (arith, g .formed .conditions))
 
+later-ends-requires : tie.Need-later-ends-requires Inv-loop μ-loop
+later-ends-requires c κs =
+    let s = c .before .before .before .before .before .before in
+    let g = s .pre in
+    let r = g .rule .placing in
+    (omega (arith, g .formed .few, length-map (s .args .members .now) memberNode), node-rows (s .args .members .now) (g .rows), omega (arith, r .within, r .onward), g .formed .moments)
+
 loop-holds : tie.Need-loop-holds Inv-loop μ-loop
 loop-holds c =
-    let g = c .before .before .before .before .before .before .pre in
-    let r = g .rule .placing in (
+    let s = c .before .before .before .before .before .before .before in
+    let g = s .pre in
+    let r = g .rule .placing in
+    let a = c .before .before .fill-allowed in
+    let h = c .later-ends .ensures in (
       omega arith,
       refl,
-      search-start (g .formed) (g .rows) (c .before .fill-allowed .ensures) (omega (arith, c .before .fill-allowed .kept .1 .1 .1 .0, g .formed .conditions)) (omega (arith, r .within, r .onward)),
+      search-start (g .formed) (g .rows) (a .ensures) (omega (arith, a .kept .1 .1 .1 .0, g .formed .conditions)) (omega (arith, r .within, r .onward)) (later-start (s .args .members .now) (h .0)) (h .1),
       nothing-placed .1 (g .rule),
     )
 
@@ -88,7 +98,7 @@ loop-again c =
     let x = k .next-begin in (
       omega (arith, k .before .before .loop-test .taken),
       simp length-set (l .inv .1),
-      search-next (placing k) (long k .0) (rw (getD-set-same (l .begins) (l .k) (x .result) 0 (long k .1)) (x .ensures .0)) (c .place-next .ensures .0) (c .place-next .ensures .1),
+      search-next (placing k) (long k .0) (rw (getD-set-same (l .begins) (l .k) (x .result) 0 (long k .1)) (x .ensures .0)) (c .place-next .ensures),
       x .ensures .2,
     )
 
@@ -112,6 +122,7 @@ place-spec =
     μ-loop
     slice-aggregate-fill-allowed
     fill-allowed-requires
+    later-ends-requires
     loop-holds
     slice-aggregate-next-begin
     next-begin-requires

@@ -2,11 +2,12 @@
 use Prim.Native.Nat.{_+_, _-_, _*_, _≤_}
 use mathlib.Core.Path.{_≡_}
 use native.Mathlib.Omega.{arith}
-use lib.ListN.{length}
+use lib.ListN.{length, length-map}
+use Rattle.words.specs.Fields.{memberNode}
 use Rattle.sets.specs.Ends.{valueIn, taskset}
 use Rattle.sets.specs.Search.{Allowed}
 use Rattle.sets.proofs.Laws.{from-none}
-use Rattle.sets.proofs.Search.{nothing-placed, search-start}
+use Rattle.sets.proofs.Search.{nothing-placed, node-rows, later-start, search-start}
 use Rattle.sets.proofs.Rows.{RowsTo, rows-none, rows-more, rows-done}
 use borrow.Author.Needs.{needs}
 use Rattle.sets.proofs.set_rows.Statement.{statement}
@@ -29,14 +30,27 @@ fill-allowed-requires c κs = let g = c .before .before .before .before .pre in
 loop-holds : tie.Need-loop-holds Inv-loop μ-loop
 loop-holds c = (omega arith, c .before .fill-allowed .kept .1 .1 .1 .0, c .before .fill-allowed .ensures, rows-none)
 
+later-ends-requires : tie.Need-later-ends-requires Inv-loop μ-loop
+later-ends-requires c κs =
+    let s = c .before .before .before .before .before .before .before .before .before in
+    let k = c .before .before .loop in
+    let g = s .pre in (
+      omega (arith, g .formed .few, length-map (s .args .members .now) memberNode),
+      node-rows (s .args .members .now) (λ i l. omega (arith, g .lower i l, g .room, k .inv .3 .long)),
+      omega (arith, c .before .loop-test .taken),
+      g .formed .moments,
+    )
+
 slice-aggregate-complete : tie.Need-slice-aggregate-complete Inv-loop μ-loop
 slice-aggregate-complete c = search needs
 
 complete-requires : tie.Need-complete-requires Inv-loop μ-loop
 complete-requires c κs =
-    let g = c .before .before .before .before .before .before .before .before .before .before .pre in
-    let k = c .before .before .before .loop in
-    search-start (g .formed) (λ i l. omega (arith, g .lower i l, g .room, k .inv .3 .long)) (k .inv .2) (omega (arith, k .inv .1, g .formed .conditions)) (omega arith)
+    let s = c .before .before .before .before .before .before .before .before .before .before .before .before in
+    let g = s .pre in
+    let k = c .before .before .before .before .before .loop in
+    let h = c .before .before .later-ends .ensures in
+    search-start (g .formed) (λ i l. omega (arith, g .lower i l, g .room, k .inv .3 .long)) (k .inv .2) (omega (arith, k .inv .1, g .formed .conditions)) (omega (arith, c .before .before .before .before .loop-test .taken)) (later-start (s .args .members .now) (h .0)) (h .1)
 
 mul-table : tie.Need-mul-table Inv-loop μ-loop
 mul-table c = search needs
@@ -51,7 +65,7 @@ mul-table-2 : tie.Need-mul-table-2 Inv-loop μ-loop
 mul-table-2 c = search needs
 
 slice-write-table : tie.Need-slice-write-table Inv-loop μ-loop
-slice-write-table c = let s = c .before .before .before .before .before .before .before .before .before .before .before in omega (arith, s .pre .room, c .before .before .before .before .loop .inv .3 .long)
+slice-write-table c = let s = c .before .before .before .before .before .before .before .before .before .before .before .before .before in omega (arith, s .pre .room, c .before .before .before .before .before .before .loop .inv .3 .long)
 
 add-b : tie.Need-add-b Inv-loop μ-loop
 add-b c = search needs
@@ -61,8 +75,8 @@ loop-less c = search needs
 
 loop-again : tie.Need-loop-again Inv-loop μ-loop
 loop-again c =
-    let s = c .before .before .before .before .before .before .before .before .before .before .before in
-    let v = c .before .before .before .before .loop in
+    let s = c .before .before .before .before .before .before .before .before .before .before .before .before .before in
+    let v = c .before .before .before .before .before .before .loop in
     let g = s .pre in (
       omega arith,
       v .inv .1,
@@ -86,6 +100,7 @@ set-rows-spec =
     slice-aggregate-fill-allowed
     fill-allowed-requires
     loop-holds
+    later-ends-requires
     slice-aggregate-complete
     complete-requires
     mul-table
