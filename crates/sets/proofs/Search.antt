@@ -16,11 +16,11 @@ use Rattle.words.specs.Fields.{conditionI, memberNode}
 use Rattle.sets.specs.Set.{TaskSet, size, member, MetAt, SetRule, Formed}
 use Rattle.sets.specs.Cover.{Some, Coverable, Covering}
 use Rattle.sets.specs.Ends.{at, InTable, Placed}
-use Rattle.sets.specs.Search.{Allowed, EndOf, EndSets, Begun, Completed, Searching}
+use Rattle.sets.specs.Search.{EndOf, EndSets, Begun, Completed, Ready, Searching}
 use Rattle.sets.proofs.Laws.{gain-as}
 use Rattle.sets.proofs.Cover.{coverable, covering}
 
-met-same : (value : ℕ → ℕ → ℕ) (n w : ℕ) {x x′ e e′ y y′ : ℕ} → x ≡ x′ → e ≡ e′ → y ≡ y′ → MetAt value n w x e y → MetAt value n w x′ e′ y′
+pub met-same : (value : ℕ → ℕ → ℕ) (n w : ℕ) {x x′ e e′ y y′ : ℕ} → x ≡ x′ → e ≡ e′ → y ≡ y′ → MetAt value n w x e y → MetAt value n w x′ e′ y′
 met-same value n w {x} {x′} {e} {e′} {y} p q r h =
     subst (λ (z : ℕ). MetAt value n w x′ e′ z) r (subst (λ (z : ℕ). MetAt value n w x′ z y) q (subst (λ (z : ℕ). MetAt value n w z e y) p h))
 
@@ -210,17 +210,16 @@ at-zeros (suc (suc (suc (suc i)))) = refl
 pub none-small : (i e : ℕ) → In (at (0 ∷ 0 ∷ 0 ∷ 0 ∷ []) i) e → e < 64
 none-small i e t = not-both (t .yes) (ap (λ (x : ℕ). has x e) (at-zeros i) ∙ has-zero e)
 
-pub search-start : {s : TaskSet} {allow table ends : List ℕ} {b : ℕ} → Formed s → ((i : ℕ) → i < size s → member s i * 64 + 64 ≤ length table)
-    → Allowed (s .value) (s .conditions) (s .last) (length (s .conditions) * 64) allow → length (s .conditions) * 64 ≤ length allow → b ≤ s .last
+pub search-start : {s : TaskSet} {allow table ends : List ℕ} {b : ℕ} → Ready s allow table b
     → ((i e : ℕ) → i < size s → Begun (InTable table) (member s i) b (s .last + 1) (s .last) e → In (at ends i) e) → ((i e : ℕ) → In (at ends i) e → e < 64)
     → Searching s allow table 0 (0 ∷ 0 ∷ 0 ∷ 0 ∷ []) ends b
-search-start f rows allowed room l later small = record {
-  formed = f;
-  rows = rows;
-  allowed = allowed;
-  room = room;
+search-start r later small = record {
+  formed = r .formed;
+  rows = r .rows;
+  allowed = r .allowed;
+  room = r .room;
   step = omega arith;
-  from = l;
+  from = r .from;
   moments = λ i. omega (arith, at-zeros i);
   after = λ i g. absurd (omega arith);
   sets = record { mask = λ i e g. absurd (omega arith) };

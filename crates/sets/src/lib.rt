@@ -7,10 +7,10 @@ ghost use Prim.Native.Nat.{ℕ, _+_, _-_, _*_, _<_, _≤_};
 ghost use lib.ListN.{length, getD, set};
 ghost use Rattle.bitset.specs.Members.{has, Highest, In};
 ghost use Rattle.words.specs.Fields.{holds, form, memberNode, conditionFormula, conditionI, conditionJ, conditionM, conditionN};
-ghost use Rattle.sets.specs.Set.{MetAs, MetAt};
+ghost use Rattle.sets.specs.Set.{MetAs, MetAt, SetRule};
 ghost use Rattle.sets.specs.Cover.{Some, Needed, Coverable, Spans, Attained};
 ghost use Rattle.sets.specs.Ends.{valueIn, taskset, InTable, at, SetReady, SetRows, Placed, Placeable};
-ghost use Rattle.sets.specs.Search.{asked, Later, Allowed, EndSets, Begun, Completed, Searching, Narrowable, Narrowed, LastBegin};
+ghost use Rattle.sets.specs.Search.{asked, Later, Allowed, EndSets, Begun, Completed, Ready, Searching, Narrowable, Narrowed, LastBegin, SomeBegin, Possible, OwnRows};
 
 // ---- the fields of member words and of condition words
 
@@ -561,7 +561,85 @@ fn complete(
     all
 }
 
-// The rows of the task set at node p.
+// ---- the members' own rows: without the ends that a condition leaves out, wherever its other member begins
+
+// The ends of member i, begun at x, that condition c allows for some begin of its member j.
+fn some_allowed(allow: &[u64], c: usize, form: u32, x: u32, n: u32) -> u64
+    requires { ⌜ (c * 64 + 64 ≤ length (now allow)) × (x < 64) × (n < 64) ⌝ }
+    ensures { λ r. ⌜ ((e : ℕ) → e < 64 → In r e ↔ SomeBegin (now (allow .entry)) (n + 1) form c x e) ⌝ }
+{
+    let mut r = 0;
+    let mut y = 0;
+    while y <= n {
+        r = bitset::union(r, end_mask(form, allow[c * 64 + y as usize], x));
+        y += 1;
+    }
+    r
+}
+
+// The ends of member i, begun at x, that each condition on it allows for some begin.
+fn own_row(conds: &[u32], allow: &[u64], i: usize, x: u32, ends: u64, n: u32) -> u64
+    requires { ⌜ (length (now conds) * 64 ≤ length (now allow)) × (x < 64) × (n < 64) ⌝ }
+    ensures { λ r. ⌜ ((e : ℕ) → In r e ↔ (In ends e × Possible (now (conds .entry)) (now (allow .entry)) n (length (now (conds .entry))) i x e)) ⌝ }
+{
+    let mut r = ends;
+    let mut c = 0;
+    while c < conds.len() {
+        let w = conds[c];
+        if condition_i(w) == i {
+            r = bitset::inter(r, some_allowed(allow, c, words::form_of(w), x, n));
+        }
+        c += 1;
+    }
+    r
+}
+
+// These for each member and begin.
+fn fill_own(members: &[u32], conds: &[u32], allow: &[u64], table: &[u64], n: u32, own: &mut [u64])
+    requires { ⌜ (length (now members) ≤ 4) × ((i : ℕ) → i < length (now members) → memberNode (getD (now members) i 0) * 64 + 64 ≤ length (now table)) × (n < 64) × (length (now conds) * 64 ≤ length (now allow)) × (length (now members) * 64 ≤ length (now own)) ⌝ }
+    ensures { λ _. ⌜ OwnRows (now (members .entry)) (now (conds .entry)) n (now (allow .entry)) (now (table .entry)) (length (now (members .entry)) * 64) (now (own .exit)) ⌝ }
+{
+    let mut c = 0;
+    while c < members.len() * 64 {
+        let x = (c % 64) as u32;
+        let ends = ends_at(table, member_node(members[c / 64]), x, n);
+        own[c] = own_row(conds, allow, c / 64, x, ends, n);
+        c += 1;
+    }
+}
+
+// ---- the rows
+
+// The ends of the set of these members from b.
+fn set_row(
+    members: &[u32],
+    conds: &[u32],
+    values: &[u8; 4096],
+    allow: &[u64],
+    table: &[u64],
+    b: u32,
+    n: u32,
+) -> u64
+    requires { ⌜ Ready (taskset (now members) (now conds) (now values) n) (now allow) (now table) b ⌝ }
+    ensures { λ r. ⌜ ((e : ℕ) → In r e ↔ SetRule (taskset (now (members .entry)) (now (conds .entry)) (now (values .entry)) n) (InTable (now (table .entry))) b e) ⌝ }
+{
+    let ends = later_ends(members, table, b, n);
+    complete(
+        members,
+        conds,
+        values,
+        allow,
+        table,
+        0,
+        [0; 4],
+        ends,
+        b,
+        n,
+        0,
+    )
+}
+
+// The rows of the task set at node p. The search is in the members' own rows, of which member i's are those of node i.
 pub fn set_rows(
     members: &[u32],
     conds: &[u32],
@@ -575,22 +653,13 @@ pub fn set_rows(
 {
     let mut allow = [0u64; 512];
     fill_allowed(values, conds, n as usize, &mut allow);
+    let mut own = [0u64; 256];
+    fill_own(members, conds, &allow, table, n, &mut own);
+    let places = [0u32, 1, 2, 3];
+    let count = members.len();
     let mut b = 0;
     while b <= n {
-        let ends = later_ends(members, table, b, n);
-        let row = complete(
-            members,
-            conds,
-            values,
-            &allow,
-            table,
-            0,
-            [0; 4],
-            ends,
-            b,
-            n,
-            0,
-        );
+        let row = set_row(&places[..count], conds, values, &allow, &own, b, n);
         table[p * 64 + b as usize] = row;
         b += 1;
     }
@@ -672,7 +741,47 @@ fn greatest_ends(sets: [u64; 4], count: usize, e: u32) -> [u32; 4]
     ends
 }
 
-// Begins and ends with which the set reads b to e, as it does.
+// Begins and ends with which the set of these members reads b to e, as it does.
+fn place_from(
+    members: &[u32],
+    conds: &[u32],
+    values: &[u8; 4096],
+    allow: &[u64],
+    table: &[u64],
+    b: u32,
+    e: u32,
+    n: u32,
+) -> Placement
+    requires { ⌜ Ready (taskset (now members) (now conds) (now values) n) (now allow) (now table) b × SetRule (taskset (now members) (now conds) (now values) n) (InTable (now table)) b e ⌝ }
+    ensures { λ r. ⌜ Placed (taskset (now (members .entry)) (now (conds .entry)) (now (values .entry)) n) (InTable (now (table .entry))) b e (at (r .begins)) (at (r .ends)) ⌝ }
+{
+    let mut begins = [0u32; 4];
+    let mut sets = later_ends(members, table, b, n);
+    let mut k = 0;
+    while k < members.len() {
+        let x = next_begin(
+            members,
+            conds,
+            values,
+            allow,
+            table,
+            k,
+            begins,
+            sets,
+            b,
+            e,
+            n,
+        );
+        begins[k] = x;
+        let next = place_next(members, conds, values, allow, table, k, begins, sets, b, n);
+        sets = next;
+        k += 1;
+    }
+    let ends = greatest_ends(sets, k, e);
+    Placement { begins, ends }
+}
+
+// The same of any set, by the members' own rows.
 pub fn place(
     members: &[u32],
     conds: &[u32],
@@ -687,28 +796,9 @@ pub fn place(
 {
     let mut allow = [0u64; 512];
     fill_allowed(values, conds, n as usize, &mut allow);
-    let mut begins = [0u32; 4];
-    let mut sets = later_ends(members, table, b, n);
-    let mut k = 0;
-    while k < members.len() {
-        let x = next_begin(
-            members,
-            conds,
-            values,
-            &allow,
-            table,
-            k,
-            begins,
-            sets,
-            b,
-            e,
-            n,
-        );
-        begins[k] = x;
-        let next = place_next(members, conds, values, &allow, table, k, begins, sets, b, n);
-        sets = next;
-        k += 1;
-    }
-    let ends = greatest_ends(sets, k, e);
-    Placement { begins, ends }
+    let mut own = [0u64; 256];
+    fill_own(members, conds, &allow, table, n, &mut own);
+    let places = [0u32, 1, 2, 3];
+    let count = members.len();
+    place_from(&places[..count], conds, values, &allow, &own, b, e, n)
 }
