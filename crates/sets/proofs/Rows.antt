@@ -30,24 +30,13 @@ pub record RowsTo (s : TaskSet) (p : ℕ) (old new : List ℕ) (b : ℕ) : Type 
 pub rows-none : {s : TaskSet} {p : ℕ} {old : List ℕ} → RowsTo s p old old 0
 rows-none = record { long = refl; rows = λ c l. absurd (omega arith); others = λ i l. refl }
 
--- the rows of the lower nodes are as they were
-rule-old : {s : TaskSet} {p : ℕ} {old new : List ℕ} {k b e : ℕ} → RowsTo s p old new k → ((i : ℕ) → i < size s → member s i < p) → s .last < 64
-    → SetRule s (InTable new) b e ↔ SetRule s (InTable old) b e
-rule-old {s} h lower small = (
-  rule-map (λ i c d l m t. let q = lower i l in subst (λ (x : ℕ). In x d) (h .others (member s i * 64 + c) (inl (omega arith))) t),
-  rule-map (λ i c d l m t. let q = lower i l in subst (λ (x : ℕ). In x d) (sym (h .others (member s i * 64 + c) (inl (omega arith)))) t),
-)
-
-pub rows-more : {s : TaskSet} {p : ℕ} {old new : List ℕ} (b r : ℕ) → RowsTo s p old new b → ((i : ℕ) → i < size s → member s i < p) → s .last < 64
-    → p * 64 + 64 ≤ length new → b ≤ s .last → ((e : ℕ) → In r e ↔ SetRule s (InTable new) b e) → RowsTo s p old (set new (p * 64 + b) r) (b + 1)
-rows-more {s} {p} {old} {new} b r h lower small room l is = record {
+pub rows-more : {s : TaskSet} {p : ℕ} {old new : List ℕ} (b r : ℕ) → RowsTo s p old new b → p * 64 + 64 ≤ length new → b ≤ s .last → s .last < 64
+    → ((e : ℕ) → In r e ↔ SetRule s (InTable old) b e) → RowsTo s p old (set new (p * 64 + b) r) (b + 1)
+rows-more {s} {p} {old} {new} b r h room l small is = record {
   long = simp length-set (h .long);
   rows = below-more (λ c. (e : ℕ) → InTable (set new (p * 64 + b) r) p c e ↔ SetRule s (InTable old) c e) b
       (λ c g e. rw (getD-set-other new (p * 64 + b) (p * 64 + c) r 0 (omega arith)) (h .rows c g e))
-      (λ e. rw (getD-set-same new (p * 64 + b) r 0 (omega arith)) (
-        λ t. rule-old h lower small .0 (is e .0 t),
-        λ t. is e .1 (rule-old h lower small .1 t),
-      ));
+      (λ e. rw (getD-set-same new (p * 64 + b) r 0 (omega arith)) (is e));
   others = λ i g. rw (getD-set-other new (p * 64 + b) i r 0 (⊎-elim (λ z. omega arith) (λ z. omega arith) g)) (h .others i g);
 }
 

@@ -4,13 +4,13 @@ ghost use mathlib.Core.Path.{_≡_};
 ghost use mathlib.Core.Bool.{true};
 ghost use mathlib.Core.Logic.{_↔_, _⊎_};
 ghost use Prim.Native.Nat.{ℕ, _+_, _-_, _*_, _<_, _≤_};
-ghost use lib.ListN.{length, set};
+ghost use lib.ListN.{length, getD, set};
 ghost use Rattle.bitset.specs.Members.{has, Highest, In};
 ghost use Rattle.words.specs.Fields.{holds, form, memberNode, conditionFormula, conditionI, conditionJ, conditionM, conditionN};
-ghost use Rattle.sets.specs.Set.{MetAs, MetAt};
-ghost use Rattle.sets.specs.Cover.{Some, Needed, Coverable};
+ghost use Rattle.sets.specs.Set.{MetAs, MetAt, SetRule};
+ghost use Rattle.sets.specs.Cover.{Some, Needed, Coverable, Spans, Attained};
 ghost use Rattle.sets.specs.Ends.{valueIn, taskset, InTable, at, SetReady, SetRows, Placed, Placeable};
-ghost use Rattle.sets.specs.Search.{asked, Later, Allowed, EndSets, Completed, Searching, Narrowable, Narrowed};
+ghost use Rattle.sets.specs.Search.{asked, Later, Allowed, EndSets, Begun, Completed, Ready, Searching, Narrowable, Narrowed, LastBegin, SomeBegin, Possible, OwnRows};
 
 // ---- the fields of member words and of condition words
 
@@ -311,7 +311,7 @@ fn narrow(conds: &[u32], allow: &[u64], k: usize, begins: [u32; 4], ends: [u64; 
     next
 }
 
-// The masks of the members up to k, of which the last one was placed just now.
+// The masks of the members up to k, of which the last one was placed just now. Those after k are as they were.
 fn place_next(
     members: &[u32],
     conds: &[u32],
@@ -325,7 +325,7 @@ fn place_next(
     n: u32,
 ) -> [u64; 4]
     requires { ⌜ Searching (taskset (now members) (now conds) (now values) n) (now allow) (now table) k begins ends b × (k < length (now members)) ⌝ }
-    ensures { λ r. ⌜ EndSets (taskset (now (members .entry)) (now (conds .entry)) (now (values .entry)) n) (InTable (now (table .entry))) (at begins) (k + 1) (at r) × ((i e : ℕ) → In (at r i) e → e < 64) ⌝ }
+    ensures { λ r. ⌜ EndSets (taskset (now (members .entry)) (now (conds .entry)) (now (values .entry)) n) (InTable (now (table .entry))) (at begins) (k + 1) (at r) × ((i e : ℕ) → In (at r i) e → e < 64) × ((i e : ℕ) → k < i → In (at ends i) e → In (at r i) e) ⌝ }
 {
     let mut sets = ends;
     sets[k] = ends_at(table, member_node(members[k]), begins[k], n);
@@ -347,20 +347,158 @@ fn any_empty(ends: [u64; 4], count: usize) -> bool
     false
 }
 
-// The last begin that member k may have: b where it is the last member and none begins at b yet, and else n.
-fn last_begin(begins: [u32; 4], k: usize, count: usize, b: u32, n: u32) -> u32
-    requires { ⌜ k < 4 ⌝ }
-    ensures { λ r. ⌜ ((r ≡ n) ⊎ ((r ≡ b) × (k + 1 ≡ count) × (Some k (λ i. at begins i ≡ b) → ⊥))) ⌝ }
+// ---- how far member k may begin, and what the set may still read to
+
+// The moments from x to the greatest of these ends.
+fn span(x: u32, ends: u64) -> u64
+    requires { ⌜ x < 64 ⌝ }
+    ensures { λ r. ⌜ ((t : ℕ) → In r t ↔ Spans x ends t) ⌝ }
 {
-    if k + 1 == count {
-        if !begins_at(begins, k, b) {
-            return b;
-        }
+    match bitset::highest_upto(ends, 63) {
+        bitset::Member::At(m) => bitset::between(x, m),
+        bitset::Member::Nothing => 0,
     }
-    n
 }
 
-// `found` and the ends to which the set reads from b with the begins of the first k members. It stops where all is found.
+// The moments that one of the first count members can cover.
+fn spans(begins: [u32; 4], ends: [u64; 4], count: usize) -> u64
+    requires { ⌜ (count ≤ 4) × ((i : ℕ) → at begins i < 64) ⌝ }
+    ensures { λ r. ⌜ ((t : ℕ) → In r t ↔ Some count (λ i. Spans (at begins i) (at ends i) t)) ⌝ }
+{
+    let mut r = 0;
+    let mut i = 0;
+    while i < count {
+        r = bitset::union(r, span(begins[i], ends[i]));
+        i += 1;
+    }
+    r
+}
+
+// The first moment from a on that is not in x, or n.
+fn first_outside(x: u64, a: u32, n: u32) -> u32
+    requires { ⌜ (a ≤ n) × (n < 64) ⌝ }
+    ensures { λ r. ⌜ (a ≤ r) × (r ≤ n) × ((y : ℕ) → a ≤ y → y < r → In x y) × ((r ≡ n) ⊎ (In x r → ⊥)) ⌝ }
+{
+    let mut t = a;
+    while t < n {
+        if !bitset::has(x, t) {
+            return t;
+        }
+        t += 1;
+    }
+    t
+}
+
+// The ends of node m begun from a to z.
+fn ends_from(table: &[u64], m: usize, a: u32, z: u32, n: u32) -> u64
+    requires { ⌜ (m * 64 + 64 ≤ length (now table)) × (a ≤ z) × (z ≤ n) × (n < 64) ⌝ }
+    ensures { λ r. ⌜ ((e : ℕ) → In r e ↔ Begun (InTable (now (table .entry))) m a (z + 1) n e) ⌝ }
+{
+    let mut r = 0;
+    let mut x = a;
+    while x <= z {
+        r = bitset::union(r, ends_at(table, m, x, n));
+        x += 1;
+    }
+    r
+}
+
+// The ends of each member, begun from b on.
+fn later_ends(members: &[u32], table: &[u64], b: u32, n: u32) -> [u64; 4]
+    requires { ⌜ (length (now members) ≤ 4) × ((i : ℕ) → i < length (now members) → memberNode (getD (now members) i 0) * 64 + 64 ≤ length (now table)) × (b ≤ n) × (n < 64) ⌝ }
+    ensures { λ r. ⌜ ((i e : ℕ) → i < length (now (members .entry)) → In (at r i) e ↔ Begun (InTable (now (table .entry))) (memberNode (getD (now (members .entry)) i 0)) b (n + 1) n e) × ((i e : ℕ) → In (at r i) e → e < 64) ⌝ }
+{
+    let mut ends = [0u64; 4];
+    let mut i = 0;
+    while i < members.len() {
+        ends[i] = ends_from(table, member_node(members[i]), b, n, n);
+        i += 1;
+    }
+    ends
+}
+
+// The greatest ends of the choices of an end out of each mask.
+fn attained(ends: [u64; 4], count: usize) -> u64
+    requires { ⌜ (count ≤ 4) × ((i e : ℕ) → In (at ends i) e → e < 64) ⌝ }
+    ensures { λ r. ⌜ ((e : ℕ) → In r e ↔ Attained count (at ends) e) ⌝ }
+{
+    let mut all = 0;
+    let mut least = 0;
+    let mut i = 0;
+    while i < count {
+        let own = least_from(ends[i], 0);
+        if 63 < own {
+            return 0;
+        }
+        if least < own {
+            least = own;
+        }
+        all = bitset::union(all, ends[i]);
+        i += 1;
+    }
+    bitset::inter(all, bitset::from(least))
+}
+
+// Where the placed members leave the moment `gap` open, and node m, begun by then, fills it: the next moment that is left, or n.
+fn next_gap(table: &[u64], m: usize, cover: u64, b: u32, gap: u32, n: u32) -> u32
+    requires { ⌜ (m * 64 + 64 ≤ length (now table)) × (b ≤ gap) × (gap ≤ n) × (n < 64) ⌝ }
+    ensures { λ r. ⌜ (gap ≤ r) × (r ≤ n) × ((r ≡ n) ⊎ ((In cover r → ⊥) × ((e : ℕ) → Begun (InTable (now (table .entry))) m b (gap + 1) n e → r ≤ e → ⊥))) ⌝ }
+{
+    let filled = span(gap, ends_from(table, m, b, gap, n));
+    first_outside(bitset::union(cover, filled), gap, n)
+}
+
+// The last begin that member k may have. Where it is the last member, it begins by the first moment that the others can't cover; where one
+// more is left, that one may cover this moment, and then k begins by the next.
+fn last_begin(
+    members: &[u32],
+    conds: &[u32],
+    values: &[u8; 4096],
+    allow: &[u64],
+    table: &[u64],
+    k: usize,
+    begins: [u32; 4],
+    ends: [u64; 4],
+    b: u32,
+    n: u32,
+) -> u32
+    requires { ⌜ Searching (taskset (now members) (now conds) (now values) n) (now allow) (now table) k begins ends b × (k < length (now members)) ⌝ }
+    ensures { λ r. ⌜ LastBegin (taskset (now (members .entry)) (now (conds .entry)) (now (values .entry)) n) (InTable (now (table .entry))) b k (at begins) r ⌝ }
+{
+    if k + 2 < members.len() {
+        return n;
+    }
+    let cover = spans(begins, ends, k);
+    let gap = first_outside(cover, b, n);
+    if k + 1 == members.len() {
+        return gap;
+    }
+    next_gap(table, member_node(members[k + 1]), cover, b, gap, n)
+}
+
+// The ends to which the set may read with the begins of the first k members and a begin of member k up to `last`, and perhaps more.
+fn open_ends(
+    members: &[u32],
+    conds: &[u32],
+    values: &[u8; 4096],
+    allow: &[u64],
+    table: &[u64],
+    k: usize,
+    begins: [u32; 4],
+    ends: [u64; 4],
+    b: u32,
+    last: u32,
+    n: u32,
+) -> u64
+    requires { ⌜ Searching (taskset (now members) (now conds) (now values) n) (now allow) (now table) k begins ends b × (k < length (now members)) × (b ≤ last) × (last ≤ n) ⌝ }
+    ensures { λ r. ⌜ ((e : ℕ) → (h : Completed (taskset (now (members .entry)) (now (conds .entry)) (now (values .entry)) n) (InTable (now (table .entry))) b e k (at begins)) → h .rule .begins k ≤ last → In r e) ⌝ }
+{
+    let mut open = ends;
+    open[k] = ends_from(table, member_node(members[k]), b, last, n);
+    attained(open, members.len())
+}
+
+// `found` and the ends to which the set reads from b with the begins of the first k members. It stops where nothing can be added.
 fn complete(
     members: &[u32],
     conds: &[u32],
@@ -380,10 +518,23 @@ fn complete(
     if k == members.len() {
         return with_covered(begins, ends, k, b, found);
     }
-    if found == bitset::between(b, n) {
+    let last = last_begin(members, conds, values, allow, table, k, begins, ends, b, n);
+    let open = open_ends(
+        members,
+        conds,
+        values,
+        allow,
+        table,
+        k,
+        begins,
+        ends,
+        b,
+        last,
+        n,
+    );
+    if bitset::union(found, open) == found {
         return found;
     }
-    let last = last_begin(begins, k, members.len(), b, n);
     let mut all = found;
     let mut x = b;
     while x <= last {
@@ -410,7 +561,85 @@ fn complete(
     all
 }
 
-// The rows of the task set at node p.
+// ---- the members' own rows: without the ends that a condition leaves out, wherever its other member begins
+
+// The ends of member i, begun at x, that condition c allows for some begin of its member j.
+fn some_allowed(allow: &[u64], c: usize, form: u32, x: u32, n: u32) -> u64
+    requires { ⌜ (c * 64 + 64 ≤ length (now allow)) × (x < 64) × (n < 64) ⌝ }
+    ensures { λ r. ⌜ ((e : ℕ) → e < 64 → In r e ↔ SomeBegin (now (allow .entry)) (n + 1) form c x e) ⌝ }
+{
+    let mut r = 0;
+    let mut y = 0;
+    while y <= n {
+        r = bitset::union(r, end_mask(form, allow[c * 64 + y as usize], x));
+        y += 1;
+    }
+    r
+}
+
+// The ends of member i, begun at x, that each condition on it allows for some begin.
+fn own_row(conds: &[u32], allow: &[u64], i: usize, x: u32, ends: u64, n: u32) -> u64
+    requires { ⌜ (length (now conds) * 64 ≤ length (now allow)) × (x < 64) × (n < 64) ⌝ }
+    ensures { λ r. ⌜ ((e : ℕ) → In r e ↔ (In ends e × Possible (now (conds .entry)) (now (allow .entry)) n (length (now (conds .entry))) i x e)) ⌝ }
+{
+    let mut r = ends;
+    let mut c = 0;
+    while c < conds.len() {
+        let w = conds[c];
+        if condition_i(w) == i {
+            r = bitset::inter(r, some_allowed(allow, c, words::form_of(w), x, n));
+        }
+        c += 1;
+    }
+    r
+}
+
+// These for each member and begin.
+fn fill_own(members: &[u32], conds: &[u32], allow: &[u64], table: &[u64], n: u32, own: &mut [u64])
+    requires { ⌜ (length (now members) ≤ 4) × ((i : ℕ) → i < length (now members) → memberNode (getD (now members) i 0) * 64 + 64 ≤ length (now table)) × (n < 64) × (length (now conds) * 64 ≤ length (now allow)) × (length (now members) * 64 ≤ length (now own)) ⌝ }
+    ensures { λ _. ⌜ OwnRows (now (members .entry)) (now (conds .entry)) n (now (allow .entry)) (now (table .entry)) (length (now (members .entry)) * 64) (now (own .exit)) ⌝ }
+{
+    let mut c = 0;
+    while c < members.len() * 64 {
+        let x = (c % 64) as u32;
+        let ends = ends_at(table, member_node(members[c / 64]), x, n);
+        own[c] = own_row(conds, allow, c / 64, x, ends, n);
+        c += 1;
+    }
+}
+
+// ---- the rows
+
+// The ends of the set of these members from b.
+fn set_row(
+    members: &[u32],
+    conds: &[u32],
+    values: &[u8; 4096],
+    allow: &[u64],
+    table: &[u64],
+    b: u32,
+    n: u32,
+) -> u64
+    requires { ⌜ Ready (taskset (now members) (now conds) (now values) n) (now allow) (now table) b ⌝ }
+    ensures { λ r. ⌜ ((e : ℕ) → In r e ↔ SetRule (taskset (now (members .entry)) (now (conds .entry)) (now (values .entry)) n) (InTable (now (table .entry))) b e) ⌝ }
+{
+    let ends = later_ends(members, table, b, n);
+    complete(
+        members,
+        conds,
+        values,
+        allow,
+        table,
+        0,
+        [0; 4],
+        ends,
+        b,
+        n,
+        0,
+    )
+}
+
+// The rows of the task set at node p. The search is in the members' own rows, of which member i's are those of node i.
 pub fn set_rows(
     members: &[u32],
     conds: &[u32],
@@ -424,21 +653,13 @@ pub fn set_rows(
 {
     let mut allow = [0u64; 512];
     fill_allowed(values, conds, n as usize, &mut allow);
+    let mut own = [0u64; 256];
+    fill_own(members, conds, &allow, table, n, &mut own);
+    let places = [0u32, 1, 2, 3];
+    let count = members.len();
     let mut b = 0;
     while b <= n {
-        let row = complete(
-            members,
-            conds,
-            values,
-            &allow,
-            table,
-            0,
-            [0; 4],
-            [0; 4],
-            b,
-            n,
-            0,
-        );
+        let row = set_row(&places[..count], conds, values, &allow, &own, b, n);
         table[p * 64 + b as usize] = row;
         b += 1;
     }
@@ -520,7 +741,47 @@ fn greatest_ends(sets: [u64; 4], count: usize, e: u32) -> [u32; 4]
     ends
 }
 
-// Begins and ends with which the set reads b to e, as it does.
+// Begins and ends with which the set of these members reads b to e, as it does.
+fn place_from(
+    members: &[u32],
+    conds: &[u32],
+    values: &[u8; 4096],
+    allow: &[u64],
+    table: &[u64],
+    b: u32,
+    e: u32,
+    n: u32,
+) -> Placement
+    requires { ⌜ Ready (taskset (now members) (now conds) (now values) n) (now allow) (now table) b × SetRule (taskset (now members) (now conds) (now values) n) (InTable (now table)) b e ⌝ }
+    ensures { λ r. ⌜ Placed (taskset (now (members .entry)) (now (conds .entry)) (now (values .entry)) n) (InTable (now (table .entry))) b e (at (r .begins)) (at (r .ends)) ⌝ }
+{
+    let mut begins = [0u32; 4];
+    let mut sets = later_ends(members, table, b, n);
+    let mut k = 0;
+    while k < members.len() {
+        let x = next_begin(
+            members,
+            conds,
+            values,
+            allow,
+            table,
+            k,
+            begins,
+            sets,
+            b,
+            e,
+            n,
+        );
+        begins[k] = x;
+        let next = place_next(members, conds, values, allow, table, k, begins, sets, b, n);
+        sets = next;
+        k += 1;
+    }
+    let ends = greatest_ends(sets, k, e);
+    Placement { begins, ends }
+}
+
+// The same of any set, by the members' own rows.
 pub fn place(
     members: &[u32],
     conds: &[u32],
@@ -535,28 +796,9 @@ pub fn place(
 {
     let mut allow = [0u64; 512];
     fill_allowed(values, conds, n as usize, &mut allow);
-    let mut begins = [0u32; 4];
-    let mut sets = [0u64; 4];
-    let mut k = 0;
-    while k < members.len() {
-        let x = next_begin(
-            members,
-            conds,
-            values,
-            &allow,
-            table,
-            k,
-            begins,
-            sets,
-            b,
-            e,
-            n,
-        );
-        begins[k] = x;
-        let next = place_next(members, conds, values, &allow, table, k, begins, sets, b, n);
-        sets = next;
-        k += 1;
-    }
-    let ends = greatest_ends(sets, k, e);
-    Placement { begins, ends }
+    let mut own = [0u64; 256];
+    fill_own(members, conds, &allow, table, n, &mut own);
+    let places = [0u32, 1, 2, 3];
+    let count = members.len();
+    place_from(&places[..count], conds, values, &allow, &own, b, e, n)
 }

@@ -1,7 +1,7 @@
 -- `sets::complete` meets its contract. Each call places one member more: the measure is how many are left. The loop's invariant: `all` has
 -- `found` and the ends with a begin of member k before x. Assumes nothing.
 use Prim.Native.Nat.{ℕ, _+_, _-_, _≤_, _<_}
-use mathlib.Core.Path.{_≡_, sym, _∙_}
+use mathlib.Core.Path.{_≡_, sym, _∙_, subst}
 use mathlib.Core.List.{map}
 use mathlib.Core.Logic.{_↔_, _⊎_, inl, inr, ⊎-elim}
 use native.Mathlib.Omega.{arith}
@@ -14,15 +14,16 @@ use Rattle.bitset.specs.Members.{In as In-mask}
 use Rattle.words.specs.Fields.{memberNode}
 use Rattle.sets.specs.Ends.{taskset, at, InTable}
 use Rattle.sets.specs.Search.{Searching}
-use Rattle.sets.proofs.Laws.{in-between, no-gain, gain-turn}
-use Rattle.sets.proofs.Search.{CompletedTo, to-none, turn, none, ends-within, last-ok, leaf-at, search-begin, search-next}
+use Rattle.sets.proofs.Laws.{in-union, no-gain, gain-turn}
+use Rattle.sets.proofs.Search.{CompletedTo, to-none, turn, none, leaf-at, search-begin, search-next}
 use Rattle.sets.proofs.complete.Reads as own
 use Rattle.sets.proofs.complete.Kinds as kinds
 use Rattle.sets.proofs.+complete.Lts-complete as lts
-use Rattle.bitset.proofs.between.Reads as between
+use Rattle.bitset.proofs.union.Reads as union
 use Rattle.sets.proofs.any_empty.Reads as any-empty
 use Rattle.sets.proofs.with_covered.Reads as with-covered
 use Rattle.sets.proofs.last_begin.Reads as last-begin
+use Rattle.sets.proofs.open_ends.Reads as open-ends
 use Rattle.sets.proofs.place_next.Reads as place-next
 use Rattle.sets.proofs.+complete.{statement}
 use Rattle.sets.proofs.+complete.Tie.{close}
@@ -40,10 +41,12 @@ abbrev calls : ℕ → lts.Claims
 calls t = (
   with-covered.Asked,
   with-covered.Learnt,
-  between.Asked,
-  between.Learnt,
   last-begin.Asked,
   last-begin.Learnt,
+  open-ends.Asked,
+  open-ends.Learnt,
+  union.Asked,
+  union.Learnt,
   place-next.Asked,
   place-next.Learnt,
   any-empty.Asked,
@@ -53,12 +56,12 @@ calls t = (
 )
 
 abbrev Inv-loop : lts.InvT-loop
-Inv-loop members conds values allow table k begins ends b n found last all₀ x₀ all x =
+Inv-loop members conds values allow table k begins ends b n found last may all₀ x₀ all x =
     (b ≤ x) × (x ≤ last + 1) × (last ≤ n)
     × ((e : ℕ) → In-mask all e ↔ (In-mask found e ⊎ CompletedTo (taskset members conds values n) (InTable table) b e k (at begins) x))
 
 abbrev μ-loop : lts.MeasureT-loop
-μ-loop members conds values allow table k begins ends b n found last all₀ x₀ all x = last + 1 - x
+μ-loop members conds values allow table k begins ends b n found last may all₀ x₀ all x = last + 1 - x
 
 module _ (t : ℕ) where
   -- the function's entry, and the places that the paths lead through
@@ -77,18 +80,21 @@ module _ (t : ℕ) where
   abbrev entry1 : Open → Entry
   entry1 m = m .before .before .before .before .before
 
+  abbrev opened : More → Open
+  opened m = m .before .before .before .before
+
   abbrev entry : More → Entry
-  entry m = entry1 (m .before .before)
+  entry m = entry1 (opened m)
 
   abbrev more : Turn → More
-  more c = c .before .before .before
+  more c = c .before .before
 
   -- a member is left to place
-  left : (m : More) → let a = entry m .args in (a .k < length (map memberNode (a .members .now))) × (a .k < length (a .members .now)) × (a .k < 4) × (length (a .begins) ≡ 4)
-  left m =
-      let g = entry m .pre .1 in
-      let l = m .before .before .if1 .left in
-      let q = length-map (entry m .args .members .now) memberNode in
+  left : (c : Open) → let a = entry1 c .args in (a .k < length (map memberNode (a .members .now))) × (a .k < length (a .members .now)) × (a .k < 4) × (length (a .begins) ≡ 4)
+  left c =
+      let g = entry1 c .pre .1 in
+      let l = c .if1 .left in
+      let q = length-map (entry1 c .args .members .now) memberNode in
       (omega (arith, g .step, l), omega (arith, g .step, l), omega (arith, g .step, g .formed .few, l), omega arith)
 
   -- the moments of a turn
@@ -98,7 +104,7 @@ module _ (t : ℕ) where
   -- what the search needs with member k at x
   placing : (c : Turn) → let a = entry (more c) .args in
       Searching (taskset (a .members .now) (a .conds .now) (a .values .now) (a .n)) (a .allow .now) (a .table .now) (a .k) (set (a .begins) (a .k) (c .before .loop .x)) (a .ends) (a .b)
-  placing c = search-begin (entry (more c) .pre .1) (left (more c) .0) (c .before .loop .x) (small c .0) (small c .1) (omega (arith, left (more c)))
+  placing c = search-begin (entry (more c) .pre .1) (left (opened (more c)) .0) (c .before .loop .x) (small c .0) (small c .1) (omega (arith, left (opened (more c))))
 
   with-covered-requires : lts.Need-with-covered-requires (calls t) (own-at t) own.Post Inv-loop μ-loop
   with-covered-requires c κs = let g = c .before .before .before .before .before .pre .1 in
@@ -108,50 +114,50 @@ module _ (t : ℕ) where
   returns c = let s = c .before .before .before .before .before .before in let g = s .pre .1 in
       λ e. leaf-at (s .args .k) (g .formed) (c .before .if1 .taken ∙ sym (length-map (s .args .members .now) memberNode)) (g .sets) (g .after) (c .with-covered .ensures e)
 
-  between-requires : lts.Need-between-requires (calls t) (own-at t) own.Post Inv-loop μ-loop
-  between-requires c κs = let g = entry1 c .pre .1 in omega (arith, g .from, g .formed .moments)
-
-  -- all is found
-  returns-2 : lts.Need-returns-2 (calls t) (own-at t) own.Post Inv-loop μ-loop
-  returns-2 c = λ e. (inl, ⊎-elim (λ p. p) (λ h. rw (c .if2 .taken) (in-between (c .before .between .ensures) e .1 (ends-within h))))
-
   last-begin-requires : lts.Need-last-begin-requires (calls t) (own-at t) own.Post Inv-loop μ-loop
-  last-begin-requires c κs = left c .2
+  last-begin-requires c κs = (entry1 c .pre .1, left c .1)
+
+  open-ends-requires : lts.Need-open-ends-requires (calls t) (own-at t) own.Post Inv-loop μ-loop
+  open-ends-requires c κs = let l = c .last-begin .ensures in (entry1 (c .before) .pre .1, left (c .before) .1, l .from, l .within)
+
+  union-requires : lts.Need-union-requires (calls t) (own-at t) own.Post Inv-loop μ-loop
+  union-requires c κs = tt
+
+  -- nothing can be added
+  returns-2 : lts.Need-returns-2 (calls t) (own-at t) own.Post Inv-loop μ-loop
+  returns-2 c = let o = c .before .before in
+      λ e. (inl, ⊎-elim (λ p. p) (λ h. subst (λ (x : ℕ). In-mask x e) (c .if2 .taken) (in-union (c .before .union .ensures) e .1 (inr (o .open-ends .ensures e h (o .before .last-begin .ensures .latest e h))))))
 
   loop-holds : lts.Need-loop-holds (calls t) (own-at t) own.Post Inv-loop μ-loop
-  loop-holds c = let g = entry (c .before) .pre .1 in (
-    omega arith,
-    ⊎-elim (λ q. omega (arith, g .from)) (λ q. let r = q .0 in omega arith) (c .last-begin .ensures),
-    ⊎-elim (λ q. omega arith) (λ q. let r = q .0 in omega (arith, g .from)) (c .last-begin .ensures),
-    λ e. (inl, ⊎-elim (λ p. p) (λ h. absurd (to-none (left (c .before) .0) h))),
-  )
+  loop-holds c = let l = c .before .before .before .last-begin .ensures in
+      (omega arith, omega (arith, l .from), l .within, λ e. (inl, ⊎-elim (λ p. p) (λ h. absurd (to-none (left (opened c) .0) h))))
 
   mul-next : lts.Need-mul-next (calls t) (own-at t) own.Post Inv-loop μ-loop
-  mul-next c = omega (arith, left (more c))
+  mul-next c = omega (arith, left (opened (more c)))
 
   array-write-next : lts.Need-array-write-next (calls t) (own-at t) own.Post Inv-loop μ-loop
-  array-write-next c = left (more c) .2
+  array-write-next c = left (opened (more c)) .2
 
   place-next-requires : lts.Need-place-next-requires (calls t) (own-at t) own.Post Inv-loop μ-loop
-  place-next-requires c κs = (placing c, left (more c) .1)
+  place-next-requires c κs = (placing c, left (opened (more c)) .1)
 
   add-any-empty : lts.Need-add-any-empty (calls t) (own-at t) own.Post Inv-loop μ-loop
-  add-any-empty c = omega (arith, left (more (c .before)))
+  add-any-empty c = omega (arith, left (opened (more (c .before))))
 
   any-empty-requires : lts.Need-any-empty-requires (calls t) (own-at t) own.Post Inv-loop μ-loop
-  any-empty-requires c κs = omega (arith, left (more (c .before)))
+  any-empty-requires c κs = omega (arith, left (opened (more (c .before))))
 
   add-complete : lts.Need-add-complete (calls t) (own-at t) own.Post Inv-loop μ-loop
-  add-complete c = omega (arith, left (more (c .before .before .before)))
+  add-complete c = omega (arith, left (opened (more (c .before .before .before))))
 
   complete-requires : lts.Need-complete-requires (calls t) (own-at t) own.Post Inv-loop μ-loop
   complete-requires c κs =
       let p = c .before .before in
       let w = p .before in
       let a = entry (more w) .args in
-      let l = left (more w) in (
+      let l = left (opened (more w)) in (
         omega (arith, entry (more w) .pre .0, l),
-        search-next (placing w) (l .0) (rw (getD-set-same (a .begins) (a .k) (w .before .loop .x) 0 (omega (arith, l))) (small w .0)) (p .place-next .ensures .0) (p .place-next .ensures .1),
+        search-next (placing w) (l .0) (rw (getD-set-same (a .begins) (a .k) (w .before .loop .x) 0 (omega (arith, l))) (small w .0)) (p .place-next .ensures),
       )
 
   add-x : lts.Need-add-x (calls t) (own-at t) own.Post Inv-loop μ-loop
@@ -166,7 +172,7 @@ module _ (t : ℕ) where
       let w = p .before in
       let a = entry (more w) .args in
       let v = w .before .loop .inv in
-      let l = left (more w) in (
+      let l = left (opened (more w)) in (
         omega (arith, v .0),
         omega (arith, w .loop-test .taken),
         v .2,
@@ -180,14 +186,14 @@ module _ (t : ℕ) where
 
   returns-3 : lts.Need-returns-3 (calls t) (own-at t) own.Post Inv-loop μ-loop
   returns-3 c =
-      let m = c .before .before .before in
       let v = c .before .loop .inv .3 in
+      let l = c .before .before .before .before .before .last-begin .ensures in
       λ e. (
         λ z. ⊎-elim inl (λ h. inr (h .done)) (v e .0 z),
-        ⊎-elim (λ p. v e .1 (inl p)) (λ h. v e .1 (inr (record { done = h; below = omega (arith, last-ok (sym (length-map (entry m .args .members .now) memberNode)) (left m .0) (c .before .before .last-begin .ensures) h, c .loop-test .left) }))),
+        ⊎-elim (λ p. v e .1 (inl p)) (λ h. v e .1 (inr (record { done = h; below = omega (arith, l .latest e h, c .loop-test .left) }))),
       )
 
 pub +complete-spec : {M : Type 1} → statement M
 +complete-spec = close μ λ t. lts.spec (calls t) (own-at t) own.Post Inv-loop μ-loop
-    (with-covered-requires t) (returns t) (between-requires t) (returns-2 t) (last-begin-requires t) (loop-holds t) (mul-next t) (array-write-next t) (place-next-requires t) (add-any-empty t)
+    (with-covered-requires t) (returns t) (last-begin-requires t) (open-ends-requires t) (union-requires t) (returns-2 t) (loop-holds t) (mul-next t) (array-write-next t) (place-next-requires t) (add-any-empty t)
     (any-empty-requires t) (add-complete t) (complete-requires t) (add-x t) (loop-less t) (loop-again t) (returns-3 t)

@@ -1,24 +1,16 @@
 -- `sets::covered` meets its contract. The invariant: from the end `least` on, the members before i ask nothing more. Assumes nothing.
-use Prim.Native.Nat.{ℕ, _+_, _-_, _≤_, _<_}
+use Prim.Native.Nat.{ℕ, _-_, _≤_, _<_}
 use mathlib.Core.Logic.{_↔_, ⊎-elim}
 use native.Mathlib.Omega.{arith}
-use borrow.Author.Count.{below-more}
 use borrow.Author.Tests.{not-true, not-false}
 use Rattle.bitset.proofs.Laws.{not-both}
 use Rattle.sets.specs.Cover.{Needed}
 use Rattle.sets.specs.Ends.{at}
 use Rattle.sets.proofs.Laws.{in-none, in-both, in-from}
+use Rattle.sets.proofs.Needs.{all-more}
 use borrow.Author.Needs.{needs}
 use Rattle.sets.proofs.covered.Statement.{statement}
 use Rattle.sets.proofs.covered.Tie as tie
-
--- one member more
-turn : {P : ℕ → Type 0} {i least own next e : ℕ} → (least ≤ e) ↔ ((j : ℕ) → j < i → P j) → (own ≤ e) ↔ P i
-    → (next ≤ e) ↔ ((least ≤ e) × (own ≤ e)) → (next ≤ e) ↔ ((j : ℕ) → j < i + 1 → P j)
-turn {P} {i} old new next = (
-  λ h. below-more P i (old .0 (next .0 h .0)) (new .0 (next .0 h .1)),
-  λ h. next .1 (old .1 (λ j l. h j (omega arith)), new .1 (h i (omega arith))),
-)
 
 abbrev Inv-loop : tie.InvT-loop
 Inv-loop begins ends count b least₀ i₀ least i =
@@ -53,7 +45,7 @@ loop-again : tie.Need-loop-again Inv-loop μ-loop
 loop-again c = let k = c .before .before .before .before .loop in let n = c .before .before .need in (
   omega arith,
   ⊎-elim (λ w. omega arith) (λ w. omega arith) (c .if3 .came),
-  λ e l. turn (k .inv .2 e l) (n .ensures e l) (⊎-elim (λ w. (λ h. (omega arith, omega arith), λ h. let u = h .1 in omega arith)) (λ w. (λ h. (omega arith, omega arith), λ h. let u = h .0 in omega arith)) (c .if3 .came)),
+  λ e l. all-more (k .inv .2 e l) (n .ensures e l) (⊎-elim (λ w. (λ h. (omega arith, omega arith), λ h. let u = h .1 in omega arith)) (λ w. (λ h. (omega arith, omega arith), λ h. let u = h .0 in omega arith)) (c .if3 .came)),
 )
 
 ends-before-requires : tie.Need-ends-before-requires Inv-loop μ-loop

@@ -56,7 +56,7 @@ complete-requires : tie.Need-complete-requires Inv-loop μ-loop
 complete-requires c κs =
     let l = c .before .before in
     let a = entry l .args in
-    search-next (placing l) (facts l .0) (rw (getD-set-same (a .begins) (a .k) (l .loop .x) 0 (omega (arith, facts l))) (l .loop .inv .0)) (c .place-next .ensures .0) (c .place-next .ensures .1)
+    search-next (placing l) (facts l .0) (rw (getD-set-same (a .begins) (a .k) (l .loop .x) 0 (omega (arith, facts l))) (l .loop .inv .0)) (c .place-next .ensures)
 
 has-requires : tie.Need-has-requires Inv-loop μ-loop
 has-requires c κs = omega (arith, facts (c .before .before .before))

@@ -1,126 +1,75 @@
--- `sets::place` meets its contract. The invariant: the set reads b to e with the begins so far. Assumes nothing.
-use Prim.Native.Nat.{_-_, _≤_, _<_}
-use mathlib.Core.Path.{_≡_, refl}
-use mathlib.Core.List.{map}
+-- `sets::place` meets its contract: the members' own rows read as the set does. Assumes nothing.
+use Prim.Native.Nat.{_*_, _≤_}
+use mathlib.Core.Path.{sym}
 use native.Mathlib.Omega.{arith}
-use lib.ListN.{length, set, length-set, length-map}
-use lib.Seq.{getD-set-same}
+use lib.ListN.{length, length-map}
+use lib.Seq.{length-take-le}
 use Rattle.words.specs.Fields.{memberNode}
-use Rattle.sets.specs.Ends.{taskset, at, InTable}
-use Rattle.sets.specs.Search.{Searching, Completed}
-use Rattle.sets.proofs.Search.{nothing-placed, search-start, search-begin, search-next, some-end, placed-at}
+use Rattle.sets.proofs.Search.{node-rows}
+use Rattle.sets.proofs.Own.{own-rule, own-placed, own-ready}
 use borrow.Author.Needs.{needs}
 use Rattle.sets.proofs.place.Statement.{statement}
 use Rattle.sets.proofs.place.Tie as tie
 
-abbrev Inv-loop : tie.InvT-loop
-Inv-loop members conds values table b e n allow begins₀ sets₀ k₀ begins sets k =
-    (k ≤ length members) × (length begins ≡ 4) × Searching (taskset members conds values n) allow table k begins sets b
-    × Completed (taskset members conds values n) (InTable table) b e k (at begins)
+few : (s : tie.Start) → length (s .args .members .now) ≤ 4
+few s = omega (arith, s .pre .formed .few, length-map (s .args .members .now) memberNode)
 
-abbrev μ-loop : tie.MeasureT-loop
-μ-loop members conds values table b e n allow begins₀ sets₀ k₀ begins sets k = length members - k
-
--- the function's entry, seen from the loop
-abbrev entry : tie.At-loop Inv-loop μ-loop → tie.Start Inv-loop μ-loop
-entry l = l .before .before .before .before .before .before .before
-
--- the next begin's place in the array, and what the search needs with it
-long : (c : tie.After-next-begin Inv-loop μ-loop) → let l = c .before .before .before .loop in let a = entry (c .before .before .before) .args in
-    (l .k < length (map memberNode (a .members .now))) × (l .k < length (l .begins))
-long c =
-    let v = c .before .before .before .loop .inv in
-    let q = length-map (entry (c .before .before .before) .args .members .now) memberNode in
-    (omega (arith, c .before .before .loop-test .taken), omega (arith, v .1, v .2 .formed .few, c .before .before .loop-test .taken))
-
-placing : (c : tie.After-next-begin Inv-loop μ-loop) →
-    let l = c .before .before .before .loop in
-    let a = entry (c .before .before .before) .args in
-    Searching (taskset (a .members .now) (a .conds .now) (a .values .now) (a .n)) (c .before .before .before .before .before .fill-allowed .last .1 .1 .1 .0) (a .table .now) (l .k) (set (l .begins) (l .k) (c .next-begin .result)) (l .sets) (a .b)
-placing c = let l = c .before .before .before .loop in
-    search-begin (l .inv .2) (long c .0) (c .next-begin .result) (c .next-begin .ensures .0) (c .next-begin .ensures .1) (long c .1)
-
-slice-aggregate-fill-allowed : tie.Need-slice-aggregate-fill-allowed Inv-loop μ-loop
+slice-aggregate-fill-allowed : tie.Need-slice-aggregate-fill-allowed
 slice-aggregate-fill-allowed c = search needs
 
-fill-allowed-requires : tie.Need-fill-allowed-requires Inv-loop μ-loop
-fill-allowed-requires c κs = let g = c .before .before .before .before .pre in
-    (g .formed .moments, omega (arith, g .formed .conditions))
+fill-allowed-requires : tie.Need-fill-allowed-requires
+fill-allowed-requires c κs = let g = c .before .before .before .before .pre in (g .formed .moments, omega (arith, g .formed .conditions))
 
-loop-holds : tie.Need-loop-holds Inv-loop μ-loop
-loop-holds c =
-    let g = c .before .before .before .before .before .before .pre in
-    let r = g .rule .placing in (
-      omega arith,
-      refl,
-      search-start (g .formed) (g .rows) (c .before .fill-allowed .ensures) (omega (arith, c .before .fill-allowed .kept .1 .1 .1 .0, g .formed .conditions)) (omega (arith, r .within, r .onward)),
-      nothing-placed .1 (g .rule),
+slice-aggregate-fill-own : tie.Need-slice-aggregate-fill-own
+slice-aggregate-fill-own c = search needs
+
+slice-aggregate-fill-own-2 : tie.Need-slice-aggregate-fill-own-2
+slice-aggregate-fill-own-2 c = search needs
+
+fill-own-requires : tie.Need-fill-own-requires
+fill-own-requires c κs = let s = c .before .before .before .before .before .before .before .before in let g = s .pre in
+    (few s, node-rows (s .args .members .now) (g .rows), g .formed .moments, omega (arith, c .before .before .before .fill-allowed .kept .1 .1 .1 .0, g .formed .conditions), omega (arith, few s))
+
+array-share-prefix-places : tie.Need-array-share-prefix-places
+array-share-prefix-places c = few (c .before .before .before .before .before .before .before .before .before .before)
+
+slice-aggregate-place-from : tie.Need-slice-aggregate-place-from
+slice-aggregate-place-from c = sym (length-take-le _ _ (few (c .before .before .before .before .before .before .before .before .before .before .before)))
+
+slice-aggregate-place-from-2 : tie.Need-slice-aggregate-place-from-2
+slice-aggregate-place-from-2 c = search needs
+
+slice-aggregate-place-from-3 : tie.Need-slice-aggregate-place-from-3
+slice-aggregate-place-from-3 c = search needs
+
+place-from-requires : tie.Need-place-from-requires
+place-from-requires c κs =
+    let s = c .before .before .before .before .before .before .before .before .before .before .before .before .before in
+    let g = s .pre in
+    let r = g .rule .placing in
+    let a = c .before .before .before .before .before .before .before .before .fill-allowed in
+    let o = c .before .before .before .before .fill-own in (
+      own-ready (s .args .values .now) (g .formed) (a .ensures) (o .ensures) (omega (arith, a .kept .1 .1 .1 .0, g .formed .conditions)) (omega (arith, o .kept .1 .1 .1 .1 .1 .0, few s)) (omega (arith, r .within, r .onward)),
+      own-rule (s .args .values .now) (g .formed) (a .ensures) (o .ensures) .1 (g .rule),
     )
 
-slice-aggregate-next-begin : tie.Need-slice-aggregate-next-begin Inv-loop μ-loop
-slice-aggregate-next-begin c = search needs
-
-next-begin-requires : tie.Need-next-begin-requires Inv-loop μ-loop
-next-begin-requires c κs = search needs
-
-mul-begins : tie.Need-mul-begins Inv-loop μ-loop
-mul-begins c = search needs
-
-array-write-begins : tie.Need-array-write-begins Inv-loop μ-loop
-array-write-begins c = omega (arith, long c, c .before .before .before .loop .inv .1)
-
-slice-aggregate-place-next : tie.Need-slice-aggregate-place-next Inv-loop μ-loop
-slice-aggregate-place-next c = search needs
-
-place-next-requires : tie.Need-place-next-requires Inv-loop μ-loop
-place-next-requires c κs = (placing (c .before), c .before .before .before .loop-test .taken)
-
-add-k : tie.Need-add-k Inv-loop μ-loop
-add-k c = search needs
-
-loop-less : tie.Need-loop-less Inv-loop μ-loop
-loop-less c = search needs
-
-loop-again : tie.Need-loop-again Inv-loop μ-loop
-loop-again c =
-    let k = c .before .before in
-    let l = k .before .before .before .loop in
-    let x = k .next-begin in (
-      omega (arith, k .before .before .loop-test .taken),
-      simp length-set (l .inv .1),
-      search-next (placing k) (long k .0) (rw (getD-set-same (l .begins) (l .k) (x .result) 0 (long k .1)) (x .ensures .0)) (c .place-next .ensures .0) (c .place-next .ensures .1),
-      x .ensures .2,
-    )
-
-greatest-ends-requires : tie.Need-greatest-ends-requires Inv-loop μ-loop
-greatest-ends-requires c κs =
-    let l = c .before .loop .inv in
-    let f = l .2 .formed in
-    (omega (arith, l .3 .rule .placing .within, f .moments), omega (arith, l .2 .step, f .few), some-end (l .2 .sets) (l .2 .step) (l .3))
-
-returns : tie.Need-returns Inv-loop μ-loop
+returns : tie.Need-returns
 returns c =
-    let l = c .before .before .loop in
-    let q = length-map (entry (c .before .before) .args .members .now) memberNode in
-    placed-at (l .k) (l .inv .2 .formed) (omega (arith, l .inv .0, c .before .loop-test .left)) (l .inv .2 .sets) (l .inv .2 .after) (l .inv .3) (c .greatest-ends .ensures)
+    let s = c .before .before .before .before .before .before .before .before .before .before .before .before .before .before in
+    own-placed (s .args .values .now) (s .pre .formed) (c .before .before .before .before .before .before .before .before .before .fill-allowed .ensures) (c .before .before .before .before .before .fill-own .ensures) (c .place-from .ensures)
 
 pub place-spec : {M : Type 1} → statement M
 place-spec =
     tie.close
     (tie.spec
-    Inv-loop
-    μ-loop
     slice-aggregate-fill-allowed
     fill-allowed-requires
-    loop-holds
-    slice-aggregate-next-begin
-    next-begin-requires
-    mul-begins
-    array-write-begins
-    slice-aggregate-place-next
-    place-next-requires
-    add-k
-    loop-less
-    loop-again
-    greatest-ends-requires
+    slice-aggregate-fill-own
+    slice-aggregate-fill-own-2
+    fill-own-requires
+    array-share-prefix-places
+    slice-aggregate-place-from
+    slice-aggregate-place-from-2
+    slice-aggregate-place-from-3
+    place-from-requires
     returns)

@@ -4,6 +4,7 @@ use mathlib.Core.Path.{_≡_, sym, _∙_}
 use mathlib.Core.List.{map}
 use native.Mathlib.Omega.{arith}
 use lib.ListN.{length, getD, set, length-map, List·getD-map}
+use lib.Seq.{getD-set-other}
 use Rattle.bitset.specs.Members.{In}
 use Rattle.words.specs.Fields.{memberNode}
 use Rattle.sets.specs.Ends.{at}
@@ -65,6 +66,7 @@ returns c = let s = c .before .before .before .before .before .before .before .b
   extend (s .args .ends) (c .before .ends-at .result) (g .formed .moments) (g .allowed) (g .moments) (omega (arith, left s))
       (λ e. rw (node (c .before .before)) at (c .before .ends-at .ensures e)) (g .sets) (c .narrow .ensures),
   λ i e t. new-small (c .before) i e (c .narrow .ensures .mask i e .0 t .0),
+  λ i e l t. c .narrow .ensures .mask i e .1 (rw (getD-set-other (s .args .ends) (s .args .k) i (c .before .ends-at .result) 0 (omega arith)) t, λ d m q o. let f = o .first in absurd (omega arith)),
 )
 
 pub place-next-spec : {M : Type 1} → statement M
