@@ -1,10 +1,14 @@
-//! Find: a door with a loop of ten passes and task sets of two, and sets of four members whose search could be long.
+//! Find: a door with a loop of ten passes and task sets of two, and sets of four members whose search could be long; beside the plain
+//! finder, which tries each split and each placement, where that ends.
 use crate::best;
 use planreader_tests::{checker::calls, host};
 
 /// What the door and a set may take at most, in milliseconds.
 const DOOR: f64 = 1.0;
 const SET: f64 = 1500.0;
+
+/// How many placements of a set the plain finder is let try.
+const TRIED: usize = 100_000_000;
 
 fn node(form: u32, x: u32, y: u32, m: u32, n: u32) -> u32 {
     6 << 28 | form << 24 | x << 18 | y << 12 | m << 6 | n
@@ -50,14 +54,14 @@ fn door() -> (Vec<u32>, Vec<u32>) {
     (job, starts)
 }
 
-/// A task set of four members, each of which reads from b to e for all b ≤ e ≤ 63 with e ≤ b + span. Formula 0 holds always, 1 never.
-fn crowd(span: u32, conditions: &[u32]) -> Vec<u32> {
+/// A task set of some members, each of which reads from b to e for all b ≤ e ≤ 63 with e ≤ b + span. Formula 0 holds always, 1 never.
+fn crowd(members: u32, span: u32, conditions: &[u32]) -> Vec<u32> {
     let mut job = vec![1 << 28 | 1 << 16 | 1 << 8 | 63, 3 << 28 | 1, 5 << 28, 5 << 28 | 2 << 24];
-    for i in 0..4 {
+    for i in 0..members {
         job.extend([node(1, 0, 0, 0, 0), node(1, 0, 0, 0, 0), node(7, 3 * i, 3 * i + 1, 0, span)]);
     }
     job.push(node(8, 0, 0, 0, 0));
-    job.extend((0..4).map(|i| 7 << 28 | (3 * i + 2)));
+    job.extend((0..members).map(|i| 7 << 28 | (3 * i + 2)));
     job.extend(conditions);
     job
 }
@@ -107,10 +111,29 @@ pub fn failed() -> bool {
     };
     let mut failed = ms > DOOR || found.number != 0 || !same;
     for (name, span, conditions) in crowds() {
-        let job = crowd(span, &conditions);
+        let job = crowd(4, span, &conditions);
         let (ms, found) = best(1, || host::find(&job, &[], &[], &mut buffer));
         println!("four members, {name}: find {ms:.1} ms, number {}, {} triples", found.number, found.count);
         failed |= ms > SET;
+    }
+    failed | beside_plain()
+}
+
+/// Find beside the plain finder, which tries each placement of each member, on sets that it can end. A set of four members that read from
+/// every moment to every later one has 2,080 to the fourth power of placements, and of three still 9,000 million, which it does not end.
+fn beside_plain() -> bool {
+    let mut failed = false;
+    for (members, span) in [(4, 63), (3, 63), (2, 63), (3, 3)] {
+        let job = crowd(members, span, &[]);
+        let (ms, found) = best(3, || host::find(&job, &[], &[], &mut [0; 4096]));
+        let (plain_ms, plain) = best(1, || calls::find_within(&job, &[], &[], 4096, TRIED));
+        let count = match &plain {
+            Some(calls::Outcome::Read { decision, .. } | calls::Outcome::NoReading { decision, .. }) => Some(decision.count()),
+            _ => None,
+        };
+        let plain_time = count.map_or(format!("more than {TRIED} placements, not tried"), |_| format!("{plain_ms:.1} ms"));
+        println!("{members} members, ends up to b + {span}: find {ms:.3} ms, checker {plain_time}, {} triples", found.count);
+        failed |= count.is_some_and(|c| c != found.count as usize);
     }
     failed
 }
