@@ -11,14 +11,15 @@ use native.Mathlib.Omega.{arith}
 use lib.Dec.{eqb}
 use lib.ListN.{length, getD, length-append}
 use borrow.Author.Tests.{eq-eqb, ne-eqb}
+use Rattle.sets.specs.Ends.{InTable}
+use Rattle.words.specs.Scan.{joined}
 use Rattle.words.specs.Tests.{pick}
 use Rattle.words.specs.Fields.{readingWord}
 use Rattle.words.proofs.Choices.{true-false}
 use Rattle.promise.specs.Trajectory.{Trajectory}
 use Rattle.promise.specs.Procedure.{Procedure}
 use Rattle.reading.specs.Forms.{Form, While, formNumber, formAt, fieldY}
-use Rattle.reading.specs.Reading.{whole, passes, joined, Reading, act, test, sequence, first, second, taken, otherwise, loop, done, pass, startWindow, endWindow, set}
-use Rattle.reading.specs.Table.{InTable}
+use Rattle.reading.specs.Reading.{whole, passes, Reading, act, test, sequence, first, second, taken, otherwise, loop, done, pass, startWindow, endWindow, set}
 use Rattle.reading.proofs.Step.{onward}
 use Rattle.lengths.specs.Bound.{isWhile}
 use Rattle.parts.specs.declared.Parts.{Parts}

@@ -11,12 +11,12 @@ use Rattle.words.specs.Fields.{form}
 use Rattle.promise.specs.Trajectory.{Trajectory}
 use Rattle.promise.specs.Procedure.{Procedure}
 use Rattle.sets.specs.Set.{TaskSet, member, SetRule}
-use Rattle.sets.specs.Ends.{taskset, SetReady, SetRows}
+use Rattle.sets.specs.Ends.{taskset, SetReady, SetRows, InTable}
 use Rattle.sets.proofs.Rows.{rule-map}
 use Rattle.reading.specs.Forms.{Form, Act, Test, Sequence, Choice, If, While, StartWindow, EndWindow, Set, Reserved, formNumber, formAt, taskSet, FormedAs}
 use Rattle.reading.specs.Rule.{Rule}
 use Rattle.reading.specs.World.{alone, procedureAt, trajectoryAt}
-use Rattle.reading.specs.Table.{rowAt, InTable, NodeReady, NodeRows}
+use Rattle.reading.specs.Table.{rowAt, NodeReady, NodeRows}
 
 -- Two procedures with the same word at p, and the same members and conditions where that is a task set's.
 module _ (P P′ : Procedure) (T : Trajectory) (p : ℕ) (n : P′ .node p ≡ P .node p) where

@@ -6,6 +6,7 @@ use mathlib.Core.Path.{_≡_}
 use mathlib.Core.List.{List, [], _∷_, _++_}
 use native.Mathlib.Omega.{arith}
 use lib.ListN.{length, getD}
+use Rattle.words.specs.Scan.{joined}
 use Rattle.words.specs.Fields.{fails, holds, readingWord}
 use Rattle.promise.specs.Trajectory.{Trajectory}
 use Rattle.promise.specs.Procedure.{Procedure}
@@ -14,11 +15,6 @@ use Rattle.reading.specs.Forms.{Form, Act, Test, Sequence, Choice, If, W
 
 pub data Mode : Type 0 where
   whole passes : Mode
-
--- the lists 0 .. k - 1, one after the other
-unfoldable pub joined : (ℕ → List ℕ) → ℕ → List ℕ
-joined us zero = []
-joined us (suc k) = joined us k ++ us k
 
 pub data Reading (P : Procedure) (T : Trajectory) : Mode → ℕ → ℕ → ℕ → List ℕ → Type 0 where
   -- 0: a start of X at b, and e = b + d

@@ -4,6 +4,7 @@ use mathlib.Core.Path.{_≡_}
 use mathlib.Core.Logic.{_↔_, _⊎_}
 use mathlib.Core.List.{List}
 use lib.ListN.{length, getD}
+use Rattle.sets.specs.Ends.{InTable}
 use Rattle.bitset.specs.Members.{In}
 use Rattle.promise.specs.Trajectory.{Trajectory}
 use Rattle.promise.specs.Procedure.{Procedure}
@@ -14,10 +15,6 @@ use Rattle.reading.specs.Count.{Counted}
 
 abbrev pub rowAt : List ℕ → ℕ → ℕ → ℕ
 rowAt t p b = getD t (p * 64 + b) 0
-
--- the table says that node p has the end e from b
-abbrev pub InTable : List ℕ → ℕ → ℕ → ℕ → Type 0
-InTable t p b e = In (rowAt t p b) e
 
 -- the ends of row b of node q lie from b to n
 abbrev pub Inside : List ℕ → ℕ → ℕ → ℕ → Type 0

@@ -8,7 +8,8 @@ ghost use lib.ListN.{length};
 ghost use Rattle.bitset.specs.Members.{has, In};
 ghost use Rattle.words.specs.Fields.{fails, holds};
 ghost use Rattle.reading.specs.World.{alone, trajectoryAt};
-ghost use Rattle.reading.specs.Table.{InTable, Inside, After, RowReady, RowOf};
+ghost use Rattle.sets.specs.Ends.{InTable};
+ghost use Rattle.reading.specs.Table.{Inside, After, RowReady, RowOf};
 
 // The moments from `first` to `end`, none after `n`.
 fn window(first: usize, end: usize, n: usize) -> u64

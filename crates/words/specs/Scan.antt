@@ -1,6 +1,6 @@
 -- What a list of words has, by a test on a word.
 use mathlib.Core.Bool.{Bool, true, false}
-use mathlib.Core.List.{List, [], _∷_}
+use mathlib.Core.List.{List, [], _∷_, _++_}
 use Prim.Native.Nat.{ℕ, zero, suc, _+_}
 use lib.Dec.{eqb}
 use Rattle.words.specs.Tests.{pick, either, one}
@@ -40,3 +40,8 @@ someBelow test (suc n) = either (someBelow test n) (test n)
 unfoldable pub times : ℕ → List ℕ → ℕ
 times q [] = 0
 times q (x ∷ xs) = one (eqb q x) + times q xs
+
+-- g 0, g 1, .. up to g (n − 1), one after the other
+unfoldable pub joined : (ℕ → List ℕ) → ℕ → List ℕ
+joined g zero = []
+joined g (suc n) = joined g n ++ g n
