@@ -95,6 +95,7 @@ fn crowds() -> Vec<(&'static str, u32, Vec<u32>)> {
         ("each member after the next begins", 63, (0..8).map(|c| after(c % 4, (c + 1 + c / 4) % 4)).collect()),
         ("the others end by the begin of the first", 63, upto_first),
         ("begins in order", 63, ordered),
+        ("a begin after itself", 63, vec![condition(0, 0, 3, 3, 5, 63)]),
     ]
 }
 

@@ -221,7 +221,7 @@ fn placed(
 {
     let middle = first + size;
     let members = &words[first..middle];
-    let place = sets::place(
+    let place = sets::placing::place(
         members,
         &words[middle..middle + limit],
         values,

@@ -12,7 +12,7 @@ use Rattle.promise.specs.Trajectory.{Trajectory}
 use Rattle.promise.specs.Procedure.{Procedure}
 use Rattle.sets.specs.Set.{TaskSet, member, SetRule}
 use Rattle.sets.specs.Ends.{taskset, SetReady, SetRows, InTable}
-use Rattle.sets.proofs.Rows.{rule-map}
+use Rattle.sets.proofs.Stored.{rule-map}
 use Rattle.reading.specs.Forms.{Form, Act, Test, Sequence, Choice, If, While, StartWindow, EndWindow, Set, Reserved, formNumber, formAt, taskSet, FormedAs}
 use Rattle.reading.specs.Rule.{Rule}
 use Rattle.reading.specs.World.{alone, procedureAt, trajectoryAt}

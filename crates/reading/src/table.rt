@@ -49,7 +49,7 @@ fn fill_node(
         let first = at + 1;
         let middle = first + sizes[p];
         let end = middle + limits[p];
-        sets::set_rows(
+        sets::rows::set_rows(
             &words[first..middle],
             &words[middle..end],
             values,

@@ -10,9 +10,9 @@ use lib.ListN.{length, getD, set, take, length-map, List·getD-map}
 use lib.Seq.{getD-take, length-take-le, getD-set-same, getD-set-other}
 use Rattle.bitset.specs.Members.{In}
 use Rattle.words.specs.Fields.{memberNode, form, conditionI, conditionJ}
-use Rattle.sets.specs.Set.{TaskSet, Placing, SetRule, Formed}
+use Rattle.sets.specs.Set.{Placing, SetRule, Formed}
 use Rattle.sets.specs.Ends.{valueIn, taskset, InTable, Placed}
-use Rattle.sets.specs.Search.{asked, Allowed, Ready, SomeBegin, Possible, OwnRows}
+use Rattle.sets.specs.Search.{asked, Allowed, Ready, SomeBegin, Allows, Possible, OwnRows}
 use Rattle.sets.proofs.Masks.{allowed-at, asked-at, asked-le}
 use Rattle.sets.proofs.Search.{met-same}
 
@@ -33,7 +33,7 @@ begin-more {allow} {f} {d} {x} {e} y = (
 
 module _ (cs : List ℕ) {allow : List ℕ} (n : ℕ) {i x ends r : ℕ} (c : ℕ) (old : (e : ℕ) → In r e ↔ (In ends e × Possible cs allow n c i x e)) where
   abbrev One : ℕ → ℕ → Type 0
-  One e d = conditionI (getD cs d 0) ≡ i → SomeBegin allow (n + 1) (form (getD cs d 0)) d x e
+  One e d = conditionI (getD cs d 0) ≡ i → Allows allow n (getD cs d 0) d i x e
 
   -- which is on another member
   pub possible-skip : (conditionI (getD cs c 0) ≡ i → ⊥) → (e : ℕ) → In r e ↔ (In ends e × Possible cs allow n (c + 1) i x e)
@@ -44,7 +44,7 @@ module _ (cs : List ℕ) {allow : List ℕ} (n : ℕ) {i x ends r : ℕ} (c : �
 
   -- which is on member i
   pub possible-more : (m : ℕ) {v : ℕ} → ((e : ℕ) → In ends e → e < 64) → conditionI (getD cs c 0) ≡ i
-      → ((e : ℕ) → e < 64 → In m e ↔ SomeBegin allow (n + 1) (form (getD cs c 0)) c x e) → ((e : ℕ) → In v e ↔ (In r e × In m e))
+      → ((e : ℕ) → e < 64 → In m e ↔ Allows allow n (getD cs c 0) c i x e) → ((e : ℕ) → In v e ↔ (In r e × In m e))
       → (e : ℕ) → In v e ↔ (In ends e × Possible cs allow n (c + 1) i x e)
   possible-more m small q is both e = (
     λ t. let p = both e .0 t in let o = old e .0 (p .0) in (o .0, below-more (One e) c (o .1) (λ z. is e (small e (o .0)) .0 (p .1))),
@@ -121,13 +121,13 @@ module _ (vs : List ℕ) {ms cs : List ℕ} {n : ℕ} {allow table own : List �
       let o = h .placing .inside i (omega arith) in
       let p = h .placing .inside (conditionJ w) (formed .named d g .1) in
       let m = formed .moments in
+      let t = allowed-at allowed d (h .begins (conditionJ w)) (asked (form w) (h .begins i) (h .ends i)) g (omega arith) .1 (
+        asked-le (form w) (omega arith) (omega arith),
+        asked-at (valueIn vs) n w (h .begins i) (h .ends i) (h .begins (conditionJ w)) .1 (met-same (valueIn vs) n w (ap (h .begins) q) (ap (h .ends) q) refl (h .placing .met d g)),
+      ) in
       record {
-        begin = h .begins (conditionJ w);
-        before = omega arith;
-        member = allowed-at allowed d (h .begins (conditionJ w)) (asked (form w) (h .begins i) (h .ends i)) g (omega arith) .1 (
-          asked-le (form w) (omega arith) (omega arith),
-          asked-at (valueIn vs) n w (h .begins i) (h .ends i) (h .begins (conditionJ w)) .1 (met-same (valueIn vs) n w (ap (h .begins) q) (ap (h .ends) q) refl (h .placing .met d g)),
-        );
+        some = record { begin = h .begins (conditionJ w); before = omega arith; member = t };
+        self = λ k. subst (λ (j : ℕ). In (getD allow (d * 64 + h .begins j) 0) (asked (form w) (h .begins i) (h .ends i))) k t;
       }
 
   pub own-rule : {b e : ℕ} → SetRule (taskset (places (length ms)) cs vs n) (InTable own) b e ↔ SetRule (taskset ms cs vs n) (InTable table) b e

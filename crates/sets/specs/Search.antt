@@ -102,9 +102,14 @@ pub record SomeBegin (allow : List ℕ) (z f d x e : ℕ) : Type 0 where
   pub before : begin < z
   pub member : In (getD allow (d * 64 + begin) 0) (asked f x e)
 
+-- the condition word w, which is condition d, allows the end e of member i, begun at x, for some begin up to n of its member j: for x where j is i
+pub record Allows (allow : List ℕ) (n w d i x e : ℕ) : Type 0 where
+  pub some : SomeBegin allow (n + 1) (form w) d x e
+  pub self : conditionJ w ≡ i → In (getD allow (d * 64 + x) 0) (asked (form w) x e)
+
 -- each of the first k conditions does that, where it is on member i
 abbrev pub Possible : List ℕ → List ℕ → ℕ → ℕ → ℕ → ℕ → ℕ → Type 0
-Possible cs allow n k i x e = (d : ℕ) → d < k → let w = getD cs d 0 in conditionI w ≡ i → SomeBegin allow (n + 1) (form w) d x e
+Possible cs allow n k i x e = (d : ℕ) → d < k → conditionI (getD cs d 0) ≡ i → Allows allow n (getD cs d 0) d i x e
 
 -- the rows `own` up to k are those of the member words ms, by position, without the ends that are not possible
 pub record OwnRows (ms cs : List ℕ) (n : ℕ) (allow table : List ℕ) (k : ℕ) (own : List ℕ) : Type 0 where
