@@ -90,7 +90,8 @@ uint32_t some_leaf(struct dice *dice, unsigned actions, unsigned formulas)
 uint32_t some_condition(struct dice *dice, unsigned formulas, unsigned members)
 {
     uint32_t form = formulas ? roll(dice, 5) : roll(dice, 2);
-    uint32_t word = (uint32_t)CONDITION << 28 | form << 24 | some_window(dice);
+    uint32_t window = chance(dice, 2) ? some_window(dice) : form <= 1 ? 63u : roll(dice, 2); /* or one that is easily met */
+    uint32_t word = (uint32_t)CONDITION << 28 | form << 24 | window;
     uint32_t i = roll(dice, members) << 15, j = roll(dice, members) << 12, formula = roll(dice, formulas) << 18;
     if (form <= 1) return word | i | j;
     return word | i | formula | (form == 4 ? j : 0);
@@ -101,7 +102,7 @@ struct draft {
     struct input *in;
     struct dice *dice;
     unsigned fluents, actions, formulas, nodes;
-    bool easy; /* all is known true from the start, few laws and conditions: most such plans have a reading */
+    bool easy; /* most is known true from the start, and few laws and conditions; formula 0 is fluent 0, which only the last action ends */
 };
 
 static unsigned add_node(struct draft *draft, uint32_t word)
@@ -118,9 +119,17 @@ static unsigned add_set(struct draft *draft, unsigned size)
     for (unsigned i = 0; i < members; i++) child[i] = add_tree(draft, size / members);
     unsigned set = add_node(draft, node_word(TASK_SET, 0, 0, 0, 0));
     for (unsigned i = 0; i < members; i++) add_job_word(draft->in, (uint32_t)MEMBER << 28 | child[i]);
-    for (unsigned i = draft->easy ? chance(draft->dice, 4) : roll(draft->dice, 3); i > 0; i--)
+    for (unsigned i = roll(draft->dice, draft->easy ? 2 : 3); i > 0; i--)
         add_job_word(draft->in, some_condition(draft->dice, draft->formulas, members));
     return set;
+}
+
+/* A loop whose passes go on until one of them is the last action. */
+static unsigned add_ended_loop(struct draft *draft, unsigned size)
+{
+    unsigned x = add_tree(draft, size - 1), y = add_node(draft, node_word(ACT, draft->actions - 1, 0, 0, 0));
+    unsigned body = add_node(draft, node_word(CHOICE, x, y, 0, 0));
+    return add_node(draft, node_word(LOOP, 0, body, 0, 0));
 }
 
 static unsigned add_tree(struct draft *draft, unsigned size)
@@ -130,6 +139,7 @@ static unsigned add_tree(struct draft *draft, unsigned size)
     uint32_t form = SEQUENCE + roll(dice, 7);
     if ((form == BRANCH || form == LOOP) && draft->formulas == 0) form = SEQUENCE;
     if (form == TASK_SET) return add_set(draft, size - 1);
+    if (form == LOOP && draft->easy) return add_ended_loop(draft, size);
     unsigned x = 0, y = add_tree(draft, form == LOOP ? size - 1 : size / 2);
     if (form != LOOP) x = add_tree(draft, (size - 1) / 2);
     uint32_t formula = roll(dice, draft->formulas);
@@ -138,9 +148,10 @@ static unsigned add_tree(struct draft *draft, unsigned size)
     return add_node(draft, node_word(form, x, y, 0, 0) | (form >= START_WINDOW ? some_window(dice) : 0));
 }
 
-static void add_laws(struct draft *draft)
+static void add_laws(struct draft *draft, unsigned action)
 {
-    for (unsigned f = 0; f < draft->fluents; f++) {
+    if (draft->easy && action + 1 == draft->actions) add_job_word(draft->in, (uint32_t)LAW << 28 | 3u << 6);
+    for (unsigned f = draft->easy; f < draft->fluents; f++) {
         if (draft->easy && !chance(draft->dice, 4)) continue;
         if (chance(draft->dice, 5)) add_job_word(draft->in, (uint32_t)LAW << 28 | roll(draft->dice, 2) << 6 | f);
         if (chance(draft->dice, 3)) add_job_word(draft->in, (uint32_t)LAW << 28 | (2 + roll(draft->dice, 2)) << 6 | f);
@@ -149,17 +160,18 @@ static void add_laws(struct draft *draft)
 
 void generate(struct input *in, struct dice *dice, unsigned size)
 {
-    struct draft draft = {in, dice, 1 + roll(dice, chance(dice, 16) ? 64 : 6), 1 + roll(dice, chance(dice, 16) ? 64 : 5), 0, 0, chance(dice, 2)};
+    struct draft draft = {in, dice, chance(dice, 24) ? 64 : 1 + roll(dice, 6), 1 + roll(dice, chance(dice, 16) ? 64 : 5), 0, 0, chance(dice, 2)};
     unsigned formulas = roll(dice, 6);
     memset(in, 0, sizeof *in);
     in->choices = FACTS_BY_FILL | (roll(dice, 8) << 5);
     add_job_word(in, (uint32_t)HEAD << 28 | draft.fluents << 16 | draft.actions << 8 | roll(dice, 64));
     for (unsigned f = 0; f < draft.fluents; f++)
-        if (!chance(dice, draft.easy ? 16 : 4)) add_job_word(in, (uint32_t)INITIALLY << 28 | (draft.easy ? 0 : roll(dice, 2)) << 6 | f);
+        if (!chance(dice, draft.easy ? 16 + 100 * (f == 0) : 4)) add_job_word(in, (uint32_t)INITIALLY << 28 | (draft.easy ? 0 : roll(dice, 2)) << 6 | f);
     for (unsigned a = 0; a < draft.actions; a++) {
         add_job_word(in, (uint32_t)ACTION << 28 | a << 6 | (1 + roll(dice, chance(dice, 16) ? 63 : 3)));
-        add_laws(&draft);
+        add_laws(&draft, a);
     }
+    if (draft.easy) draft.formulas++, add_job_word(in, (uint32_t)FORMULA << 28 | 1u << 24);
     for (; draft.formulas < formulas; draft.formulas++) add_job_word(in, some_formula(dice, draft.formulas, draft.fluents));
     add_tree(&draft, size);
     carry_out(in, dice);
@@ -191,9 +203,30 @@ static uint32_t do_set(struct doing *doing, uint32_t p, uint32_t b)
     return end;
 }
 
+/* Does the job's action make the fluent false? */
+static bool makes_false(const struct input *in, uint32_t action, uint32_t fluent)
+{
+    uint32_t current = 64;
+    for (size_t i = 0; i < in->job_len; i++) {
+        if (kind_of(in->job[i]) == ACTION) current = field(in->job[i], 11, 6);
+        if (current == action && in->job[i] == ((uint32_t)LAW << 28 | 3u << 6 | fluent)) return true;
+    }
+    return false;
+}
+
+/* A few passes, and none after a start that makes false the fluent that is the loop's formula. */
 static uint32_t do_loop(struct doing *doing, uint32_t word, uint32_t b)
 {
-    for (uint32_t passes = roll(doing->dice, 3); passes > 0; passes--) b = do_node(doing, node_y(word), b);
+    uint32_t formula = doing->parts.formula[node_x(word)];
+    bool ended = false;
+    for (uint32_t passes = roll(doing->dice, 6); passes > 0 && !ended; passes--) {
+        size_t from = doing->in->starts_len;
+        uint32_t m = do_node(doing, node_y(word), b);
+        for (size_t i = from; i < doing->in->starts_len && form_of(formula) == 1; i++)
+            ended |= makes_false(doing->in, field(doing->in->starts[i], 5, 0), field(formula, 11, 6));
+        ended |= m == b;
+        b = m;
+    }
     return b;
 }
 
@@ -239,7 +272,7 @@ static void carry_out_once(struct input *in, struct dice *dice)
     parts_of(&doing.parts, (struct list){in->job, in->job_len});
     in->starts_len = 0;
     uint32_t end = do_node(&doing, (uint32_t)doing.parts.nodes - 1, 0);
-    if (chance(dice, 8)) end += roll(dice, 3);
+    if (chance(dice, 8)) end += roll(dice, chance(dice, 3) ? 64 : 3);
     in->job[0] = with_field(in->job[0], 7, 0, end < 63 ? end : 63);
     if (chance(dice, 4)) add_start(in, start_word(roll(dice, end + 1) & 63u, roll(dice, doing.parts.actions)));
     sort_starts(in);

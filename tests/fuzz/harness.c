@@ -5,6 +5,7 @@
  * written beyond a list faults, or changes a guard word. The lists that a call may only read are locked against writing. The harness's own
  * copies are heap blocks of exactly their size, under AddressSanitizer. */
 #include "harness.h"
+#include "counters.h"
 #include "guard.h"
 #include "input.h"
 #include "planreader.h"
@@ -147,12 +148,19 @@ static void hold_buffer(int call, const uint32_t *contents, uint64_t answer)
     hold(same_words(lent.buffer.words + written, contents + written, lent.buffer.len - written), call, "a word after those written changed", answer);
 }
 
-static uint64_t call_once(int call, struct lists in, uint32_t *buffer, size_t len)
+static uint64_t call_bare(int call, struct lists in, uint32_t *buffer, size_t len)
 {
-    harness_calls++;
     if (call == CHECK) return check(in.job.words, in.job.len, in.starts.words, in.starts.len, in.facts.words, in.facts.len);
     if (call == FILL) return fill(in.job.words, in.job.len, in.starts.words, in.starts.len, buffer, len);
     return find(in.job.words, in.job.len, in.starts.words, in.starts.len, in.facts.words, in.facts.len, buffer, len);
+}
+
+static uint64_t call_once(int call, struct lists in, uint32_t *buffer, size_t len)
+{
+    uint64_t answer = call_bare(call, in, buffer, len);
+    harness_calls++;
+    counters_add();
+    return answer;
 }
 
 static uint64_t held_check(struct lists in)
@@ -385,6 +393,7 @@ static void examine(struct list job, struct list starts, struct list facts, uint
     uint64_t checked = held_check(in);
     hold(checked == check_by_fill(filled, right, given), CHECK, "an answer that fill's does not give", checked);
     hold(checked == held_check(in), CHECK, "another answer the second time", checked);
+    if (job.len > 2048) extra[ANSWERS + PAIRS + SIZES - 1]++;
     uint64_t found = hold_find(in, checked, choices);
     hold_other_buffer(in, right, filled, found, choices);
     hold_unchanged((struct list[]){job, starts, given}, (const struct guarded *[]){&lent.job, &lent.starts, &lent.facts});
@@ -409,5 +418,6 @@ int LLVMFuzzerTestOneInput(const uint8_t *data, size_t size)
     drop(job);
     drop(starts);
     drop(facts);
+    counters_show();
     return 0;
 }

@@ -285,6 +285,15 @@ static void facts_by_fill(struct input *in, struct dice *dice)
 
 static void change_choices(struct input *in, struct dice *dice) { in->choices ^= 1u << roll(dice, 8); }
 
+/* A job about as long as a job may be. */
+static void lengthen_job(struct input *in, struct dice *dice)
+{
+    size_t len = 2046 + roll(dice, 5);
+    if (!in->job_len || !chance(dice, 20)) return;
+    for (size_t i = in->job_len; i < len; i++) in->job[i] = in->job[i - 1];
+    if (in->job_len < len) in->job_len = len;
+}
+
 static void new_input(struct input *in, struct dice *dice) { generate(in, dice, 1 + roll(dice, 20)); }
 
 typedef void mutation(struct input *in, struct dice *dice);
@@ -292,7 +301,7 @@ static mutation *const mutations[] = {
     flip_bit,     change_field, change_field, change_field,  change_field, delete_word,    delete_word,     copy_word,
     swap_words,   add_declaration, add_law,   wrap_root,     wrap_root,    add_condition,  add_condition,   change_form,
     put_start,    put_start,    shift_starts, change_last,   write_facts,  facts_by_fill,  change_choices,  carry_out_again,
-    carry_out_again, repair_numbers, repair_plan, repair_job,
+    carry_out_again, repair_numbers, repair_plan, repair_job, lengthen_job,
 };
 enum { MUTATIONS = sizeof mutations / sizeof *mutations };
 
