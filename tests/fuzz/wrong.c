@@ -35,9 +35,12 @@ enum fault {
     FIND_WRITES_NOTHING,
     FIND_END_ONE_LATER,
     FIND_STORED_READING,
+    FIND_COPIES_PASS,
+    FIND_ONE_WORD_SHORT,
     FIND_COUNT_1,
     FIND_COUNT_ONE_MORE,
     FIND_SKIPS_CHECK,
+    FIND_READS_AFTER_FACTS,
     FIND_WRITES_AFTER_READING,
     FIND_WRITES_AFTER_BUFFER,
     FAULTS = FIND_WRITES_AFTER_BUFFER
@@ -124,6 +127,14 @@ uint64_t fill(const uint32_t *job, size_t job_len, const uint32_t *starts, size_
     return answer;
 }
 
+/* A word of a loop's later pass becomes the same node's word of an earlier one. */
+static void copy_pass(uint32_t *buffer, size_t written)
+{
+    for (size_t i = 0; i < written; i++)
+        for (size_t k = i + 1; k < written; k++)
+            if (buffer[i] >> 12 == buffer[k] >> 12) buffer[k] = buffer[i];
+}
+
 /* A fault in what a success of find has written. */
 static uint64_t spoil_find(uint64_t answer, uint32_t *buffer, size_t buffer_len, uint32_t first)
 {
@@ -138,6 +149,8 @@ static uint64_t spoil_find(uint64_t answer, uint32_t *buffer, size_t buffer_len,
         if (stored_len == 0) stored_len = (uint32_t)written;
         for (size_t i = 0; i < stored_len; i++) buffer[i] = stored[i];
         return (uint64_t)stored_len << 24 | planreader_count(answer);
+    case FIND_COPIES_PASS: copy_pass(buffer, written); return answer;
+    case FIND_ONE_WORD_SHORT: return answer - (UINT64_C(1) << 24);
     case FIND_COUNT_1: return (answer & ~UINT64_C(0xffffff)) | 1u;
     case FIND_WRITES_AFTER_READING: buffer[written] = 0; return answer;
     case FIND_WRITES_AFTER_BUFFER: buffer[buffer_len] = 0; return answer;
@@ -153,6 +166,7 @@ uint64_t find(const uint32_t *job, size_t job_len, const uint32_t *starts, size_
     unsigned number = planreader_number(answer);
     if (number == 0) answer = spoil_find(answer, buffer, buffer_len, first);
     if (fault() == FIND_13_WRITES && number == 13) buffer[0] = ~first;
+    if (fault() == FIND_READS_AFTER_FACTS && facts_len) sink = facts[facts_len];
     if (fault() == FIND_SKIPS_CHECK && number == 11) return UINT64_C(13) << 56;
     if (fault() == FIND_COUNT_ONE_MORE && (number == 0 || number == 13)) return answer + 1;
     return answer;
