@@ -69,20 +69,20 @@ static uint32_t large_job[JOB_WORDS], large_starts[STARTS], large_facts[4096];
 
 static uint32_t large_reading[4096];
 
-/* A chain of 31 sequences of tests, n = 0, so that writing the reading goes as deep as it can. */
+/* A chain of 63 task sets of one member each, n = 0, so that writing the reading goes as deep as it can. */
 static void deep(void)
 {
-    static uint32_t chain[1 + 1 + 1 + 64], reading[4096];
+    static uint32_t chain[4 + 63 * 2], reading[4096];
     size_t n = 0;
     chain[n++] = 0x10010100u;
     chain[n++] = 0x30000001u;
     chain[n++] = 0x50000000u;
     chain[n++] = 0x61000000u;
-    for (uint32_t p = 1; p < 63; p += 2) {
-        chain[n++] = 0x61000000u;
-        chain[n++] = 0x62000000u | (p == 1 ? 0u : p - 1) << 18 | p << 12;
+    for (uint32_t p = 1; p < 64; p++) {
+        chain[n++] = 0x68000000u;
+        chain[n++] = 0x70000000u | (p - 1);
     }
-    expect_count("find, deep", find(chain, n, NULL, 0, NULL, 0, reading, 4096), 0, 0, 63, 63);
+    expect_count("find, deep", find(chain, n, NULL, 0, NULL, 0, reading, 4096), 0, 0, 64, 64);
 }
 
 static void *large(void *unused)
