@@ -8,14 +8,14 @@ TARGET = ROOT / "target"
 WORK = TARGET / "mutation"
 
 
-def crates():
-    """The dependencies of each crate, by crates.txt."""
-    listed = {}
-    for line in (ROOT / "crates.txt").read_text().splitlines():
+def listed(path):
+    """The dependencies of each crate, by a file of lines 'NAME: DEP DEP'."""
+    found = {}
+    for line in path.read_text().splitlines():
         name, colon, deps = line.split("#")[0].partition(":")
         if colon:
-            listed[name.strip()] = deps.split()
-    return listed
+            found[name.strip()] = deps.split()
+    return found
 
 
 class Kit:
@@ -24,7 +24,8 @@ class Kit:
         self.home = Path(guide).parents[1]
         self.own = self.home / "on" / platform.machine()
         self.toolchain = self.own / "toolchain"
-        self.crates = crates()
+        self.crates = listed(ROOT / "crates.txt")
+        self.deps = {**listed(self.home / "libs" / "libs.txt"), **self.crates}
 
     def tool(self, name):
         return str(self.own / "bin" / name)
@@ -37,14 +38,12 @@ class Kit:
         base = ROOT / "crates" if name in self.crates else self.home / "libs"
         return base / name / "src" / "lib.rt"
 
-    def reached(self, names):
-        """The crates that these reach, and the kit's libraries, each once."""
-        found = []
-        for name in names:
-            deps = self.crates.get(name) or self.kit_deps().get(name, [])
-            found += [dep for dep in self.reached(deps) + [name] if dep not in found]
+    def reached(self, crate):
+        """The crate, the crates and the kit's libraries that it reaches, each once."""
+        found, left = [], [crate]
+        while left:
+            name = left.pop()
+            if name not in found:
+                found.append(name)
+                left += self.deps[name]
         return found
-
-    def kit_deps(self):
-        lines = (self.home / "libs" / "libs.txt").read_text().splitlines()
-        return {name: deps.split() for name, _, deps in (line.partition(":") for line in lines)}

@@ -26,6 +26,10 @@ class Mutant:
     def crate(self):
         return self.name.split("/")[0]
 
+    @property
+    def adapts_proof(self):
+        return any(edit.file.startswith("proofs/") for edit in self.edits)
+
     def copy_to(self, folder):
         """Makes a copy of the crate with the edits; each old text is there exactly once."""
         shutil.rmtree(folder, ignore_errors=True)

@@ -4,7 +4,7 @@ import subprocess
 import time
 from dataclasses import dataclass
 
-from kit import TARGET
+from kit import ROOT, TARGET, WORK
 
 
 @dataclass
@@ -15,7 +15,7 @@ class Refusal:
     seconds: float
 
 
-def words(kit, crate, folder):
+def crate_words(kit, crate, folder):
     """As rt passes them to `rattle check`."""
     given = ["--crate-name", crate, str(folder / "src" / "lib.rt"), "--extern", f"std={kit.library('std')}"]
     for dep in kit.crates[crate]:
@@ -25,10 +25,26 @@ def words(kit, crate, folder):
 
 
 def check(kit, mutant, folder):
-    """Checks the copy, and keeps what the prover says in prover.log."""
+    """Checks the copy, and keeps what the prover says in prover.log. The crate as it is was checked first, so that only what the mutant
+    changes is checked anew."""
+    kept = WORK / "incremental" / mutant.crate
+    if not kept.exists():
+        checked(kit, mutant.crate, ROOT / "crates" / mutant.crate, ["--incremental", str(kept)])
+    log = checked(kit, mutant.crate, folder, ["--incremental", str(kept)])
+    (folder / "prover.log").write_text(log)
+
+
+def confirm(kit, mutant, folder):
+    """Checks a mutant that got through once more, from nothing, where it was not yet."""
+    if "incremental=trusted" in (folder / "prover.log").read_text():
+        (folder / "prover.log").write_text(checked(kit, mutant.crate, folder, []))
+
+
+def checked(kit, crate, folder, more):
     began = time.time()
-    ran = subprocess.run([kit.tool("rattle"), "check", *words(kit, mutant.crate, folder)], stdout=subprocess.PIPE, stderr=subprocess.STDOUT, text=True)
-    (folder / "prover.log").write_text(f"exit {ran.returncode} after {time.time() - began:.1f} s\n{ran.stdout}")
+    words = [kit.tool("rattle"), "check", *crate_words(kit, crate, folder), *more]
+    ran = subprocess.run(words, stdout=subprocess.PIPE, stderr=subprocess.STDOUT, text=True)
+    return f"exit {ran.returncode} after {time.time() - began:.1f} s\n{ran.stdout}"
 
 
 def saved(folder):

@@ -20,9 +20,10 @@ PROGRAM = '#[no_mangle]\npub extern "C" fn planread() {\n    reader::run();\n}\n
 
 @dataclass
 class Test:
+    """A test program, or a part of one, and the crate that it tests."""
     name: str
     words: list
-    of_library: bool = True
+    crate: str
 
 
 @dataclass
@@ -75,10 +76,10 @@ class Suite:
         host = WORK / "host"
         run(["cc", "-std=c11", "-O2", f"-I{ROOT / 'include'}", ROOT / "tests/c/host.c", made, "-lpthread", "-ldl", "-o", host])
         slow = ["generated", "tiny", "crowded"]
-        self.tests = [Test("c-host", [host])]
-        for name in ("job", "plan", "find"):
-            self.tests += [Test(name, [tests[name], *skipped(slow)]), Test(name, [tests[name], *slow])]
-        self.tests += [Test("planread", [tests["planread"]], of_library=False), Test("bench", [*bench.values()])]
+        self.tests = [Test("c-host", [host], "planreader")]
+        for name, crate in (("job", "theory"), ("plan", "theory"), ("find", "finder")):
+            self.tests += [Test(name, [tests[name], *skipped(slow)], crate), Test(name, [tests[name], *slow], crate)]
+        self.tests += [Test("planread", [tests["planread"]], "reader"), Test("bench", [*bench.values()], "planreader")]
 
     # ---- a mutant's library and program
 
@@ -101,8 +102,9 @@ class Suite:
         """Builds every crate that the root reaches from its source, with no proof."""
         words = [self.kit.tool("rattle-cases"), "--toolchain", self.kit.toolchain, "--staticlib", out, root, "--crate-name", name]
         words += ["--lib", f"std={self.kit.source('std')}"]
-        for dep in self.kit.reached(["reader"] if name == "program" else self.kit.crates[name]):
-            words += ["--lib", f"{dep}={self.source(dep, crate, source)}"]
+        for dep in self.kit.reached("reader" if name == "program" else name):
+            if dep != name:
+                words += ["--lib", f"{dep}={self.source(dep, crate, source)}"]
         run(words)
 
     # ---- the tests on a mutant
@@ -116,10 +118,10 @@ class Suite:
         (folder / "tests.json").write_text(json.dumps(asdict(seen)))
 
     def concerned(self, mutant, folder):
-        """The tests of what is other code than the original's, byte for byte; times are measured where the table says so."""
-        library = self.differs(folder, "libplanreader.a")
-        program = self.differs(folder, "libprogram.a")
-        tests = [test for test in self.tests if (library if test.of_library else program)]
+        """The tests of crates that reach the mutant's, where what was built is other code than the original's, byte for byte; times are
+        measured where the table says so."""
+        tests = [test for test in self.tests if mutant.crate in [*self.kit.reached(test.crate), "planreader"]]
+        tests = [test for test in tests if self.differs(folder, "libprogram.a" if test.crate == "reader" else "libplanreader.a")]
         return [test for test in tests if test.name != "bench" or mutant.timed]
 
     def differs(self, folder, archive):
