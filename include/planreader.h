@@ -1,7 +1,7 @@
-/* The plan reader's calls. Link with libplanreader.a: no other library is needed, not even libc.
+/* The plan reader's calls. Link with libplanreader.a, which needs memcpy and memset of the C library and nothing else.
  *
  * Each list is a pointer and its number of 32-bit words, in the machine's own byte order. A job, a plan's starts, a plan's facts and
- * the words that a call writes are as the scope lays them out.
+ * the words that a call writes are as the scope lays them out; examples/door lists such words, and examples/host.c is a whole host.
  *
  * What the caller owes. Nothing checks it, and where it is broken the proofs say nothing of the call.
  *  - A pointer with n > 0 points to n whole words, is aligned for uint32_t, and n * 4 is below 2^63.
@@ -18,7 +18,7 @@
  * Each call hands back one 64-bit number: refusal number, 0 for success, in bits 63..56; position, counted from 0 within the list
  * concerned, in 55..40; length in 39..24; count in 23..0.
  *
- *     uint32_t facts[PLANREADER_BUFFER_WORDS];
+ *     uint32_t facts[PLANREADER_BUFFER_WORDS] = {0};
  *     uint64_t filled = fill(job, job_len, starts, starts_len, facts, PLANREADER_BUFFER_WORDS);
  *     if (planreader_number(filled) == 0)
  *         passes = check(job, job_len, starts, starts_len, facts, planreader_length(filled)) == 0;

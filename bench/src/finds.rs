@@ -1,9 +1,14 @@
-//! Find: a door with a loop of ten passes and task sets of two, and sets of four members that read from every moment to every later one.
+//! Find: a door with a loop of ten passes and task sets of two, and sets of four members whose search could be long; beside the plain
+//! finder, which tries each split and each placement, where that ends.
 use crate::best;
 use planreader_tests::{checker::calls, host};
 
-/// The door is to take 1 ms and a set 1.5 s at most; the run fails only at three times that, since the machine may be busy.
-const SLACK: f64 = 3.0;
+/// What the door and a set may take at most, in milliseconds.
+const DOOR: f64 = 1.0;
+const SET: f64 = 1500.0;
+
+/// How many placements of a set the plain finder is let try.
+const TRIED: usize = 100_000_000;
 
 fn node(form: u32, x: u32, y: u32, m: u32, n: u32) -> u32 {
     6 << 28 | form << 24 | x << 18 | y << 12 | m << 6 | n
@@ -49,17 +54,49 @@ fn door() -> (Vec<u32>, Vec<u32>) {
     (job, starts)
 }
 
-/// A task set of four members, each of which reads from b to e for all b ≤ e ≤ 63 (or, if `short`, e ≤ b + 3), with idle conditions.
-fn crowd(short: bool, conditions: u32) -> Vec<u32> {
-    let mut job = vec![1 << 28 | 1 << 16 | 1 << 8 | 63, 3 << 28 | 1, 5 << 28];
-    let span = if short { 3 } else { 63 };
-    for i in 0..4 {
+/// A task set of some members, each of which reads from b to e for all b ≤ e ≤ 63 with e ≤ b + span. Formula 0 holds always, 1 never.
+fn crowd(members: u32, span: u32, conditions: &[u32]) -> Vec<u32> {
+    let mut job = vec![1 << 28 | 1 << 16 | 1 << 8 | 63, 3 << 28 | 1, 5 << 28, 5 << 28 | 2 << 24];
+    for i in 0..members {
         job.extend([node(1, 0, 0, 0, 0), node(1, 0, 0, 0, 0), node(7, 3 * i, 3 * i + 1, 0, span)]);
     }
     job.push(node(8, 0, 0, 0, 0));
-    job.extend((0..4).map(|i| 7 << 28 | (3 * i + 2)));
-    job.extend((0..conditions).map(|c| 8 << 28 | 4 << 24 | (c % 4) << 15 | 3 << 12 | 63 << 6 | 63));
+    job.extend((0..members).map(|i| 7 << 28 | (3 * i + 2)));
+    job.extend(conditions);
     job
+}
+
+fn condition(form: u32, formula: u32, i: u32, j: u32, m: u32, n: u32) -> u32 {
+    8 << 28 | form << 24 | formula << 18 | i << 15 | j << 12 | m << 6 | n
+}
+
+/// Sets for which a search could be long: members that end soon, and conditions that leave out an end or bind one member to all.
+fn crowds() -> Vec<(&'static str, u32, Vec<u32>)> {
+    // met always, by an empty range
+    let idle: Vec<u32> = (0..8).map(|c| condition(4, 0, c % 4, 3, 63, 63)).collect();
+    // member i does not end at 63
+    let before = |i: u32| condition(3, 0, i, 0, 1, 1);
+    // member i ends after the begin of j
+    let after = |i: u32, j: u32| condition(4, 1, i, j, 0, 0);
+    let none_last = (0..4).map(before).chain(idle[..4].iter().copied()).collect();
+    let last_after = (0..4).map(before).chain((0..4).map(|j| after(3, j))).collect();
+    let upto_first = (1..4).map(|i| condition(1, 0, i, 0, 0, 63)).chain([before(0)]).collect();
+    let ordered = [condition(0, 0, 3, 0, 0, 63), condition(0, 0, 0, 1, 1, 63), before(1), before(2)].to_vec();
+    vec![
+        ("all placements", 63, vec![]),
+        ("all placements, 8 idle conditions", 63, idle.clone()),
+        ("ends up to b + 3", 3, vec![]),
+        ("ends up to b + 3, 8 idle conditions", 3, idle.clone()),
+        ("ends up to b + 8, 8 idle conditions", 8, idle.clone()),
+        ("ends up to b + 15, 8 idle conditions", 15, idle),
+        ("no end at 63", 63, none_last),
+        ("no end at 63, the last member after all begins", 63, last_after),
+        ("the last member after all begins, twice", 63, (0..8).map(|c| after(3, c % 4)).collect()),
+        ("each member after the next begins", 63, (0..8).map(|c| after(c % 4, (c + 1 + c / 4) % 4)).collect()),
+        ("the others end by the begin of the first", 63, upto_first),
+        ("begins in order", 63, ordered),
+        ("a begin after itself", 63, vec![condition(0, 0, 3, 3, 5, 63)]),
+    ]
 }
 
 pub fn failed() -> bool {
@@ -73,12 +110,31 @@ pub fn failed() -> bool {
         calls::Outcome::Read { decision, .. } => decision.count() == found.count as usize,
         _ => false,
     };
-    let mut failed = ms > SLACK * 1.0 || found.number != 0 || !same;
-    for (short, conditions) in [(false, 0), (false, 8), (true, 0), (true, 8)] {
-        let job = crowd(short, conditions);
+    let mut failed = ms > DOOR || found.number != 0 || !same;
+    for (name, span, conditions) in crowds() {
+        let job = crowd(4, span, &conditions);
         let (ms, found) = best(1, || host::find(&job, &[], &[], &mut buffer));
-        println!("four members, {}, {conditions} conditions: find {ms:.1} ms, number {}, {} triples", if short { "short" } else { "all placements" }, found.number, found.count);
-        failed |= ms > SLACK * 1500.0;
+        println!("four members, {name}: find {ms:.1} ms, number {}, {} triples", found.number, found.count);
+        failed |= ms > SET;
+    }
+    failed | beside_plain()
+}
+
+/// Find beside the plain finder, which tries each placement of each member, on sets that it can end. A set of four members that read from
+/// every moment to every later one has 2,080 to the fourth power of placements, and of three still 9,000 million, which it does not end.
+fn beside_plain() -> bool {
+    let mut failed = false;
+    for (members, span) in [(4, 63), (3, 63), (2, 63), (3, 3)] {
+        let job = crowd(members, span, &[]);
+        let (ms, found) = best(3, || host::find(&job, &[], &[], &mut [0; 4096]));
+        let (plain_ms, plain) = best(1, || calls::find_within(&job, &[], &[], 4096, TRIED));
+        let count = match &plain {
+            Some(calls::Outcome::Read { decision, .. } | calls::Outcome::NoReading { decision, .. }) => Some(decision.count()),
+            _ => None,
+        };
+        let plain_time = count.map_or(format!("more than {TRIED} placements, not tried"), |_| format!("{plain_ms:.1} ms"));
+        println!("{members} members, ends up to b + {span}: find {ms:.3} ms, checker {plain_time}, {} triples", found.count);
+        failed |= count.is_some_and(|c| c != found.count as usize);
     }
     failed
 }

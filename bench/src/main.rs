@@ -1,6 +1,6 @@
 //! Times check and fill on the largest lawful plans, and find on a door of 40 nodes, beside the checker written apart, in one run, and find
 //! on crowded task sets: best of several, in milliseconds. Exits with 1 where check or fill takes more than 10 ms, more than 3 ms of it
-//! on the job, find more than three times 1 ms on the door or 1.5 s on a set, or the two disagree.
+//! on the job, find more than 1 ms on the door or 1.5 s on a set, or the two disagree.
 mod finds;
 
 use planreader_tests::{checker::calls, host};

@@ -51,3 +51,6 @@ pub record Unpacked (r : ℕ) (a : Answer) : Type 0 where
 pub unpacked : (a : Answer) → InRange a → Unpacked (packed a) a
 unpacked a h =
     record { number = omega arith; position = omega arith; length = omega arith; count = omega arith; fits = omega arith }
+
+pub reads-back : {r : ℕ} {a : Answer} → r ≡ packed a → InRange a → Unpacked r a
+reads-back {r} {a} e h = rw e (unpacked a h)

@@ -5,6 +5,7 @@ use Prim.Native.Nat.{ℕ, zero, suc, _+_, _/_, _%_, _^_, _≤_, _<_, max}
 use mathlib.Core.List.{List}
 use lib.ListN.{length, getD}
 use lib.Dec.{eqb}
+use Rattle.words.specs.Tests.{one}
 use Rattle.bitset.specs.declared.Member.{Member}
 use Rattle.bitset.specs.declared.Member.the-variants.{At, Nothing}
 
@@ -15,11 +16,6 @@ has x k = eqb (x / 2 ^ k % 2) 1
 -- x is the set of the numbers that pass the test p
 abbrev pub Holds : ℕ → (ℕ → Bool) → Type 0
 Holds x p = (k : ℕ) → has x k ≡ p k
-
--- what a test adds to a count
-abbrev pub one : Bool → ℕ
-one true = 1
-one false = 0
 
 -- how many k below n pass the test p
 unfoldable pub count : (ℕ → Bool) → ℕ → ℕ

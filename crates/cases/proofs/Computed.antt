@@ -2,14 +2,14 @@
 use mathlib.Core.Bool.{true}
 use mathlib.Core.Path.{_≡_, refl}
 use Rattle.answers.specs.Rows.{firstOf}
-use Rattle.words.specs.Scan.{any, firstGives, leading, beyond, fromNumber, someBelow}
-use Rattle.job.specs.Before.{before, last, count, since, latest, named}
+use Rattle.words.specs.Scan.{someWord, firstGives, leading, beyond, fromNumber, someBelow, joined}
+use Rattle.job.specs.Before.{before, last, countOfKind, since, latest, named}
 use Rattle.job.specs.Parts.{duration, lawsOf, formulaWord, nodeWord, memberWords, conditionWords}
 use Rattle.job.specs.Rules.{grade}
 use Rattle.job.specs.Refusal.{wordRefusal, refusalOf, nameRefusal, endRefusal, jobRefusal}
 use Rattle.facts.specs.Actions.{effect}
 use Rattle.facts.specs.Values.{initially, nextValue, valueAt}
-use Rattle.facts.specs.Facts.{gather, factsAt, factsOf}
+use Rattle.facts.specs.Facts.{factsAt, factsOf}
 use Rattle.formulas.specs.Values.{formValue, formulaBelow, formulaAt}
 use Rattle.starts.specs.Rows.{wrongWord, endsLate, inHandAlready, clash, together, clashes, needsUnmet, rowsRefusal, startsRefusal}
 use Rattle.theory.specs.Answers.{planRefusal, factsRefusal, checkRefusal}
@@ -19,5 +19,5 @@ use Rattle.reading.specs.Decision.{some, each, placingb, tried, setb, ruleb, re
 use Rattle.cases.specs.Cases.{table, decided, listed, distinct, sound, complete, exactly, fits, rooted, wordsAs, wordsFor, worded, answers, passes, all}
 
 pub computed : all table ≡ true
-unfolding firstOf any firstGives leading beyond fromNumber someBelow before last count since latest named duration lawsOf formulaWord nodeWord memberWords conditionWords grade wordRefusal refusalOf nameRefusal endRefusal jobRefusal effect initially nextValue valueAt gather factsAt factsOf formValue formulaBelow formulaAt wrongWord endsLate inHandAlready clash together clashes needsUnmet rowsRefusal startsRefusal planRefusal factsRefusal checkRefusal trajectoryOf procedureOf some each placingb tried setb ruleb reads decided listed distinct sound complete exactly fits rooted wordsAs wordsFor worded answers passes all
+unfolding firstOf someWord firstGives leading beyond fromNumber someBelow before last countOfKind since latest named duration lawsOf formulaWord nodeWord memberWords conditionWords grade wordRefusal refusalOf nameRefusal endRefusal jobRefusal effect initially nextValue valueAt joined factsAt factsOf formValue formulaBelow formulaAt wrongWord endsLate inHandAlready clash together clashes needsUnmet rowsRefusal startsRefusal planRefusal factsRefusal checkRefusal trajectoryOf procedureOf some each placingb tried setb ruleb reads decided listed distinct sound complete exactly fits rooted wordsAs wordsFor worded answers passes all
 computed = refl

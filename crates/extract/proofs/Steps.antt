@@ -11,14 +11,15 @@ use native.Mathlib.Omega.{arith}
 use lib.Dec.{eqb}
 use lib.ListN.{length, getD, length-append}
 use borrow.Author.Tests.{eq-eqb, ne-eqb}
+use Rattle.sets.specs.Ends.{InTable}
+use Rattle.words.specs.Scan.{joined}
 use Rattle.words.specs.Tests.{pick}
 use Rattle.words.specs.Fields.{readingWord}
 use Rattle.words.proofs.Choices.{true-false}
 use Rattle.promise.specs.Trajectory.{Trajectory}
 use Rattle.promise.specs.Procedure.{Procedure}
 use Rattle.reading.specs.Forms.{Form, While, formNumber, formAt, fieldY}
-use Rattle.reading.specs.Reading.{whole, passes, joined, Reading, act, test, sequence, first, second, taken, otherwise, loop, done, pass, startWindow, endWindow, set}
-use Rattle.reading.specs.Table.{InTable}
+use Rattle.reading.specs.Reading.{whole, passes, Reading, act, test, sequence, first, second, taken, otherwise, loop, done, pass, startWindow, endWindow, set}
 use Rattle.reading.proofs.Step.{onward}
 use Rattle.lengths.specs.Bound.{isWhile}
 use Rattle.parts.specs.declared.Parts.{Parts}
@@ -138,19 +139,6 @@ module _ {P : Procedure} {T : Trajectory} {job : ℕ} {places sizes limits table
 
   pub place-inside : getD places p 0 < job
   place-inside = let h = s .prepared .ready .inside p (s .node) in omega arith
-
--- the form's number, of a loop
-pub while-number : (k : ℕ) → formNumber k ≡ While → k ≡ 5
-while-number zero e = absurd (true-false (sym (ap isWhile e)))
-while-number (suc zero) e = absurd (true-false (sym (ap isWhile e)))
-while-number (suc (suc zero)) e = absurd (true-false (sym (ap isWhile e)))
-while-number (suc (suc (suc zero))) e = absurd (true-false (sym (ap isWhile e)))
-while-number (suc (suc (suc (suc zero)))) e = absurd (true-false (sym (ap isWhile e)))
-while-number (suc (suc (suc (suc (suc zero))))) e = refl
-while-number (suc (suc (suc (suc (suc (suc zero)))))) e = absurd (true-false (sym (ap isWhile e)))
-while-number (suc (suc (suc (suc (suc (suc (suc zero))))))) e = absurd (true-false (sym (ap isWhile e)))
-while-number (suc (suc (suc (suc (suc (suc (suc (suc zero)))))))) e = absurd (true-false (sym (ap isWhile e)))
-while-number (suc (suc (suc (suc (suc (suc (suc (suc (suc k))))))))) e = absurd (true-false (sym (ap isWhile e)))
 
 -- ---- the node's own word
 

@@ -5,10 +5,10 @@ use mathlib.Core.List.{List}
 use native.Mathlib.Nat.{le-refl, le-trans}
 use native.Mathlib.Omega.{arith}
 use lib.ListN.{length}
+use Rattle.sets.specs.Ends.{InTable}
 use Rattle.promise.specs.Trajectory.{Trajectory}
 use Rattle.promise.specs.Procedure.{Procedure}
 use Rattle.reading.specs.Reading.{whole, Reading}
-use Rattle.reading.specs.Table.{InTable}
 use Rattle.lengths.specs.Children.{NamedOnce}
 use Rattle.lengths.specs.Bound.{lengthBound}
 use Rattle.lengths.proofs.Words.{lower}

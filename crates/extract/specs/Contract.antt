@@ -4,11 +4,11 @@ use mathlib.Core.Path.{_≡_}
 use mathlib.Core.List.{List, _∷_, _++_}
 use lib.ListN.{length, drop}
 use lib.Seq.{sets}
+use Rattle.sets.specs.Ends.{InTable}
 use Rattle.words.specs.Fields.{readingWord}
 use Rattle.promise.specs.Trajectory.{Trajectory}
 use Rattle.promise.specs.Procedure.{Procedure}
 use Rattle.reading.specs.Reading.{whole, Reading}
-use Rattle.reading.specs.Table.{InTable}
 use Rattle.lengths.specs.Children.{NamedOnce}
 use Rattle.lengths.specs.Bound.{lengthBound}
 use Rattle.parts.specs.Parts.{Prepared}

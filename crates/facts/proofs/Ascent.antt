@@ -6,12 +6,13 @@ use native.Mathlib.Nat.{le-refl, le-trans}
 use native.Mathlib.Omega.{arith}
 use lib.Dec.{eqb}
 use lib.ListN.{length, getD}
+use Rattle.words.specs.Scan.{joined}
 use Rattle.words.specs.Tests.{pick}
 use Rattle.words.specs.Fields.{unknown, holds}
 use Rattle.job.specs.Parts.{headWord, fluents, lastMoment}
 use Rattle.job.specs.WellFormed.{WellFormed}
 use Rattle.facts.specs.Values.{valueAt}
-use Rattle.facts.specs.Facts.{gather, factOf, factsAt, factsOf}
+use Rattle.facts.specs.Facts.{factOf, factsAt, factsOf}
 use Rattle.facts.proofs.Values.{pick-most}
 
 -- the words ascend strictly, and lie from low to below high
@@ -31,8 +32,8 @@ climbs-append : {low mid high : ℕ} {xs ys : List ℕ} → Climbs low xs mid �
 climbs-append (done h) d = from-lower h d
 climbs-append (next h c) d = next h (climbs-append c d)
 
-climbs-gather : (bound : ℕ → ℕ) (g : ℕ → List ℕ) (n : ℕ) → ((i : ℕ) → i < n → Climbs (bound i) (g i) (bound (suc i))) → Climbs (bound 0) (gather g n) (bound n)
-unfolding gather
+climbs-gather : (bound : ℕ → ℕ) (g : ℕ → List ℕ) (n : ℕ) → ((i : ℕ) → i < n → Climbs (bound i) (g i) (bound (suc i))) → Climbs (bound 0) (joined g n) (bound n)
+unfolding joined
 climbs-gather bound g zero h = done (le-refl (bound 0))
 climbs-gather bound g (suc n) h = climbs-append (climbs-gather bound g n (λ i l. h i (omega arith))) (h n (omega arith))
 

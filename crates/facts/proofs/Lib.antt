@@ -1,6 +1,5 @@
--- Laws that belong to no one function: Placed (a job's words by their places), Stores (what stores leave), Moments (the state at the next moment, by two passes over
+-- Laws that belong to no one function: Stores (what stores leave), Moments (the state at the next moment, by two passes over
 -- the starts), Values (values are at most 2), Lists (lists of facts: how long they are, how they are written), Ascent (they ascend).
-pub mod Placed
 pub mod Stores
 pub mod Moments
 pub mod Values

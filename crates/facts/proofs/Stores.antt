@@ -10,7 +10,7 @@ use lib.Dec.{eqb}
 use lib.ListN.{length, getD, drop, set, replicate, length-set}
 use lib.Seq.{getD-set-same, getD-set-other}
 use Rattle.words.specs.Tests.{pick, both, either}
-use Rattle.words.specs.Scan.{any, firstGives}
+use Rattle.words.specs.Scan.{someWord, firstGives}
 use Rattle.words.proofs.Scan.{drop-next, gives-end}
 use Rattle.facts.specs.Stores.{Overlaid, Mapped, RowStored}
 
@@ -53,12 +53,12 @@ overlaid-store n says fluent gives w old e r =
     value f false q = getD-set-other old (fluent w) f (gives w) 0 (λ z. eqb-false (fluent w) f q (sym z))
 
 -- 'some word passes' as a value
-pub any-gives : (test : ℕ → Bool) (v other : ℕ) (ws : List ℕ) → firstGives test (λ w. v) other ws ≡ pick (any test ws) v other
-unfolding firstGives any
+pub any-gives : (test : ℕ → Bool) (v other : ℕ) (ws : List ℕ) → firstGives test (λ w. v) other ws ≡ pick (someWord test ws) v other
+unfolding firstGives someWord
 any-gives test v other [] = refl
 any-gives test v other (w ∷ ws) = cases (test w) (any-gives test v other ws)
   where
-    cases : (b : Bool) → firstGives test (λ w. v) other ws ≡ pick (any test ws) v other → pick b v (firstGives test (λ w. v) other ws) ≡ pick (either b (any test ws)) v other
+    cases : (b : Bool) → firstGives test (λ w. v) other ws ≡ pick (someWord test ws) v other → pick b v (firstGives test (λ w. v) other ws) ≡ pick (either b (someWord test ws)) v other
     cases true e = refl
     cases false e = e
 

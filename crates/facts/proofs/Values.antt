@@ -6,7 +6,7 @@ use native.Mathlib.Omega.{arith}
 use lib.Dec.{eqb}
 use Rattle.words.specs.Tests.{pick}
 use Rattle.words.specs.Fields.{field, unknown, holds, fails, roleOf, knownValue}
-use Rattle.words.specs.Scan.{any, firstGives}
+use Rattle.words.specs.Scan.{someWord, firstGives}
 use Rattle.job.specs.Parts.{headWord}
 use Rattle.facts.specs.Actions.{effect, makesFluent, lawValue}
 use Rattle.facts.specs.Values.{lists, initially, hidesFluent, givesFluent, givenValue, nextValue, valueAt}
@@ -37,5 +37,5 @@ module _ (job : List ℕ) where
   unfolding valueAt nextValue
   value-most starts zero f = initial-most f
   value-most starts (suc t) f =
-      pick-most (any (hidesFluent job (suc t) f) starts) unknown _ (omega arith)
+      pick-most (someWord (hidesFluent job (suc t) f) starts) unknown _ (omega arith)
       (gives-most (givesFluent job (suc t) f) (givenValue job f) _ (λ s. effect-most _ f) (value-most starts t f) starts)

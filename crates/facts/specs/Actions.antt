@@ -23,7 +23,8 @@ effect job a f = firstGives (makesFluent (headWord job) f) (lawValue (headWord j
 abbrev pub finish : List ℕ → ℕ → ℕ
 finish job s = startMoment s + duration job (startAction s)
 
--- a start is in hand (in execution) at u ≤ t < u + d, hides at u < t < u + d, finishes at u + d
+-- a start is in hand (in execution) at u ≤ t < u + d, hides (the fluents that it affects are unknown) at u < t < u + d, finishes (its
+-- effects take place) at u + d
 abbrev pub inHand : List ℕ → ℕ → ℕ → Bool
 inHand job t s = both (leb (startMoment s) t) (ltb t (finish job s))
 

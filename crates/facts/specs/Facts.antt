@@ -1,29 +1,20 @@
 -- The list of known facts, by moment and then by fluent, so that the words ascend.
-use mathlib.Core.List.{List, [], _∷_, _++_}
-use Prim.Native.Nat.{ℕ, zero, suc, _+_}
+use mathlib.Core.List.{List, [], _∷_}
+use Prim.Native.Nat.{ℕ, _+_}
 use lib.Dec.{eqb}
-use lib.ListN.{getD}
 use Rattle.words.specs.Tests.{pick}
 use Rattle.words.specs.Fields.{unknown, factWord}
+use Rattle.words.specs.Scan.{joined}
 use Rattle.job.specs.Parts.{headWord, fluents, lastMoment}
 use Rattle.facts.specs.Values.{valueAt}
-
--- g 0, g 1, .. up to g (n − 1), one after the other
-unfoldable pub gather : (ℕ → List ℕ) → ℕ → List ℕ
-gather g zero = []
-gather g (suc n) = gather g n ++ g n
 
 -- the fact word of a value, where it is not open
 abbrev pub factOf : ℕ → ℕ → ℕ → ℕ → List ℕ
 factOf head t f value = pick (eqb value unknown) [] (factWord head t f value ∷ [])
 
--- the facts at moment t of the first n fluents, whose values are the bytes of a state
-unfoldable pub stateFacts : ℕ → ℕ → List ℕ → ℕ → List ℕ
-stateFacts head t state n = gather (λ f. factOf head t f (getD state f 0)) n
-
 -- the facts at moment t
 unfoldable pub factsAt : List ℕ → List ℕ → ℕ → List ℕ
-factsAt job starts t = gather (λ f. factOf (headWord job) t f (valueAt job starts t f)) (fluents job)
+factsAt job starts t = joined (λ f. factOf (headWord job) t f (valueAt job starts t f)) (fluents job)
 
 unfoldable pub factsOf : List ℕ → List ℕ → List ℕ
-factsOf job starts = gather (factsAt job starts) (lastMoment job + 1)
+factsOf job starts = joined (factsAt job starts) (lastMoment job + 1)

@@ -3,10 +3,12 @@ use mathlib.Core.List.{List}
 use mathlib.Core.Path.{_≡_}
 use Prim.Native.Nat.{ℕ, _+_, _*_, _<_, _≤_}
 use lib.ListN.{length, getD}
+use Rattle.words.specs.Scan.{joined}
 use Rattle.words.specs.Fields.{startAction}
 use Rattle.job.specs.Parts.{fluents, actions, duration}
 use Rattle.facts.specs.Actions.{effect}
 use Rattle.facts.specs.Values.{valueAt}
+use Rattle.facts.specs.Facts.{factOf}
 
 -- entry a has the duration of action a
 pub record Durations (job table : List ℕ) : Type 0 where
@@ -26,3 +28,7 @@ pub record Named (job starts : List ℕ) : Type 0 where
 pub record StateAt (job starts : List ℕ) (t : ℕ) (state : List ℕ) : Type 0 where
   pub room : fluents job ≤ length state
   pub value : (f : ℕ) → f < fluents job → getD state f 0 ≡ valueAt job starts t f
+
+-- the facts at moment t of the first n fluents, whose values are the bytes of a state
+unfoldable pub stateFacts : ℕ → ℕ → List ℕ → ℕ → List ℕ
+stateFacts head t state n = joined (λ f. factOf head t f (getD state f 0)) n

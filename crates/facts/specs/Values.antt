@@ -7,7 +7,7 @@ use lib.Dec.{eqb}
 use lib.ListN.{length, getD}
 use Rattle.words.specs.Tests.{pick, both}
 use Rattle.words.specs.Fields.{kind, unknown, fluentOf, knownValue, startAction}
-use Rattle.words.specs.Scan.{any, firstGives}
+use Rattle.words.specs.Scan.{someWord, firstGives}
 use Rattle.job.specs.Parts.{headWord}
 use Rattle.facts.specs.Actions.{effect, hides, finishes, affects}
 
@@ -32,7 +32,7 @@ givenValue job f s = effect job (startAction s) f
 -- the value at moment t > 0, by that at t − 1: open if a start hides the fluent; else what a start that finishes gives; else as it was
 unfoldable pub nextValue : List ℕ → List ℕ → ℕ → ℕ → ℕ → ℕ
 nextValue job starts t f old =
-    pick (any (hidesFluent job t f) starts) unknown (firstGives (givesFluent job t f) (givenValue job f) old starts)
+    pick (someWord (hidesFluent job t f) starts) unknown (firstGives (givesFluent job t f) (givenValue job f) old starts)
 
 unfoldable pub valueAt : List ℕ → List ℕ → ℕ → ℕ → ℕ
 valueAt job starts zero f = initially job f

@@ -12,10 +12,10 @@ ghost use Rattle.facts.specs.Stores.{Overlaid, RowStored};
 use words::actions_of;
 use words::duration_of;
 use words::fluent_of;
-use words::kind_of;
 use words::made_value;
 use words::makes_value;
 use words::role_of;
+use words::run_length;
 
 pub fn durations(job: &[u32], places: &[usize; 64]) -> [usize; 64]
     requires { ⌜ WellFormed (now job) × Placed (now job) 3 (now places) ⌝ }
@@ -38,13 +38,7 @@ pub fn laws_of<'a>(job: &'a [u32], places: &[usize; 64], a: usize) -> &'a [u32]
     ensures { λ r. ⌜ now r ≡ lawsOf (now (job .entry)) a ⌝ }
 {
     let from = places[a] + 1;
-    let mut end = from;
-    while end < job.len() {
-        if kind_of(job[end]) != 4 {
-            return &job[from..end];
-        }
-        end += 1;
-    }
+    let end = from + run_length(job, from, 4);
     &job[from..end]
 }
 

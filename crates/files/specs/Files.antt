@@ -6,7 +6,7 @@ use mathlib.Core.List.{List, [], _∷_}
 use lib.Dec.{eqb, leb}
 use lib.ListN.{length, getD, take, drop}
 use Rattle.words.specs.Tests.{both}
-use Rattle.words.specs.Fields.{kind}
+use Rattle.words.specs.Fields.{ofKind}
 use Rattle.words.specs.Scan.{leading, beyond}
 
 -- at most 32 KiB, and whole words
@@ -14,7 +14,7 @@ abbrev pub sized : ℕ → Bool
 sized n = both (leb n 32768) (eqb (n % 4) 0)
 
 abbrev pub isStart : ℕ → Bool
-isStart w = eqb (kind w) 9
+isStart = ofKind 9
 
 -- the leading kind 9 words of a plan are its starts, the rest its facts
 abbrev pub startsOf : List ℕ → List ℕ

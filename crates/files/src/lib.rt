@@ -14,14 +14,7 @@ pub fn is_sized(n: usize) -> bool
 pub fn starts_length(plan: &[u32]) -> usize
     ensures { λ r. ⌜ r ≡ length (startsOf (now (plan .entry))) ⌝ }
 {
-    let mut i = 0;
-    while i < plan.len() {
-        if words::kind_of(plan[i]) != 9 {
-            return i;
-        }
-        i += 1;
-    }
-    i
+    words::run_length(plan, 0, 9)
 }
 
 // Writes the words of bytes, four bytes each and the lowest first, to the front of out, and answers how many.

@@ -20,7 +20,7 @@ use Rattle.theory.specs.Procedure.{procedureOf}
 use Rattle.reading.specs.World.{Ready}
 use Rattle.reading.specs.Reading.{Ends}
 use Rattle.reading.specs.Table.{rowAt, Found}
-use Rattle.reading.specs.Count.{Tabulated}
+use Rattle.reading.specs.Table.{Tabulated}
 use Rattle.reading.proofs.Transfer.{transfer}
 use Rattle.reading.proofs.Agreement.{extends, found-same, counted-same}
 use Rattle.parts.specs.Parts.{Prepared}

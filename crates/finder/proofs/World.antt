@@ -12,31 +12,33 @@ use borrow.Author.Tests.{ne-eqb}
 use lib.Dec.{eqb}
 use lib.ListN.{length, getD, take, drop, length-map, length-drop, List·getD-map}
 use lib.Seq.{getD-drop}
-use Rattle.words.specs.Tests.{pick, either}
-use Rattle.words.specs.Fields.{kind, form, nodeX, nodeY, nodeM, isSet, memberNode}
-use Rattle.words.specs.Scan.{leading}
+use Rattle.words.specs.Tests.{either}
+use Rattle.words.specs.Fields.{ofKind, kind, form, nodeX, nodeY, nodeM, isSet, memberNode}
+use Rattle.words.specs.Scan.{times}
+use Rattle.words.proofs.Scan.{leading-take}
 use Rattle.words.proofs.Choices.{true-false, eqb-swap}
 use Rattle.bitset.specs.Members.{sum}
 use Rattle.job.specs.Rules.{names}
 use Rattle.job.specs.Before.{last}
 use Rattle.job.specs.Refusal.{jobRefusal}
-use Rattle.job.specs.Parts.{ofKind, actions, formulaCount, nodeCount, nodeWord, memberWords, conditionWords}
+use Rattle.job.specs.Parts.{actions, formulaCount, nodeCount, nodeWord, memberWords, conditionWords}
 use Rattle.job.specs.WellFormed.{WellFormed}
 use Rattle.job.proofs.Laws.{before-more}
 use Rattle.job.proofs.Parts.{word, word-at}
-use Rattle.facts.proofs.Placed.{word-place, words-after}
+use Rattle.job.proofs.ByPlace.{word-place, words-after}
 use Rattle.promise.specs.Trajectory.{Trajectory}
 use Rattle.theory.specs.Trajectory.{trajectoryOf}
 use Rattle.promise.specs.Procedure.{Procedure}
 use Rattle.theory.specs.Procedure.{procedureOf}
 use Rattle.theory.proofs.Followers.{members-at, conditions-at, conditions-fit}
-use Rattle.reading.specs.Forms.{Act, formNumber, formAt, fieldX, FormedAs}
+use Rattle.reading.specs.Forms.{formNumber, formAt, fieldX, FormedAs}
 use Rattle.reading.specs.World.{procedureAt, trajectoryAt, Ready}
+use Rattle.reading.proofs.Forms.{form-number}
 use Rattle.reading.proofs.Transfer.{Asks}
 use Rattle.reading.proofs.Agreement.{Agrees, agrees-back, formed-there}
-use Rattle.lengths.specs.Children.{childrenAs, children, times, NamedOnce}
+use Rattle.lengths.specs.Children.{childrenAs, children, NamedOnce}
 use Rattle.lengths.proofs.Sums.{sum-cong}
-use Rattle.naming.specs.Naming.{times as occurrences, childTimes}
+use Rattle.naming.specs.Naming.{childTimes}
 use Rattle.naming.proofs.Naming.{leads-none, follows, once-by-nodes}
 use Rattle.trajectory.specs.declared.World.{World}
 use Rattle.trajectory.specs.Carried.{Carried}
@@ -47,36 +49,6 @@ procedureIn job w = procedureAt (w .count) job (w .places) (w .sizes) (w .limits
 
 abbrev pub trajectoryIn : World → Trajectory
 trajectoryIn w = trajectoryAt (w .last) (w .starts) (w .durations) (w .values)
-
--- the leading words are the first of the list, as many as they are
-leading-take : (test : ℕ → Bool) (ws : List ℕ) → leading test ws ≡ take (length (leading test ws)) ws
-unfolding leading
-leading-take test [] = refl
-leading-take test (w ∷ ws) = cases (test w) (leading-take test ws)
-  where
-    cases : (t : Bool) → leading test ws ≡ take (length (leading test ws)) ws
-        → pick t (w ∷ leading test ws) [] ≡ take (length (pick t (w ∷ leading test ws) [])) (w ∷ ws)
-    cases false ih = refl
-    cases true ih = ap (λ (l : List ℕ). w ∷ l) ih
-
--- an action's form is 0
-act-number : (k : ℕ) → formNumber k ≡ Act → k ≡ 0
-act-number zero h = refl
-act-number (suc zero) h = let z : _≡_ {A = ℕ} 0 1 = cc in absurd (omega arith)
-act-number (suc (suc zero)) h = let z : _≡_ {A = ℕ} 0 1 = cc in absurd (omega arith)
-act-number (suc (suc (suc zero))) h = let z : _≡_ {A = ℕ} 0 1 = cc in absurd (omega arith)
-act-number (suc (suc (suc (suc zero)))) h = let z : _≡_ {A = ℕ} 0 1 = cc in absurd (omega arith)
-act-number (suc (suc (suc (suc (suc zero))))) h = let z : _≡_ {A = ℕ} 0 1 = cc in absurd (omega arith)
-act-number (suc (suc (suc (suc (suc (suc zero)))))) h = let z : _≡_ {A = ℕ} 0 1 = cc in absurd (omega arith)
-act-number (suc (suc (suc (suc (suc (suc (suc zero))))))) h = let z : _≡_ {A = ℕ} 0 1 = cc in absurd (omega arith)
-act-number (suc (suc (suc (suc (suc (suc (suc (suc zero)))))))) h = let z : _≡_ {A = ℕ} 0 1 = cc in absurd (omega arith)
-act-number (suc (suc (suc (suc (suc (suc (suc (suc (suc k))))))))) h = let z : _≡_ {A = ℕ} 0 1 = cc in absurd (omega arith)
-
--- how often a number is in a list: `naming` and `lengths` say the same
-times-same : (q : ℕ) (xs : List ℕ) → times q xs ≡ occurrences q xs
-unfolding times occurrences
-times-same q [] = refl
-times-same q (x ∷ xs) = omega (arith, times-same q xs)
 
 -- the nodes of a well-formed job are as their forms need
 module _ (job starts : List ℕ) (formed : WellFormed job) where
@@ -129,12 +101,12 @@ module _ (job starts : List ℕ) (w : World) (formed : WellFormed job) (c : Carr
     members-are : memberWords job p ≡ take (getD (w .sizes) p 0) (drop (getD (w .places) p 0 + 1) job)
     members-are =
         let e = members-at (c .places) p h in
-        e ∙ leading-take (ofKind 7) (drop (getD (w .places) p 0 + 1) job) ∙ rw (c .sizes p h, e)
+        e ∙ sym (leading-take (ofKind 7) (drop (getD (w .places) p 0 + 1) job)) ∙ rw (c .sizes p h, e)
 
     conditions-are : conditionWords job p ≡ take (getD (w .limits) p 0) (drop (getD (w .places) p 0 + 1 + getD (w .sizes) p 0) job)
     conditions-are =
         let e = conditions-at (c .places) p h in
-        e ∙ leading-take (ofKind 8) (drop (getD (w .places) p 0 + 1 + length (memberWords job p)) job) ∙ rw (c .limits p h, c .sizes p h, e)
+        e ∙ sym (leading-take (ofKind 8) (drop (getD (w .places) p 0 + 1 + length (memberWords job p)) job)) ∙ rw (c .limits p h, c .sizes p h, e)
 
     -- an action is the job's, and so is each formula that the node asks for
     action : form (P .node p) ≡ 0 → nodeX (P .node p) < actions job
@@ -162,8 +134,8 @@ module _ (job starts : List ℕ) (w : World) (formed : WellFormed job) (c : Carr
     node = λ p h. node-word p (here h);
     members = λ p h. ap (map memberNode) (members-are p (here h));
     conditions = λ p h. conditions-are p (here h);
-    starts = λ p t h f l. sym (c .moments (fieldX P p) t (let a = action p (here h) (act-number _ f) in let m = formed .few-actions in omega arith));
-    durations = λ p h f. sym (c .durations .entry (fieldX P p) (action p (here h) (act-number _ f)));
+    starts = λ p t h f l. sym (c .moments (fieldX P p) t (let a = action p (here h) (form-number _ f (omega arith)) in let m = formed .few-actions in omega arith));
+    durations = λ p h f. sym (c .durations .entry (fieldX P p) (action p (here h) (form-number _ f (omega arith))));
     values = λ p k t h a l. sym (c .values k t (asked p (here h) k (form (P .node p)) refl a) (let q = c .last in omega arith));
   }
 
@@ -183,7 +155,7 @@ module _ (job starts : List ℕ) (w : World) (formed : WellFormed job) (c : Carr
     node-kind = let i = word job ok 6 p h in ap kind (sym (node-word p h) ∙ word-at job ok 6 p (i .0) (i .1)) ∙ i .1 .of-kind
 
     -- no member follows a node that is no task set
-    no-members : (v : ℕ) → (form (P .node p) ≡ 8 → ⊥) → occurrences v (map memberNode (memberWords job p)) ≡ 0
+    no-members : (v : ℕ) → (form (P .node p) ≡ 8 → ⊥) → times v (map memberNode (memberWords job p)) ≡ 0
     unfolding memberWords last
     no-members v other =
         let at = getD (w .places) p 0 in
@@ -208,10 +180,10 @@ module _ (job starts : List ℕ) (w : World) (formed : WellFormed job) (c : Carr
     -- the node names v as often as it has v as a child
     module _ (v : ℕ) where
       abbrev Alike : Type 0
-      Alike = times v (children P p) ≡ names v (P .node p) + occurrences v (map memberNode (memberWords job p))
+      Alike = times v (children P p) ≡ names v (P .node p) + times v (map memberNode (memberWords job p))
 
       set-alike : form (P .node p) ≡ 8 → Alike
-      set-alike e = rw (node-kind, e) (times-same v (P .members p) ∙ rw (members-are p h) (omega arith))
+      set-alike e = rw (node-kind, e) (rw (members-are p h) (omega arith))
 
       other-alike : (form (P .node p) ≡ 8 → ⊥) → Alike
       other-alike ne =

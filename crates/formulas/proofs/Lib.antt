@@ -1,6 +1,5 @@
 -- Laws that belong to no one function: Tables (the two tables are the lesser and the greater), Laws (the values of formulas), Columns (a table on
--- the way), Counting (how many formulas there are).
+-- the way).
 pub mod Tables
 pub mod Laws
 pub mod Columns
-pub mod Counting

@@ -17,7 +17,8 @@ orTable = 0 ∷ 1 ∷ 2 ∷ 1 ∷ 1 ∷ 2 ∷ 2 ∷ 2 ∷ 2 ∷ []
 abbrev pub byTable : List ℕ → ℕ → ℕ → ℕ
 byTable table a b = getD table (a * 3 + b) 0
 
--- the value of a formula word at moment t: by the fluents' values at any moment, and the lower formulas' values at any moment
+-- the value of a formula word at moment t: by the fluents' values at any moment, and the lower formulas' values at any moment. The forms
+-- are always, a fluent, not, and, or; a job that passes has no other.
 unfoldable pub formValue : List ℕ → List ℕ → ℕ → ℕ → (ℕ → ℕ → ℕ) → (ℕ → ℕ → ℕ) → ℕ → ℕ
 formValue conj disj head w fluent lower t =
     pick (eqb (form w) 0) holds

@@ -12,8 +12,8 @@ use lib.ListN.{length, getD}
 use Rattle.words.specs.Tests.{pick, either, one}
 use Rattle.words.specs.Fields.{kind}
 use Rattle.job.specs.Rules.{names}
-use Rattle.words.specs.Scan.{any}
-use Rattle.job.specs.Before.{before, count, since, latest, named}
+use Rattle.words.specs.Scan.{someWord}
+use Rattle.job.specs.Before.{before, countOfKind, since, latest, named}
 use Rattle.job.specs.Refusal.{nameRefusal}
 use Rattle.job.specs.State.{Tied}
 use Rattle.words.proofs.Choices.{one-le}
@@ -37,8 +37,8 @@ unfolding before
 length-before job zero = refl
 length-before job (suc i) = ap suc (length-before job i)
 
-pub count-le : (k : ℕ) (p : List ℕ) → count k p ≤ length p
-unfolding count
+pub count-le : (k : ℕ) (p : List ℕ) → countOfKind k p ≤ length p
+unfolding countOfKind
 count-le k [] = omega arith
 count-le k (w ∷ p) = omega (arith, count-le k p, one-le (eqb (kind w) k))
 
@@ -52,14 +52,14 @@ since-le k (w ∷ p) = cases (eqb (kind w) k) (since-le k p)
     cases false h = omega arith
 
 -- a count of the words before position i, and of those since a word of kind m, is at most i
-pub count-before : (k : ℕ) (job : List ℕ) (i : ℕ) → count k (before job i) ≤ i
+pub count-before : (k : ℕ) (job : List ℕ) (i : ℕ) → countOfKind k (before job i) ≤ i
 count-before k job i = omega (arith, count-le k (before job i), length-before job i)
 
-pub count-since : (k m : ℕ) (job : List ℕ) (i : ℕ) → count k (since m (before job i)) ≤ i
+pub count-since : (k m : ℕ) (job : List ℕ) (i : ℕ) → countOfKind k (since m (before job i)) ≤ i
 count-since k m job i = omega (arith, count-le k (since m (before job i)), since-le m (before job i), length-before job i)
 
-pub count-none : (job : List ℕ) (k : ℕ) → count k (before job 0) ≡ 0
-unfolding count before
+pub count-none : (job : List ℕ) (k : ℕ) → countOfKind k (before job 0) ≡ 0
+unfolding countOfKind before
 count-none job k = refl
 
 pub named-none : (job : List ℕ) (v : ℕ) → named v (before job 0) ≡ 0
@@ -68,8 +68,8 @@ named-none job v = refl
 
 -- what one word more makes of each fact
 module _ (job : List ℕ) (i : ℕ) where
-  pub count-more : (k : ℕ) → count k (before job (i + 1)) ≡ count k (before job i) + one (eqb (kind (getD job i 0)) k)
-  unfolding count
+  pub count-more : (k : ℕ) → countOfKind k (before job (i + 1)) ≡ countOfKind k (before job i) + one (eqb (kind (getD job i 0)) k)
+  unfolding countOfKind
   count-more k = rw (before-more job i)
 
   pub latest-more : (k : ℕ) → latest k (before job (i + 1)) ≡ pick (eqb (kind (getD job i 0)) k) (getD job i 0) (latest k (before job i))
@@ -80,39 +80,39 @@ module _ (job : List ℕ) (i : ℕ) where
   unfolding named
   named-more v = rw (before-more job i)
 
-  pub count-since-more : (k m : ℕ) → count k (since m (before job (i + 1)))
-      ≡ pick (eqb (kind (getD job i 0)) m) 0 (count k (since m (before job i)) + one (eqb (kind (getD job i 0)) k))
-  unfolding since count
+  pub count-since-more : (k m : ℕ) → countOfKind k (since m (before job (i + 1)))
+      ≡ pick (eqb (kind (getD job i 0)) m) 0 (countOfKind k (since m (before job i)) + one (eqb (kind (getD job i 0)) k))
+  unfolding since countOfKind
   count-since-more k m = rw (before-more job i) (cases (eqb (kind (getD job i 0)) m))
     where
-      cases : (t : Bool) → count k (pick t [] (getD job i 0 ∷ since m (before job i)))
-          ≡ pick t 0 (count k (since m (before job i)) + one (eqb (kind (getD job i 0)) k))
+      cases : (t : Bool) → countOfKind k (pick t [] (getD job i 0 ∷ since m (before job i)))
+          ≡ pick t 0 (countOfKind k (since m (before job i)) + one (eqb (kind (getD job i 0)) k))
       cases true = refl
       cases false = refl
 
 -- one word less: what is listed since a word of kind k
-pub since-any : (t : ℕ → Bool) (k : ℕ) (job : List ℕ) (j : ℕ) → 0 < j → any t (since k (before job j))
-    ≡ pick (eqb (kind (getD job (j - 1) 0)) k) false (either (t (getD job (j - 1) 0)) (any t (since k (before job (j - 1)))))
-unfolding since any
+pub since-any : (t : ℕ → Bool) (k : ℕ) (job : List ℕ) (j : ℕ) → 0 < j → someWord t (since k (before job j))
+    ≡ pick (eqb (kind (getD job (j - 1) 0)) k) false (either (t (getD job (j - 1) 0)) (someWord t (since k (before job (j - 1)))))
+unfolding since someWord
 since-any t k job j h = rw (before-less job j h) (cases (eqb (kind (getD job (j - 1) 0)) k))
   where
-    cases : (b : Bool) → any t (pick b [] (getD job (j - 1) 0 ∷ since k (before job (j - 1))))
-        ≡ pick b false (either (t (getD job (j - 1) 0)) (any t (since k (before job (j - 1)))))
+    cases : (b : Bool) → someWord t (pick b [] (getD job (j - 1) 0 ∷ since k (before job (j - 1))))
+        ≡ pick b false (either (t (getD job (j - 1) 0)) (someWord t (since k (before job (j - 1)))))
     cases true = refl
     cases false = refl
 
-pub since-none : (t : ℕ → Bool) (k : ℕ) (job : List ℕ) → any t (since k (before job 0)) ≡ false
-unfolding before since any
+pub since-none : (t : ℕ → Bool) (k : ℕ) (job : List ℕ) → someWord t (since k (before job 0)) ≡ false
+unfolding before since someWord
 since-none t k job = refl
 
 -- counts only grow
-pub count-grows : (k : ℕ) (job : List ℕ) (i n : ℕ) → i ≤ n → count k (before job i) ≤ count k (before job n)
+pub count-grows : (k : ℕ) (job : List ℕ) (i n : ℕ) → i ≤ n → countOfKind k (before job i) ≤ countOfKind k (before job n)
 count-grows k job i =
-    le-ind (λ (n : ℕ). count k (before job i) ≤ count k (before job n)) (omega arith)
+    le-ind (λ (n : ℕ). countOfKind k (before job i) ≤ countOfKind k (before job n)) (omega arith)
     (λ m h ih. rw (← (add-one m)) (omega (arith, count-more job m k)))
 
 pub tied-start : (job : List ℕ) → Tied (before job 0) (record { actions = 0; formulas = 0; nodes = 0; members = 0; conditions = 0; node = 0 })
-unfolding before count since latest
+unfolding before countOfKind since latest
 tied-start job = record { actions = refl; formulas = refl; nodes = refl; members = refl; conditions = refl; node = refl }
 
 pub once : (p : List ℕ) (v : ℕ) → named v p ≡ 1 → nameRefusal p v ≡ 0

@@ -17,7 +17,7 @@ use Rattle.words.proofs.Choices.{true-false, both-true, either-true, implies-tr
 use Rattle.answers.specs.Rows.{row}
 use Rattle.answers.proofs.Rows.{first-none, or-none, row-none}
 use Rattle.job.specs.Rules.{grade, formulaShape, formulaRange, nodeShape, nodeRange, childX, childY, childM}
-use Rattle.job.specs.Before.{before, last, count, named}
+use Rattle.job.specs.Before.{before, last, countOfKind, named}
 use Rattle.job.specs.Refusal.{lookup, rules, wordRefusal, refusalOf, nameRefusal, emptySet, endRefusal, jobRefusal}
 use Rattle.job.specs.Index.{positions}
 use Rattle.job.specs.Parts.{headWord, fluents, actions, lastMoment, total, wordsFrom, wordAt, duration, formulaCount, formulaWord, nodeCount, nodeWord}
@@ -102,7 +102,7 @@ module _ (job : List ℕ) (ok : jobRefusal job .number ≡ 0) where
   unfolding duration
   lasts {a} {i} at =
       let w = getD job i 0 in
-      let g = both-true (eqb (actionNumber w) (count 3 (before job i))) (leb 1 (durationOf w)) (graded _ _ _ (rule 3 i (at .inside) (at .of-kind)) .1) in
+      let g = both-true (eqb (actionNumber w) (countOfKind 3 (before job i))) (leb 1 (durationOf w)) (graded _ _ _ (rule 3 i (at .inside) (at .of-kind)) .1) in
       rw (word-at 3 a i at) (leb-true 1 (durationOf w) (g .1))
 
   pub formula : {k i : ℕ} → IsWord job 5 k i → FormulaFormed job k
@@ -110,7 +110,7 @@ module _ (job : List ℕ) (ok : jobRefusal job .number ≡ 0) where
   formula {k} {i} at =
       let w = getD job i 0 in
       let e = word-at 5 k i at in
-      let n = count 5 (before job i) in
+      let n = countOfKind 5 (before job i) in
       let g = within-limit 64 n (both (within 1 5 (kind (last (before job i)))) (formulaShape (headWord job) w)) (formulaRange (headWord job) n w) (rule 5 i (at .inside) (at .of-kind)) in
       let low = formula-low (headWord job) w (both-true (within 1 5 (kind (last (before job i)))) (formulaShape (headWord job) w) (g .0) .1) in
       let a = implies (eqb (form w) 1) (ltb (atomFluent (headWord job) w) (fluents job)) in
@@ -132,9 +132,9 @@ module _ (job : List ℕ) (ok : jobRefusal job .number ≡ 0) where
       let f = form w in
       let v = last (before job i) in
       let e = word-at 6 p i at in
-      let acts = count 3 (before job i) in
-      let forms = count 5 (before job i) in
-      let n = count 6 (before job i) in
+      let acts = countOfKind 3 (before job i) in
+      let forms = countOfKind 5 (before job i) in
+      let n = countOfKind 6 (before job i) in
       let g = within-limit 64 n (both (both (within 1 8 (kind v)) (not (isSet v))) (nodeShape w)) (nodeRange acts forms n w) (rule 6 i (at .inside) (at .of-kind)) in
       let low = node-low w (both-true (both (within 1 8 (kind v)) (not (isSet v))) (nodeShape w) (g .0) .1) in
       let a = implies (eqb f 0) (ltb (nodeX w) acts) in

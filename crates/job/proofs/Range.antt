@@ -12,7 +12,7 @@ use Rattle.words.proofs.Choices.{within-true}
 use Rattle.answers.specs.Rows.{row, orElse, firstOf}
 use Rattle.answers.proofs.Range.{Fitting, or-fits, row-fits, first-fits}
 use Rattle.job.specs.Rules.{grade}
-use Rattle.job.specs.Before.{before, count, named}
+use Rattle.job.specs.Before.{before, countOfKind, named}
 use Rattle.job.specs.Refusal.{wordRefusal, refusalOf, nameRefusal, emptySet, endRefusal, jobRefusal}
 use Rattle.job.proofs.Laws.{count-before}
 
@@ -48,10 +48,10 @@ unfolding endRefusal
 end-fits job l =
     let p = before job (length job) in
     let few = count-before 6 job (length job) in
-    or-fits _ _ (row-fits (not (eqb (count 3 p) (actionsOf (getD job 0 0)))) 3 (length job) (omega arith) (omega arith))
-    (or-fits _ _ (row-fits (eqb (count 6 p) 0) 5 0 (omega arith) (omega arith))
-    (or-fits _ _ (row-fits (emptySet p) 5 (count 6 p - 1) (omega arith) (omega arith))
-    (first-fits (nameRefusal p) (name-le p) (count 6 p - 1) (omega arith))))
+    or-fits _ _ (row-fits (not (eqb (countOfKind 3 p) (actionsOf (getD job 0 0)))) 3 (length job) (omega arith) (omega arith))
+    (or-fits _ _ (row-fits (eqb (countOfKind 6 p) 0) 5 0 (omega arith) (omega arith))
+    (or-fits _ _ (row-fits (emptySet p) 5 (countOfKind 6 p - 1) (omega arith) (omega arith))
+    (first-fits (nameRefusal p) (name-le p) (countOfKind 6 p - 1) (omega arith))))
 
 pub job-fits : (job : List ℕ) → Fitting (jobRefusal job)
 unfolding jobRefusal

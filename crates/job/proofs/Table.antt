@@ -14,7 +14,7 @@ use Rattle.words.proofs.Choices.{both-true}
 use Rattle.answers.specs.Rows.{refusal, row, orElse, firstOf}
 use Rattle.answers.proofs.Rows.{first-none, or-none, row-none}
 use Rattle.job.specs.Rules.{grade, limited}
-use Rattle.job.specs.Before.{before, count}
+use Rattle.job.specs.Before.{before, countOfKind}
 use Rattle.job.specs.Refusal.{lookup, rules, wordRefusal, refusalOf, nameRefusal, emptySet, endRefusal, jobRefusal}
 use Rattle.job.proofs.Laws.{count-more, count-none}
 
@@ -47,15 +47,15 @@ within-limit most count shape range e =
 
 module _ (job : List ℕ) where
   -- at most 64 words of a kind, where each is declared with fewer before it
-  bounded : (k n : ℕ) → ((i : ℕ) → i < n → kind (getD job i 0) ≡ k → count k (before job i) < 64) → count k (before job n) ≤ 64
+  bounded : (k n : ℕ) → ((i : ℕ) → i < n → kind (getD job i 0) ≡ k → countOfKind k (before job i) < 64) → countOfKind k (before job n) ≤ 64
   bounded k zero h = omega (arith, count-none job k)
   bounded k (suc n) h =
       cases (eqb (kind (getD job n 0)) k) refl (bounded k n (λ i l. h i (omega arith))) (rw (add-one n) at (count-more job n k))
     where
-      cases : (t : Bool) → eqb (kind (getD job n 0)) k ≡ t → count k (before job n) ≤ 64
-          → count k (before job (suc n)) ≡ count k (before job n) + one (eqb (kind (getD job n 0)) k) → count k (before job (suc n)) ≤ 64
+      cases : (t : Bool) → eqb (kind (getD job n 0)) k ≡ t → countOfKind k (before job n) ≤ 64
+          → countOfKind k (before job (suc n)) ≡ countOfKind k (before job n) + one (eqb (kind (getD job n 0)) k) → countOfKind k (before job (suc n)) ≤ 64
       cases true e ih more =
-          let here : count k (before job n) < 64 = h n (omega arith) (eqb-true (kind (getD job n 0)) k e) in
+          let here : countOfKind k (before job n) < 64 = h n (omega arith) (eqb-true (kind (getD job n 0)) k e) in
           omega (arith, rw e at more)
       cases false e ih more = omega (arith, rw e at more)
 
@@ -66,19 +66,19 @@ module _ (job : List ℕ) where
 
     -- a kind whose rule lets a word pass only with fewer than 64 before it
     abbrev pub Limits : ℕ → Type 0
-    Limits k = (p : List ℕ) (w : ℕ) → lookup k (rules (getD job 0 0) p w) ≡ 0 → count k p < 64
+    Limits k = (p : List ℕ) (w : ℕ) → lookup k (rules (getD job 0 0) p w) ≡ 0 → countOfKind k p < 64
 
-    pub few : (k : ℕ) → Limits k → count k (before job (length job)) ≤ 64
+    pub few : (k : ℕ) → Limits k → countOfKind k (before job (length job)) ≤ 64
     few k limits = bounded k (length job) (λ i l h. limits (before job i) (getD job i 0) (rule-passed k i l h))
 
     pub limits-actions : Limits 3
     limits-actions p w e = let n = eqb-true (actionNumber w) _ (both-true _ _ (graded _ _ _ e .1) .0) in omega (arith, n)
 
     pub limits-formulas : Limits 5
-    limits-formulas p w e = within-limit 64 (count 5 p) _ _ e .1
+    limits-formulas p w e = within-limit 64 (countOfKind 5 p) _ _ e .1
 
     pub limits-nodes : Limits 6
-    limits-nodes p w e = within-limit 64 (count 6 p) _ _ e .1
+    limits-nodes p w e = within-limit 64 (countOfKind 6 p) _ _ e .1
 
   -- the three places of `jobRefusal`
   pub by-length : not (within 1 2048 (length job)) ≡ true → jobRefusal job ≡ refusal 1 0
@@ -110,26 +110,26 @@ clear job ok =
 
 -- the rows of its end, one by one
 pub record EndClear (job : List ℕ) : Type 0 where
-  pub counted : count 3 (before job (length job)) ≡ actionsOf (getD job 0 0)
-  pub some : eqb (count 6 (before job (length job))) 0 ≡ false
+  pub counted : countOfKind 3 (before job (length job)) ≡ actionsOf (getD job 0 0)
+  pub some : eqb (countOfKind 6 (before job (length job))) 0 ≡ false
   pub filled : emptySet (before job (length job)) ≡ false
-  pub named : firstOf (nameRefusal (before job (length job))) (count 6 (before job (length job)) - 1) .number ≡ 0
+  pub named : firstOf (nameRefusal (before job (length job))) (countOfKind 6 (before job (length job)) - 1) .number ≡ 0
 
 pub end-clear : (job : List ℕ) → Clear job → EndClear job
 unfolding endRefusal
 end-clear job c =
     let p = before job (length job) in
-    let miscounted = not (eqb (count 3 p) (actionsOf (getD job 0 0))) in
+    let miscounted = not (eqb (countOfKind 3 p) (actionsOf (getD job 0 0))) in
     let r1 = row miscounted 3 (length job) in
-    let r2 = row (eqb (count 6 p) 0) 5 0 in
-    let r3 = row (emptySet p) 5 (count 6 p - 1) in
-    let r4 = firstOf (nameRefusal p) (count 6 p - 1) in
+    let r2 = row (eqb (countOfKind 6 p) 0) 5 0 in
+    let r3 = row (emptySet p) 5 (countOfKind 6 p - 1) in
+    let r4 = firstOf (nameRefusal p) (countOfKind 6 p - 1) in
     let a = or-none r1 (orElse r2 (orElse r3 r4)) (c .end) in
     let b = or-none r2 (orElse r3 r4) (a .1) in
     let d = or-none r3 r4 (b .1) in
     record {
       counted = eqb-true _ _ (not-false _ (row-none miscounted 3 (length job) (omega arith) (a .0)));
-      some = row-none (eqb (count 6 p) 0) 5 0 (omega arith) (b .0);
-      filled = row-none (emptySet p) 5 (count 6 p - 1) (omega arith) (d .0);
+      some = row-none (eqb (countOfKind 6 p) 0) 5 0 (omega arith) (b .0);
+      filled = row-none (emptySet p) 5 (countOfKind 6 p - 1) (omega arith) (d .0);
       named = d .1;
     }

@@ -14,15 +14,15 @@ use lib.Dec.{eqb, leb, ltb}
 use lib.ListN.{length, getD, drop, length-drop}
 use lib.Seq.{getD-drop, drop-drop}
 use Rattle.words.specs.Tests.{pick, both, either, implies, one, within}
-use Rattle.words.specs.Fields.{kind, form, spare, isSet, memberNode, conditionFormula, conditionI, conditionJ, conditionM, conditionN}
+use Rattle.words.specs.Fields.{ofKind, kind, form, spare, isSet, memberNode, conditionFormula, conditionI, conditionJ, conditionM, conditionN}
 use Rattle.words.specs.Scan.{leading, beyond}
 use Rattle.words.proofs.Choices.{true-false, both-true, either-true, implies-true, pick-same, true-within}
 use Rattle.words.proofs.Scan.{leading-entry, leading-stop, beyond-drop}
 use Rattle.answers.proofs.Rows.{first-none}
 use Rattle.job.specs.Rules.{grade, conditionShape, conditionRange}
-use Rattle.job.specs.Before.{before, last, count, since, latest}
+use Rattle.job.specs.Before.{before, last, countOfKind, since, latest}
 use Rattle.job.specs.Refusal.{wordRefusal, refusalOf, nameRefusal, emptySet, endRefusal, jobRefusal}
-use Rattle.job.specs.Parts.{ofKind, total, nodeWord, memberWords, conditionWords, formulaCount}
+use Rattle.job.specs.Parts.{total, nodeWord, memberWords, conditionWords, formulaCount}
 use Rattle.job.specs.WellFormed.{ConditionFormed, SetFormed}
 use Rattle.job.proofs.Laws.{before-more, latest-more, count-more, count-since-more, count-grows}
 use Rattle.job.proofs.Table.{within-limit, rule-passed, Clear, clear, end-clear}
@@ -36,7 +36,7 @@ Run job k s n = (i : ℕ) → i < n → kind (getD job (s + i) 0) ≡ k
 module _ (job : List ℕ) (k : ℕ) (s : ℕ) where
   -- what they add to the counts of kind j, in all and since the last node
   run-since : (j n : ℕ) → (k ≡ 6 → ⊥) → Run job k s n
-      → count j (since 6 (before job (s + n))) ≡ count j (since 6 (before job s)) + n * one (eqb k j)
+      → countOfKind j (since 6 (before job (s + n))) ≡ countOfKind j (since 6 (before job s)) + n * one (eqb k j)
   run-since j zero h r = rw (add-zero s) (omega arith)
   run-since j (suc n) h r =
       let more = count-since-more job (s + n) j 6 in
@@ -44,7 +44,7 @@ module _ (job : List ℕ) (k : ℕ) (s : ℕ) where
       let e : s + suc n ≡ s + n + 1 = omega arith in
       rw e (more ∙ rw (here, ne-eqb k 6 h) (omega (arith, run-since j n h (λ i l. r i (omega arith)))))
 
-  run-count : (j n : ℕ) → Run job k s n → count j (before job (s + n)) ≡ count j (before job s) + n * one (eqb k j)
+  run-count : (j n : ℕ) → Run job k s n → countOfKind j (before job (s + n)) ≡ countOfKind j (before job s) + n * one (eqb k j)
   run-count j zero r = rw (add-zero s) (omega arith)
   run-count j (suc n) r =
       let more = count-more job (s + n) j in
@@ -71,7 +71,7 @@ after-set job at k f other h =
     not-zero z = omega arith
 
 -- a set that is the last word is refused
-no-empty : (job : List ℕ) (at : ℕ) → kind (getD job at 0) ≡ 6 → form (getD job at 0) ≡ 8 → count 7 (since 6 (before job (at + 1))) ≡ 0
+no-empty : (job : List ℕ) (at : ℕ) → kind (getD job at 0) ≡ 6 → form (getD job at 0) ≡ 8 → countOfKind 7 (since 6 (before job (at + 1))) ≡ 0
     → emptySet (before job (at + 1)) ≡ false → ⊥
 no-empty job at k f none e = true-false (sym (rw (latest-more job at 6, k, f, none)) ∙ e)
 
@@ -120,10 +120,10 @@ module _ (job : List ℕ) (ok : jobRefusal job .number ≡ 0) {p at : ℕ} (node
   run k s i h = led k s i h .1
 
   -- the counts at the set's first word after it
-  start-since : (j : ℕ) → count j (since 6 (before job (at + 1))) ≡ 0
+  start-since : (j : ℕ) → countOfKind j (since 6 (before job (at + 1))) ≡ 0
   start-since j = count-since-more job at j 6 ∙ rw (node .of-kind)
 
-  start-nodes : count 6 (before job (at + 1)) ≡ p + 1
+  start-nodes : countOfKind 6 (before job (at + 1)) ≡ p + 1
   start-nodes = count-more job at 6 ∙ rw (node .of-kind, node .numbered)
 
   -- what the rule of its kind says of member i
@@ -132,11 +132,11 @@ module _ (job : List ℕ) (ok : jobRefusal job .number ≡ 0) {p at : ℕ} (node
   member i h =
       let w = led 7 (at + 1) i h in
       let q = before job (at + 1 + i) in
-      let g = within-limit 4 (count 7 (since 6 q)) _ (ltb (memberNode (getD job (at + 1 + i) 0) + 1) (count 6 q)) (rule-passed job (c .words) 7 (at + 1 + i) (w .2) (w .1)) in
+      let g = within-limit 4 (countOfKind 7 (since 6 q)) _ (ltb (memberNode (getD job (at + 1 + i) 0) + 1) (countOfKind 6 q)) (rule-passed job (c .words) 7 (at + 1 + i) (w .2) (w .1)) in
       let sofar : Run job 7 (at + 1) i = λ j l. led 7 (at + 1) j (omega arith) .1 in
       let members = run-since job 7 (at + 1) 7 i (λ z. omega arith) sofar in
       let nodes = run-count job 7 (at + 1) 6 i sofar in
-      (omega (arith, g .1, members, start-since 7), omega (arith, nodes, start-nodes, ltb-true (memberNode (getD job (at + 1 + i) 0) + 1) (count 6 q) (g .2)))
+      (omega (arith, g .1, members, start-since 7), omega (arith, nodes, start-nodes, ltb-true (memberNode (getD job (at + 1 + i) 0) + 1) (countOfKind 6 q) (g .2)))
 
   few-members : m ≤ 4
   few-members = by-cases (decLt 4 m) (λ h. absurd (let z = member 4 h in omega (arith, z .0))) (λ h. omega arith)
@@ -171,9 +171,9 @@ module _ (job : List ℕ) (ok : jobRefusal job .number ≡ 0) {p at : ℕ} (node
       let w = getD job pos 0 in
       let a = led 8 (at + 1 + m) i h in
       let q = before job pos in
-      let n = count 7 (since 6 q) in
-      let forms = count 5 q in
-      let g = within-limit 8 (count 8 (since 6 q)) (both (within 7 8 (kind (last q))) (conditionShape w)) (conditionRange forms n w) (rule-passed job (c .words) 8 pos (a .2) (a .1)) in
+      let n = countOfKind 7 (since 6 q) in
+      let forms = countOfKind 5 q in
+      let g = within-limit 8 (countOfKind 8 (since 6 q)) (both (within 7 8 (kind (last q))) (conditionShape w)) (conditionRange forms n w) (rule-passed job (c .words) 8 pos (a .2) (a .1)) in
       let members : Run job 7 (at + 1) m = run 7 (at + 1) in
       let sofar : Run job 8 (at + 1 + m) i = λ j l. led 8 (at + 1 + m) j (omega arith) .1 in
       let sevens = run-since job 7 (at + 1) 7 m (λ z. omega arith) members in

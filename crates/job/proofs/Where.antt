@@ -8,16 +8,17 @@ use native.Mathlib.Nat.{zero-add}
 use native.Mathlib.Numerals.{add-one}
 use native.Mathlib.Decide.{decLt}
 use native.Mathlib.Omega.{arith}
-use borrow.Author.Tests.{eq-eqb, ne-eqb, eqb-true, eqb-false}
+use borrow.Author.Tests.{eq-eqb, ne-eqb}
 use lib.Dec.{eqb}
 use lib.ListN.{length, getD, drop, set, replicate, length-append, length-set, List·getD-append}
 use lib.Seq.{sets, sets-eq, getD-at}
 use Rattle.words.specs.Tests.{pick, one}
-use Rattle.words.specs.Fields.{kind}
-use Rattle.job.specs.Before.{before, count}
+use Rattle.words.specs.Fields.{ofKind, kind}
+use Rattle.words.proofs.Choices.{same-or-not}
+use Rattle.job.specs.Before.{before, countOfKind}
 use Rattle.words.specs.Scan.{fromNumber}
 use Rattle.job.specs.Index.{positions, placesUpto}
-use Rattle.job.specs.Parts.{ofKind, total}
+use Rattle.job.specs.Parts.{total}
 use Rattle.job.specs.WellFormed.{Placed}
 use Rattle.job.proofs.Laws.{count-more, count-none, count-grows}
 
@@ -43,7 +44,7 @@ module _ (k : ℕ) (job : List ℕ) where
     positions-miss h = positions-more ∙ rw (ne-eqb _ _ h, append-nil)
 
   -- there are as many as words of the kind
-  pub positions-count : (i : ℕ) → length (positions k job i) ≡ count k (before job i)
+  pub positions-count : (i : ℕ) → length (positions k job i) ≡ countOfKind k (before job i)
   positions-count zero = rw (positions-none, count-none job k)
   positions-count (suc i) = rw (← (add-one i)) (positions-length ∙ ap (λ (n : ℕ). n + one (eqb (kind (getD job i 0)) k)) (positions-count i) ∙ sym (count-more job i k))
     where
@@ -66,9 +67,9 @@ module _ (k : ℕ) (job : List ℕ) where
 
 module _ {k : ℕ} {job : List ℕ} {i : ℕ} {ps : List ℕ} {n : ℕ} (m : Marked k job i ps n) where
   -- a word of the kind finds room, where there are at most 64 up to a later one
-  pub room : (upto : ℕ) → i < upto → kind (getD job i 0) ≡ k → count k (before job upto) ≤ 64 → n < 64
+  pub room : (upto : ℕ) → i < upto → kind (getD job i 0) ≡ k → countOfKind k (before job upto) ≤ 64 → n < 64
   room upto l h few =
-      let more : count k (before job (i + 1)) ≡ count k (before job i) + 1 = rw (eq-eqb _ _ h) at (count-more job i k) in
+      let more : countOfKind k (before job (i + 1)) ≡ countOfKind k (before job i) + 1 = rw (eq-eqb _ _ h) at (count-more job i k) in
       omega (arith, m .total, positions-count k job i, more, count-grows k job (i + 1) upto (omega arith))
 
   pub hit : kind (getD job i 0) ≡ k → Marked k job (i + 1) (set ps n i) (n + 1)
@@ -83,18 +84,11 @@ module _ {k : ℕ} {job : List ℕ} {i : ℕ} {ps : List ℕ} {n : ℕ} (m : Mar
   pub miss : (kind (getD job i 0) ≡ k → ⊥) → Marked k job (i + 1) ps n
   miss h = let e = positions-miss k job i h in record { long = m .long; total = rw e (m .total); entries = rw e (m .entries) }
 
-same-or-not : (a b : ℕ) → (a ≡ b) ⊎ (a ≡ b → ⊥)
-same-or-not a b = cases (eqb a b) refl
-  where
-    cases : (t : Bool) → eqb a b ≡ t → (a ≡ b) ⊎ (a ≡ b → ⊥)
-    cases true e = inl (eqb-true a b e)
-    cases false e = inr (eqb-false a b e)
-
 -- position i has word j of kind k
 pub record IsWord (job : List ℕ) (k j i : ℕ) : Type 0 where
   pub inside : i < length job
   pub of-kind : kind (getD job i 0) ≡ k
-  pub numbered : count k (before job i) ≡ j
+  pub numbered : countOfKind k (before job i) ≡ j
 
 -- the position of each word of kind k
 pub is-word : (k : ℕ) (job : List ℕ) (i : ℕ) → i ≤ length job → (j : ℕ) → j < length (positions k job i) → IsWord job k j (getD (positions k job i) j 0)
@@ -117,13 +111,13 @@ is-word k job (suc i) l j h = cases (same-or-not (kind (getD job i 0)) k) (is-wo
         (record { inside = omega arith; of-kind = y; numbered = sym (positions-count k job i) ∙ last }))
 
 -- a count of the words before, with the first word apart
-pub count-cons : (k w : ℕ) (ws : List ℕ) (i : ℕ) → count k (before (w ∷ ws) (suc i)) ≡ one (eqb (kind w) k) + count k (before ws i)
-unfolding count before
+pub count-cons : (k w : ℕ) (ws : List ℕ) (i : ℕ) → countOfKind k (before (w ∷ ws) (suc i)) ≡ one (eqb (kind w) k) + countOfKind k (before ws i)
+unfolding countOfKind before
 count-cons k w ws zero = omega arith
 count-cons k w ws (suc i) = omega (arith, count-cons k w ws i)
 
 -- the words from number j of a kind on begin at its position
-pub from-position : (k : ℕ) (ws : List ℕ) (i j : ℕ) → i < length ws → kind (getD ws i 0) ≡ k → count k (before ws i) ≡ j
+pub from-position : (k : ℕ) (ws : List ℕ) (i j : ℕ) → i < length ws → kind (getD ws i 0) ≡ k → countOfKind k (before ws i) ≡ j
     → fromNumber (ofKind k) j ws ≡ drop i ws
 unfolding fromNumber
 from-position k [] i j l h c = absurd (omega arith)
@@ -131,8 +125,8 @@ from-position k (w ∷ ws) zero zero l h c = rw (eq-eqb (kind w) k h)
 from-position k (w ∷ ws) zero (suc j) l h c = absurd (omega (arith, count-none (w ∷ ws) k))
 from-position k (w ∷ ws) (suc i) j l h c = cases (eqb (kind w) k) refl j (rw (count-cons k w ws i) at c) (λ j. from-position k ws i j (omega arith) h)
   where
-    cases : (t : Bool) → eqb (kind w) k ≡ t → (j : ℕ) → one (eqb (kind w) k) + count k (before ws i) ≡ j
-        → ((j : ℕ) → count k (before ws i) ≡ j → fromNumber (ofKind k) j ws ≡ drop i ws) → fromNumber (ofKind k) j (w ∷ ws) ≡ drop i ws
+    cases : (t : Bool) → eqb (kind w) k ≡ t → (j : ℕ) → one (eqb (kind w) k) + countOfKind k (before ws i) ≡ j
+        → ((j : ℕ) → countOfKind k (before ws i) ≡ j → fromNumber (ofKind k) j ws ≡ drop i ws) → fromNumber (ofKind k) j (w ∷ ws) ≡ drop i ws
     cases true e zero c ih = absurd (let z = rw e at c in omega arith)
     cases true e (suc j) c ih = rw e (ih j (let z = rw e at c in omega arith))
     cases false e zero c ih = rw e (ih zero (let z = rw e at c in omega arith))

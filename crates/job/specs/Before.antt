@@ -18,9 +18,9 @@ last [] = 0
 last (w ∷ p) = w
 
 -- how many words are of kind k
-unfoldable pub count : ℕ → List ℕ → ℕ
-count k [] = 0
-count k (w ∷ p) = count k p + one (eqb (kind w) k)
+unfoldable pub countOfKind : ℕ → List ℕ → ℕ
+countOfKind k [] = 0
+countOfKind k (w ∷ p) = countOfKind k p + one (eqb (kind w) k)
 
 -- the words after the last one of kind k
 unfoldable pub since : ℕ → List ℕ → List ℕ

@@ -4,9 +4,9 @@ use mathlib.Core.List.{List, map}
 use Prim.Native.Nat.{ℕ}
 use lib.Dec.{eqb}
 use lib.ListN.{getD, length, drop}
-use Rattle.words.specs.Fields.{kind, fluentsOf, actionsOf, lastOf, durationOf, memberNode}
+use Rattle.words.specs.Fields.{ofKind, fluentsOf, actionsOf, lastOf, durationOf, memberNode}
 use Rattle.words.specs.Scan.{leading, beyond, fromNumber}
-use Rattle.job.specs.Before.{before, count}
+use Rattle.job.specs.Before.{before, countOfKind}
 
 abbrev pub headWord : List ℕ → ℕ
 headWord job = getD job 0 0
@@ -20,12 +20,9 @@ actions job = actionsOf (headWord job)
 abbrev pub lastMoment : List ℕ → ℕ
 lastMoment job = lastOf (headWord job)
 
-abbrev pub ofKind : ℕ → ℕ → Bool
-ofKind k w = eqb (kind w) k
-
 -- how many words of kind k there are; the job's words from number j of them on; that word
 abbrev pub total : ℕ → List ℕ → ℕ
-total k job = count k (before job (length job))
+total k job = countOfKind k (before job (length job))
 
 abbrev pub wordsFrom : ℕ → List ℕ → ℕ → List ℕ
 wordsFrom k job j = fromNumber (ofKind k) j job

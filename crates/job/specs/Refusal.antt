@@ -6,9 +6,9 @@ use lib.Dec.{eqb}
 use lib.ListN.{getD, length}
 use Rattle.words.specs.Tests.{pick, both, within}
 use Rattle.words.specs.Fields.{kind, form, actionsOf}
-use Rattle.words.specs.Scan.{any}
+use Rattle.words.specs.Scan.{someWord}
 use Rattle.job.specs.Rules.{headRefusal, knownRefusal, actionRefusal, lawRefusal, sameFluent, formulaShape, formulaRange, formulaRefusal, nodeShape, nodeRange, nodeRefusal, memberRefusal, conditionShape, conditionRange, conditionRefusal}
-use Rattle.job.specs.Before.{before, last, count, since, latest, named}
+use Rattle.job.specs.Before.{before, last, countOfKind, since, latest, named}
 use Rattle.answers.specs.declared.Refusal.{Refusal}
 use Rattle.answers.specs.Rows.{row, orElse, firstOf}
 
@@ -21,13 +21,13 @@ lookup k (e ∷ rest) = pick (eqb k (e .0)) (e .1) (lookup k rest)
 abbrev pub rules : ℕ → List ℕ → ℕ → List (ℕ × ℕ)
 rules head p w =
     (1, headRefusal (length p) w)
-    ∷ (2, knownRefusal head (last p) (any (sameFluent head w) (since 1 p)) w)
-    ∷ (3, actionRefusal (last p) (count 3 p) w)
-    ∷ (4, lawRefusal head (last p) (any (sameFluent head w) (since 3 p)) w)
-    ∷ (5, formulaRefusal (last p) (count 5 p) (formulaShape head w) (formulaRange head (count 5 p) w))
-    ∷ (6, nodeRefusal (last p) (count 6 p) (nodeShape w) (nodeRange (count 3 p) (count 5 p) (count 6 p) w))
-    ∷ (7, memberRefusal (last p) (count 6 p) (count 7 (since 6 p)) w)
-    ∷ (8, conditionRefusal (last p) (count 8 (since 6 p)) (conditionShape w) (conditionRange (count 5 p) (count 7 (since 6 p)) w))
+    ∷ (2, knownRefusal head (last p) (someWord (sameFluent head w) (since 1 p)) w)
+    ∷ (3, actionRefusal (last p) (countOfKind 3 p) w)
+    ∷ (4, lawRefusal head (last p) (someWord (sameFluent head w) (since 3 p)) w)
+    ∷ (5, formulaRefusal (last p) (countOfKind 5 p) (formulaShape head w) (formulaRange head (countOfKind 5 p) w))
+    ∷ (6, nodeRefusal (last p) (countOfKind 6 p) (nodeShape w) (nodeRange (countOfKind 3 p) (countOfKind 5 p) (countOfKind 6 p) w))
+    ∷ (7, memberRefusal (last p) (countOfKind 6 p) (countOfKind 7 (since 6 p)) w)
+    ∷ (8, conditionRefusal (last p) (countOfKind 8 (since 6 p)) (conditionShape w) (conditionRange (countOfKind 5 p) (countOfKind 7 (since 6 p)) w))
     ∷ []
 
 unfoldable pub wordRefusal : ℕ → List ℕ → ℕ → ℕ
@@ -39,19 +39,20 @@ refusalOf job i = wordRefusal (getD job 0 0) (before job i) (getD job i 0)
 
 -- the last node is a set without members
 abbrev pub emptySet : List ℕ → Bool
-emptySet p = both (eqb (form (latest 6 p)) 8) (eqb (count 7 (since 6 p)) 0)
+emptySet p = both (eqb (form (latest 6 p)) 8) (eqb (countOfKind 7 (since 6 p)) 0)
 
 -- a node that is not named exactly once
 unfoldable pub nameRefusal : List ℕ → ℕ → ℕ
 nameRefusal p v = pick (eqb (named v p) 1) 0 5
 
--- the rows of the job end: p has all words, and the root is its last node
+-- the rows of the job end: p has all words, and the root is its last node. Row 3's position is the job's length; row 5's is a node's
+-- number, or 0 where there is no node.
 unfoldable pub endRefusal : ℕ → ℕ → List ℕ → Refusal
 endRefusal head len p =
-    orElse (row (not (eqb (count 3 p) (actionsOf head))) 3 len)
-    (orElse (row (eqb (count 6 p) 0) 5 0)
-    (orElse (row (emptySet p) 5 (count 6 p - 1))
-    (firstOf (nameRefusal p) (count 6 p - 1))))
+    orElse (row (not (eqb (countOfKind 3 p) (actionsOf head))) 3 len)
+    (orElse (row (eqb (countOfKind 6 p) 0) 5 0)
+    (orElse (row (emptySet p) 5 (countOfKind 6 p - 1))
+    (firstOf (nameRefusal p) (countOfKind 6 p - 1))))
 
 unfoldable pub jobRefusal : List ℕ → Refusal
 jobRefusal job =

@@ -37,7 +37,8 @@ abbrev pub lawRefusal : ℕ → ℕ → Bool → ℕ → ℕ
 lawRefusal head last listed w =
     grade (both (within 3 4 (kind last)) (lawSpare head w)) (ltb (fluentOf head w) (fluentsOf head)) (not listed)
 
--- two words of one kind list the same fluent; of laws, in the same pair of roles: needs (0, 1) or makes (2, 3)
+-- two words of one kind list the same fluent; of laws, in the same pair of roles: needs (0, 1) or makes (2, 3). In words of kind 2 the bit
+-- that `roleOf / 2` reads is spare, so that the fluent alone counts.
 abbrev pub sameFluent : ℕ → ℕ → ℕ → Bool
 sameFluent head w v =
     both (both (eqb (kind v) (kind w)) (eqb (roleOf head v / 2) (roleOf head w / 2))) (eqb (fluentOf head v) (fluentOf head w))

@@ -1,4 +1,5 @@
--- What a job has that no row on its length, its words or its end fits: what the layers above may use. `wellFormed` (proofs) shows it.
+-- What a well-formed job, one that no row on its length, its words or its end fits (`jobRefusal job .number ≡ 0`), has: what the layers
+-- above may use. `well-formed` (proofs/WellFormed.antt) shows it.
 use mathlib.Core.List.{List}
 use mathlib.Core.Path.{_≡_}
 use mathlib.Core.Logic.{_⊎_}

@@ -2,14 +2,14 @@
 ghost use mathlib.Core.Path.{_≡_};
 ghost use Prim.Native.Nat.{_≤_};
 ghost use lib.ListN.{length};
-ghost use Rattle.job.specs.Before.{before, count};
+ghost use Rattle.job.specs.Before.{before, countOfKind};
 ghost use Rattle.job.specs.Index.{placesUpto, indexUpto};
 use crate::Index;
 use crate::Places;
 
 // The positions of the words of kind `k` among the first `n`.
 fn place_words(job: &[u32], k: u32, n: usize) -> Places
-    requires { ⌜ (n ≤ length (now job)) × (count k (before (now job) n) ≤ 64) ⌝ }
+    requires { ⌜ (n ≤ length (now job)) × (countOfKind k (before (now job) n) ≤ 64) ⌝ }
     ensures { λ r. ⌜ r ≡ placesUpto k (now (job .entry)) n ⌝ }
 {
     let mut position = [0usize; 64];
@@ -27,7 +27,7 @@ fn place_words(job: &[u32], k: u32, n: usize) -> Places
 
 // The index of the first `n` words.
 pub fn index_words(job: &[u32], n: usize) -> Index
-    requires { ⌜ (n ≤ length (now job)) × (count 3 (before (now job) n) ≤ 64) × (count 5 (before (now job) n) ≤ 64) × (count 6 (before (now job) n) ≤ 64) ⌝ }
+    requires { ⌜ (n ≤ length (now job)) × (countOfKind 3 (before (now job) n) ≤ 64) × (countOfKind 5 (before (now job) n) ≤ 64) × (countOfKind 6 (before (now job) n) ≤ 64) ⌝ }
     ensures { λ r. ⌜ r ≡ indexUpto (now (job .entry)) n ⌝ }
 {
     let actions = place_words(job, 3, n);

@@ -94,8 +94,8 @@ pub fn formula_range(head: u32, formulas: usize, w: u32) -> bool
     ensures { λ r. ⌜ r ≡ formulaRange head formulas w ⌝ }
 {
     let f = w / 16777216 % 16;
-    let x = (w / 64 % 64) as usize;
-    let y = (w / 1 % 64) as usize;
+    let x = words::formula_x(w);
+    let y = words::formula_y(w);
     let atom = words::atom_fluent(head, w) < words::fluents_of(head);
     (!(f == 1) | atom)
         & (!((2 <= f) & (f <= 4)) | (x < formulas))
@@ -117,10 +117,10 @@ pub fn node_range(actions: usize, formulas: usize, nodes: usize, w: u32) -> bool
     ensures { λ r. ⌜ r ≡ nodeRange actions formulas nodes w ⌝ }
 {
     let f = w / 16777216 % 16;
-    let x = (w / 262144 % 64) as usize;
-    let y = (w / 4096 % 64) as usize;
-    let m = (w / 64 % 64) as usize;
-    let late = (w / 1 % 64) as usize;
+    let x = words::node_x(w);
+    let y = words::node_y(w);
+    let m = words::node_m(w);
+    let late = words::node_n(w);
     let window = (6 <= f) & (f <= 7);
     (!(f == 0) | (x < actions))
         & (!((f == 1) | ((4 <= f) & (f <= 5))) | (x < formulas))
@@ -134,17 +134,23 @@ pub fn condition_shape(w: u32) -> bool
     ensures { λ r. ⌜ r ≡ conditionShape w ⌝ }
 {
     let f = w / 16777216 % 16;
-    ((f <= 1) & (w / 262144 % 64 == 0)) | ((2 <= f) & (f <= 3) & (w / 4096 % 8 == 0)) | (f == 4)
+    let k = words::condition_formula(w);
+    let j = words::condition_j(w);
+    ((f <= 1) & (k == 0)) | ((2 <= f) & (f <= 3) & (j == 0)) | (f == 4)
 }
 
 pub fn condition_range(formulas: usize, members: usize, w: u32) -> bool
     ensures { λ r. ⌜ r ≡ conditionRange formulas members w ⌝ }
 {
     let f = w / 16777216 % 16;
-    (!((2 <= f) & (f <= 4)) | (((w / 262144 % 64) as usize) < formulas))
-        & (((w / 32768 % 8) as usize) < members)
-        & (!((f <= 1) | (f == 4)) | (((w / 4096 % 8) as usize) < members))
-        & (!(f <= 3) | (w / 64 % 64 <= w / 1 % 64))
+    let k = words::condition_formula(w);
+    let i = words::condition_i(w);
+    let j = words::condition_j(w);
+    let window = words::condition_m(w) <= words::condition_n(w);
+    (!((2 <= f) & (f <= 4)) | (k < formulas))
+        & (i < members)
+        & (!((f <= 1) | (f == 4)) | (j < members))
+        & (!(f <= 3) | window)
 }
 
 // A word of a kind of which there are at most `most`.
@@ -181,7 +187,7 @@ pub fn member(last: u32, nodes: usize, members: usize, w: u32) -> u32
 {
     let k = last / 268435456 % 16;
     let set = (k == 6) & (last / 16777216 % 16 == 8);
-    let range = ((w / 1 % 64 + 1) as usize) < nodes;
+    let range = words::member_node(w) + 1 < nodes;
     limited_to(
         4,
         members,
@@ -195,11 +201,9 @@ pub fn names_of(v: usize, w: u32) -> usize
 {
     let k = w / 268435456 % 16;
     let f = w / 16777216 % 16;
-    let x = (k == 6)
-        & (((2 <= f) & (f <= 3)) | ((6 <= f) & (f <= 7)))
-        & ((w / 262144 % 64) as usize == v);
-    let y = (k == 6) & ((2 <= f) & (f <= 7)) & ((w / 4096 % 64) as usize == v);
-    let m = (k == 6) & (f == 4) & ((w / 64 % 64) as usize == v);
-    let z = (k == 7) & ((w / 1 % 64) as usize == v);
+    let x = (k == 6) & (((2 <= f) & (f <= 3)) | ((6 <= f) & (f <= 7))) & (words::node_x(w) == v);
+    let y = (k == 6) & ((2 <= f) & (f <= 7)) & (words::node_y(w) == v);
+    let m = (k == 6) & (f == 4) & (words::node_m(w) == v);
+    let z = (k == 7) & (words::member_node(w) == v);
     one_if(x) + one_if(y) + one_if(m) + one_if(z)
 }

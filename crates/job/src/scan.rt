@@ -2,7 +2,7 @@
 ghost use mathlib.Core.Path.{_≡_};
 ghost use Prim.Native.Nat.{_+_, _<_, _≤_};
 ghost use lib.ListN.{length};
-ghost use Rattle.words.specs.Scan.{any};
+ghost use Rattle.words.specs.Scan.{someWord};
 ghost use Rattle.answers.specs.Rows.{firstOf};
 ghost use Rattle.job.specs.Rules.{sameFluent};
 ghost use Rattle.job.specs.Before.{before, last, since};
@@ -23,7 +23,7 @@ fn previous(job: &[u32], i: usize) -> u32
 // Whether a word since the last one of kind `k` lists what `w` lists.
 fn listed(job: &[u32], i: usize, k: u32, head: u32, w: u32) -> bool
     requires { ⌜ i ≤ length (now job) ⌝ }
-    ensures { λ r. ⌜ r ≡ any (sameFluent head w) (since k (before (now (job .entry)) i)) ⌝ }
+    ensures { λ r. ⌜ r ≡ someWord (sameFluent head w) (since k (before (now (job .entry)) i)) ⌝ }
 {
     let mut j = i;
     while 0 < j {

@@ -13,7 +13,8 @@ use Rattle.promise.specs.Procedure.{Procedure}
 use Rattle.reading.specs.Forms.{Form, Act, Test, Sequence, Choice, If, While, StartWindow, EndWindow, Set, formAt, fieldX, fieldY, fieldM}
 use Rattle.reading.specs.Reading.{whole, Reading, act, test, sequence, first, second, taken, otherwise, loop, startWindow, endWindow, set}
 use Rattle.reading.proofs.Step.{onward}
-use Rattle.lengths.specs.Children.{childrenAs, children, times, NamedOnce}
+use Rattle.words.specs.Scan.{times}
+use Rattle.lengths.specs.Children.{childrenAs, children, NamedOnce}
 use Rattle.lengths.specs.Bound.{isWhile, loopAbove, weight, lengthBound}
 use Rattle.lengths.proofs.Sums.{total, times-first, times-second, times-at, below-times, sum-le, total-cong, total-mul, joined-le}
 use Rattle.lengths.proofs.Tree.{Lower, branch, branch-is, root-is}

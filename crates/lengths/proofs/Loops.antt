@@ -10,9 +10,9 @@ use borrow.Author.Tests.{lt-ltb, le-ltb}
 use Rattle.words.specs.Tests.{both, either}
 use Rattle.promise.specs.Procedure.{Procedure}
 use Rattle.reading.specs.Forms.{formAt}
-use Rattle.lengths.specs.Children.{children, times, NamedOnce}
+use Rattle.lengths.specs.Children.{children, NamedOnce}
 use Rattle.lengths.specs.Bound.{isWhile, names, loopWithin, loopAbove}
-use Rattle.words.specs.Scan.{someBelow}
+use Rattle.words.specs.Scan.{someBelow, times}
 use Rattle.lengths.proofs.Sums.{below-times, sum-two}
 use Rattle.lengths.proofs.Tree.{Lower}
 

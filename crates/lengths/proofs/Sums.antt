@@ -10,9 +10,8 @@ use lib.ListN.{length, getD, length-append}
 use borrow.Author.Tests.{eq-eqb, ne-eqb}
 use lib.Dec.{eqb}
 use Rattle.words.specs.Tests.{one}
+use Rattle.words.specs.Scan.{times, joined}
 use Rattle.bitset.specs.Members.{sum}
-use Rattle.reading.specs.Reading.{joined}
-use Rattle.lengths.specs.Children.{times}
 
 -- the sum of f over a list
 unfoldable pub total : (ℕ → ℕ) → List ℕ → ℕ

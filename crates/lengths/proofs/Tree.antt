@@ -6,7 +6,8 @@ use native.Mathlib.Nat.{le-refl, le-of-eq, one-mul, add-mul}
 use native.Mathlib.Omega.{arith}
 use Rattle.bitset.specs.Members.{sum}
 use Rattle.promise.specs.Procedure.{Procedure}
-use Rattle.lengths.specs.Children.{children, times, NamedOnce}
+use Rattle.words.specs.Scan.{times}
+use Rattle.lengths.specs.Children.{children, NamedOnce}
 use Rattle.lengths.proofs.Sums.{total, Below, below-le, below-times, sum-cong, sum-both, total-cong, total-times}
 
 -- children have lower numbers

@@ -3,11 +3,11 @@ use Prim.Native.Nat.{ℕ, zero, suc}
 use mathlib.Core.Bool.{Bool, true, false}
 use lib.Dec.{ltb}
 use Rattle.words.specs.Tests.{pick, both, either}
-use Rattle.words.specs.Scan.{someBelow}
+use Rattle.words.specs.Scan.{someBelow, times}
 use Rattle.bitset.specs.Members.{sum}
 use Rattle.promise.specs.Procedure.{Procedure}
 use Rattle.reading.specs.Forms.{Form, Act, Test, Sequence, Choice, If, While, StartWindow, EndWindow, Set, Reserved, formAt}
-use Rattle.lengths.specs.Children.{children, times}
+use Rattle.lengths.specs.Children.{children}
 
 abbrev pub isWhile : Form → Bool
 isWhile Act = false

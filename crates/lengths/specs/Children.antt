@@ -1,9 +1,8 @@
 -- The children that a node names.
-use Prim.Native.Nat.{ℕ, suc, _+_, _<_}
+use Prim.Native.Nat.{ℕ, suc, _<_}
 use mathlib.Core.Path.{_≡_}
 use mathlib.Core.List.{List, [], _∷_}
-use lib.Dec.{eqb}
-use Rattle.words.specs.Tests.{one}
+use Rattle.words.specs.Scan.{times}
 use Rattle.bitset.specs.Members.{sum}
 use Rattle.promise.specs.Procedure.{Procedure}
 use Rattle.reading.specs.Forms.{Form, Act, Test, Sequence, Choice, If, While, StartWindow, EndWindow, Set, Reserved, formAt, fieldX, fieldY, fieldM}
@@ -23,11 +22,6 @@ childrenAs P Reserved p = []
 
 abbrev pub children : Procedure → ℕ → List ℕ
 children P p = childrenAs P (formAt P p) p
-
--- how often q stands in a list
-unfoldable pub times : ℕ → List ℕ → ℕ
-times q [] = 0
-times q (x ∷ xs) = one (eqb q x) + times q xs
 
 -- each node but the root is named as a child exactly once
 abbrev pub NamedOnce : Procedure → Type 0

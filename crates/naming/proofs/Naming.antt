@@ -9,20 +9,20 @@ use borrow.Author.Tests.{eqb-true, ne-eqb}
 use lib.Dec.{eqb, ltb}
 use lib.ListN.{length, getD}
 use Rattle.words.specs.Tests.{either}
-use Rattle.words.specs.Fields.{kind, isSet, memberNode}
-use Rattle.words.specs.Scan.{leading, fromNumber}
+use Rattle.words.specs.Fields.{ofKind, kind, isSet, memberNode}
+use Rattle.words.specs.Scan.{leading, fromNumber, times}
 use Rattle.words.proofs.Choices.{both-true, same-or-not, eqb-swap, true-false}
 use Rattle.bitset.specs.Members.{sum}
 use Rattle.job.specs.Rules.{names}
-use Rattle.job.specs.Before.{before, last, count, since, named}
+use Rattle.job.specs.Before.{before, last, countOfKind, since, named}
 use Rattle.job.specs.Refusal.{jobRefusal}
-use Rattle.job.specs.Parts.{ofKind, nodeCount, nodeWord, memberWords}
+use Rattle.job.specs.Parts.{nodeCount, nodeWord, memberWords}
 use Rattle.job.proofs.Laws.{before-suc}
 use Rattle.job.proofs.Table.{within-limit}
 use Rattle.job.proofs.Where.{count-cons}
 use Rattle.job.proofs.Parts.{rule}
 use Rattle.job.proofs.WellFormed.{well-formed}
-use Rattle.naming.specs.Naming.{times, childTimes}
+use Rattle.naming.specs.Naming.{childTimes}
 
 -- a sum with its first term apart
 sum-first : (f : ℕ → ℕ) (n : ℕ) → sum f (suc n) ≡ f 0 + sum (λ i. f (suc i)) n
@@ -117,7 +117,7 @@ module _ (v w : ℕ) (ws : List ℕ) where
 
 -- the words name a node as often as the members that lead them and the nodes, each with its members
 by-words : (v : ℕ) (ws : List ℕ) → Led ws → named v (before ws (length ws)) ≡ leads v ws + sum (childTimes ws v) (nodeCount ws)
-unfolding named count before leading times sum
+unfolding named countOfKind before leading times sum
 by-words v [] led = refl
 by-words v (w ∷ ws) led = step v w ws led (by-words v ws (λ i l. led (suc i) (omega arith)))
 
@@ -126,7 +126,7 @@ module _ (job : List ℕ) (ok : jobRefusal job .number ≡ 0) where
   pub follows : (i : ℕ) → i < length job → kind (getD job i 0) ≡ 7 → either (isSet (last (before job i))) (eqb (kind (last (before job i))) 7) ≡ true
   follows i l h =
       let p = before job i in
-      both-true _ _ (within-limit 4 (count 7 (since 6 p)) _ (ltb (memberNode (getD job i 0) + 1) (count 6 p)) (rule job ok 7 i l h) .0) .0
+      both-true _ _ (within-limit 4 (countOfKind 7 (since 6 p)) _ (ltb (memberNode (getD job i 0) + 1) (countOfKind 6 p)) (rule job ok 7 i l h) .0) .0
 
   led : Led job
   unfolding last

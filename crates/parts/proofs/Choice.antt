@@ -5,14 +5,14 @@ use mathlib.Core.Logic.{_⊎_, inl, inr, ⊎-elim}
 use mathlib.Core.List.{List, [], _∷_, _++_}
 use native.Mathlib.Omega.{arith}
 use lib.ListN.{length, getD, take, drop, length-map, length-take, length-drop, List·getD-map}
+use Rattle.words.specs.Scan.{joined}
 use Rattle.words.specs.Fields.{holds, memberNode, readingWord}
 use Rattle.promise.specs.Trajectory.{Trajectory}
 use Rattle.promise.specs.Procedure.{Procedure}
-use Rattle.sets.specs.Ends.{taskset, at, Placeable, Placed}
+use Rattle.sets.specs.Ends.{taskset, at, Placeable, Placed, InTable}
 use Rattle.reading.specs.Forms.{Form, Act, Test, Sequence, Choice, If, While, StartWindow, EndWindow, Set, Reserved, formNumber, formAt, fieldX, fieldY, fieldM, fieldN, FormedAs, taskSet}
-use Rattle.reading.specs.Reading.{whole, joined, Reading, act, test, sequence, first, second, taken, otherwise, startWindow, endWindow, set, Ends}
+use Rattle.reading.specs.Reading.{whole, Reading, act, test, sequence, first, second, taken, otherwise, startWindow, endWindow, set, Ends}
 use Rattle.reading.specs.Rule.{Rule}
-use Rattle.reading.specs.Table.{InTable}
 use Rattle.reading.proofs.Step.{step, carry}
 use Rattle.parts.specs.Search.{CutAt, StartAt}
 use Rattle.parts.specs.declared.Parts.{Parts}

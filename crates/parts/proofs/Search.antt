@@ -10,10 +10,11 @@ use native.Mathlib.Omega.{arith}
 use lib.Dec.{leb, ltb, eqb}
 use lib.Pow.{pow-pos}
 use borrow.Author.Tests.{leb-true, le-leb, lt-ltb, ne-eqb}
+use Rattle.sets.specs.Ends.{InTable}
 use Rattle.bitset.specs.Members.{has, Holds, In, Lowest, Dropped, Max}
 use Rattle.bitset.proofs.Laws.{not-both, and-both, both, has-zero, has-past}
 use Rattle.bitset.proofs.Ends.{lowest-le}
-use Rattle.reading.specs.Table.{rowAt, InTable}
+use Rattle.reading.specs.Table.{rowAt}
 use Rattle.parts.specs.Search.{Meets, FirstMeets, CutAt, Ends, StartAt}
 
 -- ---- a begin that meets

@@ -3,13 +3,14 @@ use Prim.Native.Nat.{ℕ, _≤_, _<_}
 use mathlib.Core.Path.{_≡_}
 use mathlib.Core.List.{List, [], _∷_}
 use lib.ListN.{getD}
+use Rattle.words.specs.Scan.{joined}
 use Rattle.words.specs.Fields.{readingWord}
 use Rattle.promise.specs.Trajectory.{Trajectory}
 use Rattle.promise.specs.Procedure.{Procedure}
 use Rattle.sets.specs.Set.{TaskSet, size, member}
-use Rattle.sets.specs.Ends.{Placed}
-use Rattle.reading.specs.Reading.{whole, joined, Reading}
-use Rattle.reading.specs.Table.{InTable, Found}
+use Rattle.sets.specs.Ends.{Placed, InTable}
+use Rattle.reading.specs.Reading.{whole, Reading}
+use Rattle.reading.specs.Table.{Found}
 use Rattle.reading.specs.World.{Ready}
 use Rattle.parts.specs.declared.Parts.{Parts}
 

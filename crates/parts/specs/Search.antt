@@ -2,8 +2,9 @@
 use Prim.Native.Nat.{ℕ, _+_, _≤_, _<_, max}
 use mathlib.Core.Path.{_≡_}
 use mathlib.Core.List.{List}
+use Rattle.sets.specs.Ends.{InTable}
 use Rattle.bitset.specs.Members.{In, Max}
-use Rattle.reading.specs.Table.{rowAt, InTable}
+use Rattle.reading.specs.Table.{rowAt}
 
 -- m is a begin of node y, from first to last, from which y has an end that with one of the ends xs has the greatest e
 pub record Meets (xs : ℕ) (table : List ℕ) (y first last e m : ℕ) : Type 0 where

@@ -9,7 +9,7 @@ ghost use Rattle.words.specs.Fields.{holds, memberNode};
 ghost use Rattle.sets.specs.Ends.{taskset, Placeable};
 ghost use Rattle.reading.specs.Forms.{While, formAt};
 ghost use Rattle.reading.specs.World.{procedureAt, trajectoryAt};
-ghost use Rattle.reading.specs.Table.{InTable};
+ghost use Rattle.sets.specs.Ends.{InTable};
 ghost use Rattle.parts.specs.Search.{FirstMeets, CutAt, Ends, StartAt};
 ghost use Rattle.parts.specs.Parts.{noParts, onePart, twoParts, PlacedParts, Prepared, Chosen};
 
@@ -221,7 +221,7 @@ fn placed(
 {
     let middle = first + size;
     let members = &words[first..middle];
-    let place = sets::place(
+    let place = sets::placing::place(
         members,
         &words[middle..middle + limit],
         values,

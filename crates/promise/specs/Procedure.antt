@@ -1,4 +1,4 @@
--- A procedure: its nodes, and the members and conditions of its task sets.
+-- A procedure (004's program): its nodes, and the members and conditions of its task sets.
 use Prim.Native.Nat.{ℕ}
 use mathlib.Core.List.{List}
 

@@ -12,8 +12,8 @@ use Rattle.promise.specs.Procedure.{Procedure}
 use Rattle.sets.specs.Set.{TaskSet, size, Formed}
 use Rattle.reading.specs.Forms.{Form, Act, Test, Sequence, Choice, If, While, StartWindow, EndWindow, Set, Reserved, formNumber, formAt, fieldX, taskSet, FormedAs}
 use Rattle.reading.specs.Reading.{Ends}
-use Rattle.reading.specs.Table.{Found}
-use Rattle.reading.specs.Count.{Triple, Read, Counted, Tabulated}
+use Rattle.reading.specs.Table.{Found, Tabulated}
+use Rattle.reading.specs.Count.{Triple, Read, Counted}
 use Rattle.reading.proofs.Transfer.{Asks, Extends, ends-transfer}
 
 -- they agree on each node, and on the starts, durations and values that the nodes ask for, up to the last moment

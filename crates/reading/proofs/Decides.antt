@@ -9,6 +9,7 @@ use native.Mathlib.Omega.{arith}
 use lib.Dec.{eqb, leb}
 use lib.ListN.{length, getD}
 use borrow.Author.Tests.{eqb-true, eq-eqb, leb-true, le-leb}
+use Rattle.sets.specs.Ends.{at}
 use Rattle.words.specs.Tests.{implies}
 use Rattle.words.proofs.Choices.{implies-true}
 use Rattle.words.specs.Fields.{form, fails, holds, conditionFormula, conditionI, conditionJ, conditionM, conditionN}
@@ -18,7 +19,7 @@ use Rattle.sets.specs.Set.{TaskSet, size, member, MetAs, Met, Placing, SetRule,
 use Rattle.reading.specs.Forms.{Form, Act, Test, Sequence, Choice, If, While, StartWindow, EndWindow, Set, Reserved, formAt, fieldX, fieldY, fieldM, fieldN, taskSet, FormedAs}
 use Rattle.reading.specs.Reading.{Ends}
 use Rattle.reading.specs.Rule.{Rule}
-use Rattle.reading.specs.Decision.{some, each, through, metb, insideb, coveredb, conditionb, placingb, tried, at, setb, ruleb, reads}
+use Rattle.reading.specs.Decision.{some, each, through, metb, insideb, coveredb, conditionb, placingb, tried, setb, ruleb, reads}
 use Rattle.reading.proofs.Step.{step, Filled, carry}
 
 -- ---- tests

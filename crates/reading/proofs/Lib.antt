@@ -2,6 +2,7 @@
 --     Step      the rule of each form is sound and complete, and asks only for rows that stand before
 --     Transfer  readings go over to a procedure and a trajectory that agree where they look, and know more
 --     Agreement two that agree where readings look have the same table and count
+--     Forms     the forms and their numbers
 --     Members   the members of the sets that the row functions make
 --     Nodes     nodes by their words
 --     Tables    the table as it is filled
@@ -10,6 +11,7 @@
 pub mod Step
 pub mod Transfer
 pub mod Agreement
+pub mod Forms
 pub mod Members
 pub mod Nodes
 pub mod Tables

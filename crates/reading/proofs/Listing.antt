@@ -7,11 +7,13 @@ use mathlib.Core.List.{List, [], _∷_, _++_, List·Memᴰ, List·Memᴰ·head, 
 use native.Mathlib.Decide.{decLt}
 use native.Mathlib.Omega.{arith}
 use lib.ListN.{length, getD, length-append}
-use Rattle.bitset.specs.Members.{has, In, one, count, sum, pairs, size}
+use Rattle.sets.specs.Ends.{InTable}
+use Rattle.words.specs.Tests.{one}
+use Rattle.bitset.specs.Members.{has, In, count, sum, pairs, size}
 use Rattle.bitset.proofs.Counts.{count-le}
 use Rattle.promise.specs.Trajectory.{Trajectory}
 use Rattle.promise.specs.Procedure.{Procedure}
-use Rattle.reading.specs.Table.{InTable, Found}
+use Rattle.reading.specs.Table.{Found}
 use Rattle.reading.specs.Count.{Triple, Distinct, none, more, Read, Counted}
 use Rattle.reading.proofs.Step.{onward}
 

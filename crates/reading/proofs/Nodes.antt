@@ -1,5 +1,5 @@
--- Nodes by their words: the reserved forms; a node that is no task set, which its word alone tells how to read; a task set, whose members
--- and conditions stand in parts of the job's words. Assumes nothing.
+-- Nodes by their words: a node that is no task set, which its word alone tells how to read; a task set, whose members and conditions stand
+-- in parts of the job's words. Assumes nothing.
 use Prim.Native.Nat.{ℕ, zero, suc, _+_, _-_, _*_, _≤_, _<_}
 use mathlib.Core.Path.{_≡_, refl, sym, ap, subst}
 use mathlib.Core.Logic.{_↔_, inl, Iff·rfl, Iff·trans}
@@ -11,51 +11,12 @@ use Rattle.words.specs.Fields.{form}
 use Rattle.promise.specs.Trajectory.{Trajectory}
 use Rattle.promise.specs.Procedure.{Procedure}
 use Rattle.sets.specs.Set.{TaskSet, member, SetRule}
-use Rattle.sets.specs.Ends.{taskset, SetReady, SetRows}
-use Rattle.sets.proofs.Rows.{rule-map}
+use Rattle.sets.specs.Ends.{taskset, SetReady, SetRows, InTable}
+use Rattle.sets.proofs.Stored.{rule-map}
 use Rattle.reading.specs.Forms.{Form, Act, Test, Sequence, Choice, If, While, StartWindow, EndWindow, Set, Reserved, formNumber, formAt, taskSet, FormedAs}
 use Rattle.reading.specs.Rule.{Rule}
 use Rattle.reading.specs.World.{alone, procedureAt, trajectoryAt}
-use Rattle.reading.specs.Table.{rowAt, InTable, NodeReady, NodeRows}
-
--- a form number from 9 on is reserved
-pub reserved : (k : ℕ) → 9 ≤ k → formNumber k ≡ Reserved
-reserved zero h = absurd (omega arith)
-reserved (suc zero) h = absurd (omega arith)
-reserved (suc (suc zero)) h = absurd (omega arith)
-reserved (suc (suc (suc zero))) h = absurd (omega arith)
-reserved (suc (suc (suc (suc zero)))) h = absurd (omega arith)
-reserved (suc (suc (suc (suc (suc zero))))) h = absurd (omega arith)
-reserved (suc (suc (suc (suc (suc (suc zero)))))) h = absurd (omega arith)
-reserved (suc (suc (suc (suc (suc (suc (suc zero))))))) h = absurd (omega arith)
-reserved (suc (suc (suc (suc (suc (suc (suc (suc zero)))))))) h = absurd (omega arith)
-reserved (suc (suc (suc (suc (suc (suc (suc (suc (suc k))))))))) h = refl
-
--- and one below 9 that is no other form's is a task set's
-pub eighth : (k : ℕ) → k < 9 → (k ≡ 0 → ⊥) → (k ≡ 1 → ⊥) → (k ≡ 2 → ⊥) → (k ≡ 3 → ⊥) → (k ≡ 4 → ⊥) → (k ≡ 5 → ⊥) → (k ≡ 6 → ⊥) → (k ≡ 7 → ⊥) → formNumber k ≡ Set
-eighth zero h a b c d e f g i = absurd (a refl)
-eighth (suc zero) h a b c d e f g i = absurd (b refl)
-eighth (suc (suc zero)) h a b c d e f g i = absurd (c refl)
-eighth (suc (suc (suc zero))) h a b c d e f g i = absurd (d refl)
-eighth (suc (suc (suc (suc zero)))) h a b c d e f g i = absurd (e refl)
-eighth (suc (suc (suc (suc (suc zero))))) h a b c d e f g i = absurd (f refl)
-eighth (suc (suc (suc (suc (suc (suc zero)))))) h a b c d e f g i = absurd (g refl)
-eighth (suc (suc (suc (suc (suc (suc (suc zero))))))) h a b c d e f g i = absurd (i refl)
-eighth (suc (suc (suc (suc (suc (suc (suc (suc zero)))))))) h a b c d e f g i = refl
-eighth (suc (suc (suc (suc (suc (suc (suc (suc (suc k))))))))) h a b c d e f g i = absurd (omega arith)
-
--- and a task set's form is 8
-pub set-number : (k : ℕ) → formNumber k ≡ Set → k ≡ 8
-set-number zero h = let z : _≡_ {A = ℕ} 0 1 = cc in absurd (omega arith)
-set-number (suc zero) h = let z : _≡_ {A = ℕ} 0 1 = cc in absurd (omega arith)
-set-number (suc (suc zero)) h = let z : _≡_ {A = ℕ} 0 1 = cc in absurd (omega arith)
-set-number (suc (suc (suc zero))) h = let z : _≡_ {A = ℕ} 0 1 = cc in absurd (omega arith)
-set-number (suc (suc (suc (suc zero)))) h = let z : _≡_ {A = ℕ} 0 1 = cc in absurd (omega arith)
-set-number (suc (suc (suc (suc (suc zero))))) h = let z : _≡_ {A = ℕ} 0 1 = cc in absurd (omega arith)
-set-number (suc (suc (suc (suc (suc (suc zero)))))) h = let z : _≡_ {A = ℕ} 0 1 = cc in absurd (omega arith)
-set-number (suc (suc (suc (suc (suc (suc (suc zero))))))) h = let z : _≡_ {A = ℕ} 0 1 = cc in absurd (omega arith)
-set-number (suc (suc (suc (suc (suc (suc (suc (suc zero)))))))) h = refl
-set-number (suc (suc (suc (suc (suc (suc (suc (suc (suc k))))))))) h = let z : _≡_ {A = ℕ} 0 1 = cc in absurd (omega arith)
+use Rattle.reading.specs.Table.{rowAt, NodeReady, NodeRows}
 
 -- Two procedures with the same word at p, and the same members and conditions where that is a task set's.
 module _ (P P′ : Procedure) (T : Trajectory) (p : ℕ) (n : P′ .node p ≡ P .node p) where

@@ -7,6 +7,7 @@ use native.Mathlib.Decide.{decLt}
 use native.Mathlib.Omega.{arith}
 use lib.ListN.{length, getD, set, length-set, replicate, length-replicate}
 use lib.Seq.{getD-set-same, getD-set-other}
+use Rattle.sets.specs.Ends.{InTable}
 use Rattle.bitset.specs.Members.{In}
 use Rattle.bitset.proofs.Laws.{not-both, has-zero}
 use Rattle.promise.specs.Trajectory.{Trajectory}
@@ -15,7 +16,7 @@ use Rattle.reading.specs.Forms.{Set, formAt, FormedAs}
 use Rattle.reading.specs.Reading.{Ends}
 use Rattle.reading.specs.Rule.{Rule}
 use Rattle.reading.specs.World.{Ready}
-use Rattle.reading.specs.Table.{rowAt, InTable, Inside, RowReady, RowOf, NodeReady, NodeRows, Blank, Found}
+use Rattle.reading.specs.Table.{rowAt, Inside, RowReady, RowOf, NodeReady, NodeRows, Blank, Found}
 use Rattle.reading.proofs.Step.{onward, step, Filled, carry}
 
 -- two tables with the same row

@@ -7,12 +7,13 @@ use mathlib.Core.Logic.{_⊎_, inl, inr}
 use mathlib.Core.List.{List, _∷_}
 use native.Mathlib.Omega.{arith}
 use lib.ListN.{length, getD}
+use Rattle.words.specs.Scan.{joined}
 use Rattle.words.specs.Fields.{form, fails, unknown, holds, readingWord, conditionFormula, conditionI, conditionJ, conditionM, conditionN}
 use Rattle.promise.specs.Trajectory.{Trajectory}
 use Rattle.promise.specs.Procedure.{Procedure}
 use Rattle.sets.specs.Set.{TaskSet, size, Placing, MetAs, Met, Formed}
 use Rattle.reading.specs.Forms.{Form, Act, Test, Sequence, Choice, If, While, StartWindow, EndWindow, Set, Reserved, formAt, fieldX, taskSet, FormedAs}
-use Rattle.reading.specs.Reading.{Mode, whole, passes, joined, Reading, act, test, sequence, first, second, taken, otherwise, loop, done, pass, startWindow, endWindow, set, Ends}
+use Rattle.reading.specs.Reading.{Mode, whole, passes, Reading, act, test, sequence, first, second, taken, otherwise, loop, done, pass, startWindow, endWindow, set, Ends}
 use Rattle.reading.proofs.Step.{onward}
 
 -- node p asks for formula k, by its own X or by a condition of form 2, 3 or 4

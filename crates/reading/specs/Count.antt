@@ -1,5 +1,5 @@
 -- How many triples of a node, a begin and an end have a reading: the length of a list of distinct triples, which are exactly these.
-use Prim.Native.Nat.{ℕ, _^_, _≤_, _<_}
+use Prim.Native.Nat.{ℕ, _≤_, _<_}
 use mathlib.Core.Path.{_≡_}
 use mathlib.Core.Logic.{_↔_}
 use mathlib.Core.List.{List, [], _∷_, List·Memᴰ}
@@ -7,7 +7,6 @@ use lib.ListN.{length}
 use Rattle.promise.specs.Trajectory.{Trajectory}
 use Rattle.promise.specs.Procedure.{Procedure}
 use Rattle.reading.specs.Reading.{Ends}
-use Rattle.reading.specs.Table.{Found}
 
 pub record Triple : Type 0 where
   pub node : ℕ
@@ -23,15 +22,9 @@ pub data Distinct {A : Type 0} : List A → Type 0 where
 abbrev pub Read : Procedure → Trajectory → Triple → Type 0
 Read P T s = (s .node < P .count) × (s .begin ≤ s .end) × Ends P T (s .node) (s .begin) (s .end)
 
--- r triples have a reading
+-- r triples have a reading; there is one such r alone (`counted-once`, of the crate cases)
 pub record Counted (P : Procedure) (T : Trajectory) (r : ℕ) : Type 0 where
   pub triples : List Triple
   pub distinct : Distinct triples
   pub exact : (s : Triple) → List·Memᴰ s triples ↔ Read P T s
   pub many : length triples ≡ r
-
--- the table has all readings, and r, which fits 24 bits, is how many there are
-pub record Tabulated (P : Procedure) (T : Trajectory) (t : List ℕ) (r : ℕ) : Type 0 where
-  pub table : Found P T t
-  pub count : Counted P T r
-  pub small : r < 2 ^ 24

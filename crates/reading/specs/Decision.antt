@@ -5,6 +5,7 @@ use mathlib.Core.Bool.{Bool, true, false, _&&_, _||_}
 use mathlib.Core.List.{List, [], _∷_}
 use lib.Dec.{eqb, leb}
 use lib.ListN.{length, getD}
+use Rattle.sets.specs.Ends.{at}
 use Rattle.words.specs.Tests.{implies}
 use Rattle.words.specs.Fields.{form, fails, holds, conditionFormula, conditionI, conditionJ, conditionM, conditionN}
 use Rattle.promise.specs.Trajectory.{Trajectory}
@@ -55,9 +56,6 @@ placingb s b e bs es =
 unfoldable pub tried : (ℕ → ℕ → ℕ → Bool) → ℕ → List ℕ → (List ℕ → List ℕ → Bool) → Bool
 tried R n [] f = f [] []
 tried R n (m ∷ ms) f = some (λ x. some (λ y. R m x y && tried R n ms (λ xs ys. f (x ∷ xs) (y ∷ ys))) n) n
-
-abbrev pub at : List ℕ → ℕ → ℕ
-at l i = getD l i 0
 
 unfoldable pub setb : TaskSet → (ℕ → ℕ → ℕ → Bool) → ℕ → ℕ → Bool
 setb s R b e = tried R (suc (s .last)) (s .members) (λ bs es. placingb s b e (at bs) (at es))

@@ -44,7 +44,7 @@ fieldN P p = nodeN (P .node p)
 abbrev pub taskSet : Procedure → Trajectory → ℕ → TaskSet
 taskSet P T p = record { members = P .members p; conditions = P .conditions p; value = T .value; last = T .last }
 
--- node p's children have lower numbers, and its task set is one
+-- node p's children have lower numbers, and its task set is one: what the code asks of a node, no part of the rules of reading
 abbrev pub FormedAs : Procedure → Trajectory → Form → ℕ → Type 0
 FormedAs P T Act p = Unit {0}
 FormedAs P T Test p = Unit {0}

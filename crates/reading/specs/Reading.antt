@@ -1,11 +1,12 @@
 -- What a reading (004's trace) is: node p is read from moment b to moment e, and ws are the words of the nodes that were used, each with
--- its begin and end. The mode tells a whole reading of a node from the passes of a loop, so that a loop's own word stands once.
+-- its begin and end. Starts that no act uses are allowed; b ≤ e follows (`onward`, proofs/Step.antt), and so do the parts' places in b..e. The mode tells a whole reading of a node from the passes of a loop, so that a loop's own word stands once.
 use Prim.Native.Nat.{ℕ, zero, suc, _+_, _<_, _≤_, max}
 use mathlib.Core.Bool.{true}
 use mathlib.Core.Path.{_≡_}
 use mathlib.Core.List.{List, [], _∷_, _++_}
 use native.Mathlib.Omega.{arith}
 use lib.ListN.{length, getD}
+use Rattle.words.specs.Scan.{joined}
 use Rattle.words.specs.Fields.{fails, holds, readingWord}
 use Rattle.promise.specs.Trajectory.{Trajectory}
 use Rattle.promise.specs.Procedure.{Procedure}
@@ -14,11 +15,6 @@ use Rattle.reading.specs.Forms.{Form, Act, Test, Sequence, Choice, If, W
 
 pub data Mode : Type 0 where
   whole passes : Mode
-
--- the lists 0 .. k - 1, one after the other
-unfoldable pub joined : (ℕ → List ℕ) → ℕ → List ℕ
-joined us zero = []
-joined us (suc k) = joined us k ++ us k
 
 pub data Reading (P : Procedure) (T : Trajectory) : Mode → ℕ → ℕ → ℕ → List ℕ → Type 0 where
   -- 0: a start of X at b, and e = b + d

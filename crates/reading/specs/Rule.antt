@@ -1,5 +1,5 @@
 -- The rule of each form, one step deep: when node p has an end e from b, given which ends its parts have, R. Ends beyond the last moment
--- do not count.
+-- do not count. No public contract cites this: `step` (proofs/Step.antt) shows that it says of ends what Reading.antt says of readings.
 use Prim.Native.Nat.{ℕ, _+_, _<_, _≤_, max}
 use mathlib.Core.Bool.{true}
 use mathlib.Core.Path.{_≡_}

@@ -1,22 +1,20 @@
 -- The table of ends: the set at p * 64 + b has the ends that node p reads to from b.
-use Prim.Native.Nat.{ℕ, _+_, _*_, _<_, _≤_}
+use Prim.Native.Nat.{ℕ, _+_, _*_, _^_, _<_, _≤_}
 use mathlib.Core.Path.{_≡_}
 use mathlib.Core.Logic.{_↔_, _⊎_}
 use mathlib.Core.List.{List}
 use lib.ListN.{length, getD}
+use Rattle.sets.specs.Ends.{InTable}
 use Rattle.bitset.specs.Members.{In}
 use Rattle.promise.specs.Trajectory.{Trajectory}
 use Rattle.promise.specs.Procedure.{Procedure}
 use Rattle.reading.specs.Forms.{Set, formAt, FormedAs}
 use Rattle.reading.specs.Reading.{Ends}
 use Rattle.reading.specs.Rule.{Rule}
+use Rattle.reading.specs.Count.{Counted}
 
 abbrev pub rowAt : List ℕ → ℕ → ℕ → ℕ
 rowAt t p b = getD t (p * 64 + b) 0
-
--- the table says that node p has the end e from b
-abbrev pub InTable : List ℕ → ℕ → ℕ → ℕ → Type 0
-InTable t p b e = In (rowAt t p b) e
 
 -- the ends of row b of node q lie from b to n
 abbrev pub Inside : List ℕ → ℕ → ℕ → ℕ → Type 0
@@ -64,3 +62,9 @@ pub record Found (P : Procedure) (T : Trajectory) (t : List ℕ) : Type 0 where
   pub size : length t ≡ 4096
   pub right : (p b e : ℕ) → p < P .count → b ≤ T .last → InTable t p b e ↔ Ends P T p b e
   pub beyond : (p b e : ℕ) → b < 64 → InTable t p b e → (p < P .count) × (b ≤ T .last)
+
+-- the table has all readings, and r, which fits 24 bits, is how many there are
+pub record Tabulated (P : Procedure) (T : Trajectory) (t : List ℕ) (r : ℕ) : Type 0 where
+  pub table : Found P T t
+  pub count : Counted P T r
+  pub small : r < 2 ^ 24

@@ -8,7 +8,8 @@ ghost use lib.ListN.{length};
 ghost use Rattle.bitset.specs.Members.{has, In};
 ghost use Rattle.words.specs.Fields.{fails, holds};
 ghost use Rattle.reading.specs.World.{alone, trajectoryAt};
-ghost use Rattle.reading.specs.Table.{InTable, Inside, After, RowReady, RowOf};
+ghost use Rattle.sets.specs.Ends.{InTable};
+ghost use Rattle.reading.specs.Table.{Inside, After, RowReady, RowOf};
 
 // The moments from `first` to `end`, none after `n`.
 fn window(first: usize, end: usize, n: usize) -> u64
@@ -189,7 +190,9 @@ pub fn row(
             b,
             n,
         ),
-        // reserved: nothing reads such a node
+        // a task set's rows are filled together, by `sets::set_rows`
+        8 => 0,
+        // reserved: refused in a job, and nothing reads such a node
         9..=15 => 0,
         _ => 0,
     }

@@ -4,8 +4,7 @@ ghost use Prim.Native.Nat.{_+_, _<_, _≤_};
 ghost use lib.ListN.{length, getD};
 ghost use Rattle.reading.specs.Forms.{Set, formAt};
 ghost use Rattle.reading.specs.World.{alone, procedureAt, trajectoryAt, Ready};
-ghost use Rattle.reading.specs.Table.{NodeReady, NodeRows, Blank, Found};
-ghost use Rattle.reading.specs.Count.{Tabulated};
+ghost use Rattle.reading.specs.Table.{NodeReady, NodeRows, Blank, Found, Tabulated};
 
 // Fills the rows of node p, which is no task set, begins descending: a loop's row rests on its later rows.
 fn fill_rows(
@@ -50,7 +49,7 @@ fn fill_node(
         let first = at + 1;
         let middle = first + sizes[p];
         let end = middle + limits[p];
-        sets::set_rows(
+        sets::rows::set_rows(
             &words[first..middle],
             &words[middle..end],
             values,

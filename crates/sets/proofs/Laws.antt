@@ -91,3 +91,9 @@ gain-turn new turn old = (
   λ t. ⊎-elim (λ p. ⊎-elim inl (λ b. inr (turn .1 (inl b))) (old .0 p)) (λ c. inr (turn .1 (inr c))) (new .0 t),
   ⊎-elim (λ a. new .1 (inl (old .1 (inl a)))) (λ d. ⊎-elim (λ b. new .1 (inl (old .1 (inr b)))) (λ c. new .1 (inr c)) (turn .0 d)),
 )
+
+pub gain-step : {A B C D E : Type 0} → A ↔ (B ⊎ C) → D ↔ (E ⊎ C) → B ↔ E → A ↔ D
+gain-step new turn old = (
+  λ a. turn .1 (⊎-elim (λ p. inl (old .0 p)) inr (new .0 a)),
+  λ d. new .1 (⊎-elim (λ q. inl (old .1 q)) inr (turn .0 d)),
+)

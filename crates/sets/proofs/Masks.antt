@@ -59,17 +59,17 @@ asked-as (suc (suc (suc zero))) value n k M N x e y = (λ h. h, λ h. h)
 asked-as (suc (suc (suc (suc zero)))) value n k M N x e y = (λ h. h, λ h. h)
 asked-as (suc (suc (suc (suc (suc f))))) value n k M N x e y = (λ h. h, λ h. h)
 
-asked-at : (value : ℕ → ℕ → ℕ) (n w x e y : ℕ) → MetAt value n w (asked (form w) x e) (asked (form w) x e) y ↔ MetAt value n w x e y
+pub asked-at : (value : ℕ → ℕ → ℕ) (n w x e y : ℕ) → MetAt value n w (asked (form w) x e) (asked (form w) x e) y ↔ MetAt value n w x e y
 asked-at value n w = asked-as (form w) value n (conditionFormula w) (conditionM w) (conditionN w)
 
-asked-le : (f : ℕ) {x e n : ℕ} → x ≤ n → e ≤ n → asked f x e ≤ n
+pub asked-le : (f : ℕ) {x e n : ℕ} → x ≤ n → e ≤ n → asked f x e ≤ n
 asked-le zero g h = g
 asked-le (suc zero) g h = h
 asked-le (suc (suc zero)) g h = g
 asked-le (suc (suc (suc f))) g h = h
 
 -- the mask of condition c where its member j begins at x
-allowed-at : {value : ℕ → ℕ → ℕ} {cs allow : List ℕ} {n : ℕ} → Allowed value cs n (length cs * 64) allow → (c x y : ℕ) → c < length cs → x < 64
+pub allowed-at : {value : ℕ → ℕ → ℕ} {cs allow : List ℕ} {n : ℕ} → Allowed value cs n (length cs * 64) allow → (c x y : ℕ) → c < length cs → x < 64
     → In (getD allow (c * 64 + x) 0) y ↔ ((y ≤ n) × MetAt value n (getD cs c 0) y y x)
 allowed-at h c x y l g =
     let d : (c * 64 + x) / 64 ≡ c = omega arith in

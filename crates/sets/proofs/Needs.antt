@@ -1,6 +1,8 @@
 -- From which end on a member asks nothing more. Assumes nothing.
-use Prim.Native.Nat.{ℕ, _-_, _≤_, _<_}
+use Prim.Native.Nat.{ℕ, _+_, _-_, _≤_, _<_}
 use mathlib.Core.Logic.{_↔_}
+use native.Mathlib.Omega.{arith}
+use borrow.Author.Count.{below-more}
 use Rattle.bitset.specs.Members.{In}
 use Rattle.sets.specs.Cover.{Some, Reaches, Bridged, Needed}
 
@@ -31,4 +33,12 @@ pub needed-both : {count b i e r own bridge : ℕ} {bs Es : ℕ → ℕ} → b <
 needed-both g h k m = (
   λ l. let s = m .0 l in record { each = h .0 (s .0); bridged = λ z. k .0 (s .1) },
   λ s. m .1 (h .1 (s .each), k .1 (s .bridged g)),
+)
+
+-- one member more, where each asks for an end
+pub all-more : {P : ℕ → Type 0} {i least own next e : ℕ} → (least ≤ e) ↔ ((j : ℕ) → j < i → P j) → (own ≤ e) ↔ P i
+    → (next ≤ e) ↔ ((least ≤ e) × (own ≤ e)) → (next ≤ e) ↔ ((j : ℕ) → j < i + 1 → P j)
+all-more {P} {i} old new next = (
+  λ h. below-more P i (old .0 (next .0 h .0)) (new .0 (next .0 h .1)),
+  λ h. next .1 (old .1 (λ j l. h j (omega arith)), new .1 (h i (omega arith))),
 )

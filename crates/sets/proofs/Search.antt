@@ -3,24 +3,24 @@ use Prim.Native.Nat.{ℕ, zero, suc, _+_, _*_, _≤_, _<_}
 use mathlib.Core.Path.{_≡_, refl, sym, ap, _∙_, subst}
 use mathlib.Core.Bool.{false}
 use mathlib.Core.Logic.{_↔_, _⊎_, inl, inr, by-cases, ⊎-elim}
-use mathlib.Core.List.{List, [], _∷_}
+use mathlib.Core.List.{List, [], _∷_, map}
 use native.Mathlib.Decide.{decLt, ℕ-discrete}
 use native.Mathlib.Nat.{le-refl}
 use native.Mathlib.Omega.{arith}
 use borrow.Author.Count.{below-more}
-use lib.ListN.{length, getD, set}
+use lib.ListN.{length, getD, set, length-map, List·getD-map}
 use lib.Seq.{getD-set-same, getD-set-other}
 use Rattle.bitset.specs.Members.{has, Highest, In}
 use Rattle.bitset.proofs.Laws.{not-both, either, has-zero}
-use Rattle.words.specs.Fields.{conditionI}
+use Rattle.words.specs.Fields.{conditionI, memberNode}
 use Rattle.sets.specs.Set.{TaskSet, size, member, MetAt, SetRule, Formed}
 use Rattle.sets.specs.Cover.{Some, Coverable, Covering}
 use Rattle.sets.specs.Ends.{at, InTable, Placed}
-use Rattle.sets.specs.Search.{Allowed, EndOf, EndSets, Completed, Searching}
+use Rattle.sets.specs.Search.{EndOf, EndSets, Begun, Completed, Ready, Searching}
 use Rattle.sets.proofs.Laws.{gain-as}
 use Rattle.sets.proofs.Cover.{coverable, covering}
 
-met-same : (value : ℕ → ℕ → ℕ) (n w : ℕ) {x x′ e e′ y y′ : ℕ} → x ≡ x′ → e ≡ e′ → y ≡ y′ → MetAt value n w x e y → MetAt value n w x′ e′ y′
+pub met-same : (value : ℕ → ℕ → ℕ) (n w : ℕ) {x x′ e e′ y y′ : ℕ} → x ≡ x′ → e ≡ e′ → y ≡ y′ → MetAt value n w x e y → MetAt value n w x′ e′ y′
 met-same value n w {x} {x′} {e} {e′} {y} p q r h =
     subst (λ (z : ℕ). MetAt value n w x′ e′ z) r (subst (λ (z : ℕ). MetAt value n w x′ z y) q (subst (λ (z : ℕ). MetAt value n w z e y) p h))
 
@@ -61,24 +61,6 @@ module _ {s : TaskSet} {R : ℕ → ℕ → ℕ → Type 0} {b e k : ℕ} {bs : 
   none {Es} sets l z h =
       let t = sets .mask (z .at) (h .rule .ends (z .at)) (z .below) .1 (end-of h l (z .at) (z .below)) in
       not-both (t .yes) (ap (λ (x : ℕ). has x (h .rule .ends (z .at))) (z .is) ∙ has-zero (h .rule .ends (z .at)))
-
-  -- it ends from b to the last moment
-  pub ends-within : Completed s R b e k bs → (b ≤ e) × (e ≤ s .last)
-  ends-within h = (h .rule .placing .onward, h .rule .placing .within)
-
-  -- no begin of member k is after the last that the search tries
-  pub last-ok : {r count : ℕ} → count ≡ size s → k < size s → (r ≡ s .last) ⊎ ((r ≡ b) × (k + 1 ≡ count) × (Some k (λ i. bs i ≡ b) → ⊥))
-      → (h : Completed s R b e k bs) → h .rule .begins k ≤ r
-  last-ok m l (inl q) h = let o = h .rule .placing .inside k l in let u = h .rule .placing .within in omega arith
-  last-ok {r} m l (inr q) h =
-      let j = h .rule .placing .covers b (omega arith) (h .rule .placing .onward) in
-      let p = h .rule .placing .inside (j .0) (j .1) in
-      let u = j .2 in
-      let v = q .0 in
-      let z = q .1 in
-      by-cases (decLt (j .0) k)
-      (λ g. let a = h .agrees (j .0) g in absurd (q .2 (record { at = j .0; below = g; is = omega arith })))
-      (λ g. let y = j .1 in let i : j .0 ≡ k = omega arith in subst (λ (x : ℕ). h .rule .begins x ≤ r) i (omega arith))
 
 -- ---- all begins chosen
 
@@ -196,12 +178,14 @@ module _ {s : TaskSet} {allow table begins ends : List ℕ} {k b : ℕ} (h : Sea
     moments = λ i. by-cases (ℕ-discrete i k) (λ q. rw (q, getD-set-same begins k x 0 long) g) (λ q. rw (getD-set-other begins k i x 0 q) (h .moments i));
     after = λ i m. rw (kept begins k x i m) (h .after i m);
     sets = same-sets (λ j m. sym (kept begins k x j m)) (h .sets);
+    later = h .later;
     small = h .small;
   }
 
-  pub search-next : {r : List ℕ} → b ≤ at begins k → EndSets s (InTable table) (at begins) (k + 1) (at r) → ((i e : ℕ) → In (at r i) e → e < 64)
+  pub search-next : {r : List ℕ} → b ≤ at begins k
+      → EndSets s (InTable table) (at begins) (k + 1) (at r) × ((i e : ℕ) → In (at r i) e → e < 64) × ((i e : ℕ) → k < i → In (at ends i) e → In (at r i) e)
       → Searching s allow table (k + 1) begins r b
-  search-next l sets small = record {
+  search-next l placed = record {
     formed = h .formed;
     rows = h .rows;
     allowed = h .allowed;
@@ -210,8 +194,9 @@ module _ {s : TaskSet} {allow table begins ends : List ℕ} {k b : ℕ} (h : Sea
     from = h .from;
     moments = h .moments;
     after = below-more (λ i. b ≤ at begins i) k (h .after) l;
-    sets = sets;
-    small = small;
+    sets = placed .0;
+    later = λ i e g m t. placed .2 i e (omega arith) (h .later i e (omega arith) m t);
+    small = placed .1;
   }
 
 -- at the start no member is placed
@@ -222,21 +207,36 @@ at-zeros (suc (suc zero)) = refl
 at-zeros (suc (suc (suc zero))) = refl
 at-zeros (suc (suc (suc (suc i)))) = refl
 
-pub search-start : {s : TaskSet} {allow table : List ℕ} {b : ℕ} → Formed s → ((i : ℕ) → i < size s → member s i * 64 + 64 ≤ length table)
-    → Allowed (s .value) (s .conditions) (s .last) (length (s .conditions) * 64) allow → length (s .conditions) * 64 ≤ length allow → b ≤ s .last
-    → Searching s allow table 0 (0 ∷ 0 ∷ 0 ∷ 0 ∷ []) (0 ∷ 0 ∷ 0 ∷ 0 ∷ []) b
-search-start f rows allowed room l = record {
-  formed = f;
-  rows = rows;
-  allowed = allowed;
-  room = room;
+pub none-small : (i e : ℕ) → In (at (0 ∷ 0 ∷ 0 ∷ 0 ∷ []) i) e → e < 64
+none-small i e t = not-both (t .yes) (ap (λ (x : ℕ). has x e) (at-zeros i) ∙ has-zero e)
+
+pub search-start : {s : TaskSet} {allow table ends : List ℕ} {b : ℕ} → Ready s allow table b
+    → ((i e : ℕ) → i < size s → Begun (InTable table) (member s i) b (s .last + 1) (s .last) e → In (at ends i) e) → ((i e : ℕ) → In (at ends i) e → e < 64)
+    → Searching s allow table 0 (0 ∷ 0 ∷ 0 ∷ 0 ∷ []) ends b
+search-start r later small = record {
+  formed = r .formed;
+  rows = r .rows;
+  allowed = r .allowed;
+  room = r .room;
   step = omega arith;
-  from = l;
+  from = r .from;
   moments = λ i. omega (arith, at-zeros i);
   after = λ i g. absurd (omega arith);
   sets = record { mask = λ i e g. absurd (omega arith) };
-  small = λ i e t. not-both (t .yes) (ap (λ (x : ℕ). has x e) (at-zeros i) ∙ has-zero e);
+  later = λ i e g. later i e;
+  small = small;
 }
+
+-- the nodes of the member words
+pub node-rows : (ms : List ℕ) {rows : ℕ} → ((i : ℕ) → i < length (map memberNode ms) → getD (map memberNode ms) i 0 * 64 + 64 ≤ rows)
+    → (i : ℕ) → i < length ms → memberNode (getD ms i 0) * 64 + 64 ≤ rows
+node-rows ms h i l = omega (arith, List·getD-map memberNode ms i 0, h i (omega (arith, length-map ms memberNode)))
+
+pub later-start : (ms : List ℕ) {R : ℕ → ℕ → ℕ → Type 0} {Es : ℕ → ℕ} {b z n : ℕ}
+    → ((i e : ℕ) → i < length ms → In (Es i) e ↔ Begun R (memberNode (getD ms i 0)) b z n e)
+    → (i e : ℕ) → i < length (map memberNode ms) → Begun R (getD (map memberNode ms) i 0) b z n e → In (Es i) e
+later-start ms {R} {b = b} {z = z} {n = n} h i e l t =
+    h i e (omega (arith, length-map ms memberNode)) .1 (subst (λ (m : ℕ). Begun R m b z n e) (List·getD-map memberNode ms i 0) t)
 
 pub nothing-placed : {s : TaskSet} {R : ℕ → ℕ → ℕ → Type 0} {b e : ℕ} {bs : ℕ → ℕ} → Completed s R b e 0 bs ↔ SetRule s R b e
 nothing-placed = (λ h. h .rule, λ r. record { rule = r; agrees = λ i l. absurd (omega arith) })

@@ -5,7 +5,7 @@ use mathlib.Core.Logic.{_↔_, _⊎_}
 use mathlib.Core.List.{List}
 use lib.ListN.{length, getD}
 use Rattle.bitset.specs.Members.{In}
-use Rattle.words.specs.Fields.{form, conditionI, conditionJ}
+use Rattle.words.specs.Fields.{form, memberNode, conditionI, conditionJ}
 use Rattle.sets.specs.Set.{TaskSet, size, member, MetAt, SetRule, Formed}
 use Rattle.sets.specs.Ends.{InTable, at}
 
@@ -37,7 +37,30 @@ pub record Completed (s : TaskSet) (R : ℕ → ℕ → ℕ → Type 0) (b e k :
   pub rule : SetRule s R b e
   pub agrees : (i : ℕ) → i < k → rule .begins i ≡ bs i
 
--- what a search for begins needs: the set, its members' rows, and begins and masks so far
+-- member k begins at r at the latest, where the set reads from b with the begins bs of the members below k
+pub record LastBegin (s : TaskSet) (R : ℕ → ℕ → ℕ → Type 0) (b k : ℕ) (bs : ℕ → ℕ) (r : ℕ) : Type 0 where
+  pub from : b ≤ r
+  pub within : r ≤ s .last
+  pub latest : (e : ℕ) → (h : Completed s R b e k bs) → h .rule .begins k ≤ r
+
+-- e is an end of node m, at most n, from a begin that is at least a and before z
+pub record Begun (R : ℕ → ℕ → ℕ → Type 0) (m a z n e : ℕ) : Type 0 where
+  pub begin : ℕ
+  pub from : a ≤ begin
+  pub before : begin < z
+  pub reads : R m begin e
+  pub onward : begin ≤ e
+  pub within : e ≤ n
+
+-- what a search from b needs: the set, its members' rows, and the masks of the conditions
+pub record Ready (s : TaskSet) (allow table : List ℕ) (b : ℕ) : Type 0 where
+  pub formed : Formed s
+  pub rows : (i : ℕ) → i < size s → member s i * 64 + 64 ≤ length table
+  pub allowed : Allowed (s .value) (s .conditions) (s .last) (length (s .conditions) * 64) allow
+  pub room : length (s .conditions) * 64 ≤ length allow
+  pub from : b ≤ s .last
+
+-- what a search for begins needs: the set, its members' rows, and begins and masks so far; the masks of the members from k on have all ends
 pub record Searching (s : TaskSet) (allow table : List ℕ) (k : ℕ) (begins ends : List ℕ) (b : ℕ) : Type 0 where
   pub formed : Formed s
   pub rows : (i : ℕ) → i < size s → member s i * 64 + 64 ≤ length table
@@ -48,6 +71,7 @@ pub record Searching (s : TaskSet) (allow table : List ℕ) (k : ℕ) (begins en
   pub moments : (i : ℕ) → at begins i ≤ s .last
   pub after : (i : ℕ) → i < k → b ≤ at begins i
   pub sets : EndSets s (InTable table) (at begins) k (at ends)
+  pub later : (i e : ℕ) → k ≤ i → i < size s → Begun (InTable table) (member s i) b (s .last + 1) (s .last) e → In (at ends i) e
   pub small : (i e : ℕ) → In (at ends i) e → e < 64
 
 -- what the conditions need of their masks and of the begins and masks of the members
@@ -71,3 +95,23 @@ Asks cs allow k begins i e d = let w = getD cs d 0 in
 -- the masks `new` are the masks `old` with the first c conditions
 pub record Narrowed (cs allow : List ℕ) (k : ℕ) (begins old : List ℕ) (c : ℕ) (new : List ℕ) : Type 0 where
   pub mask : (i e : ℕ) → In (at new i) e ↔ (In (at old i) e × ((d : ℕ) → d < c → Asks cs allow k begins i e d))
+
+-- condition d, of form f, allows the end e of its member i, begun at x, for some begin before z of its member j
+pub record SomeBegin (allow : List ℕ) (z f d x e : ℕ) : Type 0 where
+  pub begin : ℕ
+  pub before : begin < z
+  pub member : In (getD allow (d * 64 + begin) 0) (asked f x e)
+
+-- the condition word w, which is condition d, allows the end e of member i, begun at x, for some begin up to n of its member j: for x where j is i
+pub record Allows (allow : List ℕ) (n w d i x e : ℕ) : Type 0 where
+  pub some : SomeBegin allow (n + 1) (form w) d x e
+  pub self : conditionJ w ≡ i → In (getD allow (d * 64 + x) 0) (asked (form w) x e)
+
+-- each of the first k conditions does that, where it is on member i
+abbrev pub Possible : List ℕ → List ℕ → ℕ → ℕ → ℕ → ℕ → ℕ → Type 0
+Possible cs allow n k i x e = (d : ℕ) → d < k → conditionI (getD cs d 0) ≡ i → Allows allow n (getD cs d 0) d i x e
+
+-- the rows `own` up to k are those of the member words ms, by position, without the ends that are not possible
+pub record OwnRows (ms cs : List ℕ) (n : ℕ) (allow table : List ℕ) (k : ℕ) (own : List ℕ) : Type 0 where
+  pub row : (c : ℕ) → c < k → (e : ℕ) → In (getD own c 0) e
+      ↔ (InTable table (memberNode (getD ms (c / 64) 0)) (c % 64) e × (c % 64 ≤ e) × (e ≤ n) × Possible cs allow n (length cs) (c / 64) (c % 64) e)

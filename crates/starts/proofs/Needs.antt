@@ -9,9 +9,9 @@ use lib.Dec.{eqb}
 use lib.ListN.{length, getD, drop, length-drop}
 use lib.Seq.{getD-drop, drop-drop}
 use Rattle.words.specs.Tests.{both, either, pick}
-use Rattle.words.specs.Fields.{kind, fails, holds, fluentOf, roleOf}
-use Rattle.words.specs.Scan.{any, leading}
-use Rattle.job.specs.Parts.{headWord, fluents, actions, ofKind, lawsOf}
+use Rattle.words.specs.Fields.{ofKind, kind, fails, holds, fluentOf, roleOf}
+use Rattle.words.specs.Scan.{someWord, leading}
+use Rattle.job.specs.Parts.{headWord, fluents, actions, lawsOf}
 use Rattle.job.specs.WellFormed.{WellFormed, Placed}
 use Rattle.facts.specs.Values.{valueAt}
 use Rattle.facts.specs.Tables.{StateAt}
@@ -20,13 +20,13 @@ use Rattle.starts.specs.Rows.{unmet}
 -- two tests that agree on the leading words
 any-agree : (lead test test' : ℕ → Bool) (ws : List ℕ)
     → ((i : ℕ) → i < length ws → lead (getD ws i 0) ≡ true → test (getD ws i 0) ≡ test' (getD ws i 0))
-    → any test (leading lead ws) ≡ any test' (leading lead ws)
-unfolding any leading
+    → someWord test (leading lead ws) ≡ someWord test' (leading lead ws)
+unfolding someWord leading
 any-agree lead test test' [] h = refl
 any-agree lead test test' (w ∷ ws) h = cases (lead w) refl (any-agree lead test test' ws (λ i l e. h (suc i) (omega arith) e))
   where
-    cases : (b : Bool) → lead w ≡ b → any test (leading lead ws) ≡ any test' (leading lead ws)
-        → any test (pick b (w ∷ leading lead ws) []) ≡ any test' (pick b (w ∷ leading lead ws) [])
+    cases : (b : Bool) → lead w ≡ b → someWord test (leading lead ws) ≡ someWord test' (leading lead ws)
+        → someWord test (pick b (w ∷ leading lead ws) []) ≡ someWord test' (pick b (w ∷ leading lead ws) [])
     cases true e ih = rw (h 0 (omega arith) e, ih)
     cases false e ih = refl
 
@@ -35,8 +35,8 @@ module _ {job places : List ℕ} (formed : WellFormed job) (placed : Placed job 
   pub place-inside : getD places a 0 < length job
   place-inside = placed .inside a (omega (arith, formed .counted))
 
-  pub needs-state : any (unmet (headWord job) (λ f. getD state f 0)) (leading (ofKind 4) (drop 1 (drop (getD places a 0) job)))
-      ≡ any (unmet (headWord job) (valueAt job starts t)) (lawsOf job a)
+  pub needs-state : someWord (unmet (headWord job) (λ f. getD state f 0)) (leading (ofKind 4) (drop 1 (drop (getD places a 0) job)))
+      ≡ someWord (unmet (headWord job) (valueAt job starts t)) (lawsOf job a)
   unfolding lawsOf
   needs-state =
       rw (placed .words a (omega (arith, formed .counted)))

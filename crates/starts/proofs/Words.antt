@@ -13,6 +13,7 @@ use Rattle.words.proofs.Choices.{both-true}
 use Rattle.job.specs.Parts.{actions, lastMoment}
 use Rattle.facts.specs.Actions.{finish}
 use Rattle.facts.specs.Tables.{Durations, Named}
+use Rattle.facts.proofs.Moments.{finish-tabled}
 use Rattle.answers.specs.Rows.{firstOf}
 use Rattle.answers.proofs.Rows.{or-none}
 use Rattle.starts.specs.Rows.{isStart, ascends, wrongWord, numbered, rowsRefusal, startsRefusal}
@@ -65,10 +66,10 @@ right-word h i l = right-at _ _ i (h .right i l)
 pub named : {job starts : List ℕ} → Worded job starts → Named job starts
 named h = record { action = λ i l. right-word h i l .action }
 
--- a start's finish, by the table of durations
+-- a right start's finish, by the table of durations
 pub finish-is : {job durations starts : List ℕ} → Durations job durations → Worded job starts → (i : ℕ) → i < length starts
     → startMoment (getD starts i 0) + getD durations (startAction (getD starts i 0)) 0 ≡ finish job (getD starts i 0)
-finish-is d h i l = rw (d .entry _ (right-word h i l .action))
+finish-is d h i l = finish-tabled d _ (right-word h i l .action)
 
 -- a right word is 9 · 2^28 + 64 u + a
 low-bits : (s : ℕ) → 2415919104 ≤ s → s < 2415919104 + 4096 → s ≡ 2415919104 + startMoment s * 64 + startAction s

@@ -6,7 +6,7 @@ use lib.Dec.{eqb, leb, ltb}
 use lib.ListN.{getD, length}
 use Rattle.words.specs.Tests.{pick, both, either}
 use Rattle.words.specs.Fields.{kind, spare, fails, holds, fluentOf, roleOf, startMoment, startAction}
-use Rattle.words.specs.Scan.{any, someBelow}
+use Rattle.words.specs.Scan.{someWord, someBelow}
 use Rattle.answers.specs.declared.Refusal.{Refusal}
 use Rattle.answers.specs.Rows.{passed, orElse, firstOf}
 use Rattle.job.specs.Parts.{headWord, fluents, actions, lastMoment, lawsOf}
@@ -38,8 +38,8 @@ restarts job earlier s =
 unfoldable pub inHandAlready : List ℕ → List ℕ → ℕ → Bool
 inHandAlready job starts i = someBelow (λ j. restarts job (getD starts j 0) (getD starts i 0)) i
 
--- row 9: clashes with the start of an earlier word, both in hand at some moment. Two actions clash if one makes true what the other
--- makes false.
+-- row 9: clashes with the start of an earlier word, both in hand at some moment. Two actions clash (have contradictory effects) if one makes
+-- true what the other makes false.
 abbrev pub opposed : List ℕ → ℕ → ℕ → ℕ → Bool
 opposed job a b f =
     either (both (eqb (effect job a f) holds) (eqb (effect job b f) fails)) (both (eqb (effect job a f) fails) (eqb (effect job b f) holds))
@@ -64,7 +64,7 @@ unmet head value w =
 
 unfoldable pub needsUnmet : List ℕ → List ℕ → ℕ → Bool
 needsUnmet job starts i =
-    any (unmet (headWord job) (valueAt job starts (startMoment (getD starts i 0)))) (lawsOf job (startAction (getD starts i 0)))
+    someWord (unmet (headWord job) (valueAt job starts (startMoment (getD starts i 0)))) (lawsOf job (startAction (getD starts i 0)))
 
 -- all rows, each with its number
 abbrev pub startRows : List ℕ → List ℕ → List (ℕ × (ℕ → Bool))

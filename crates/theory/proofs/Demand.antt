@@ -1,6 +1,8 @@
--- Demand 2: the list that fill writes passes check. Assumes nothing.
+-- Demand 2: a plan passes exactly when no row on its job and starts fits and its facts are those of the rules; the list that fill writes
+-- passes check. Assumes nothing.
 use mathlib.Core.Bool.{Bool, true, false}
 use mathlib.Core.List.{List}
+use mathlib.Core.Logic.{_↔_}
 use mathlib.Core.Path.{_≡_, refl, ap, sym, _∙_}
 use Prim.Native.Nat.{ℕ}
 use native.Mathlib.Omega.{arith}
@@ -14,8 +16,15 @@ use Rattle.answers.specs.declared.Answer.the-variants.{Accepted, Refused}
 use Rattle.answers.specs.Packed.{answerOf}
 use Rattle.answers.proofs.Rows.{or-none}
 use Rattle.facts.specs.Facts.{factsOf}
-use Rattle.theory.specs.Answers.{bufferRefusal, planRefusal, checkRefusal, fillRefusal, checkAnswer, fillAnswer, written}
-use Rattle.theory.proofs.Laws.{or-passed, equal-passes}
+use Rattle.theory.specs.Answers.{bufferRefusal, planRefusal, factsRefusal, Passes, checkRefusal, fillRefusal, checkAnswer, fillAnswer, written}
+use Rattle.theory.proofs.Laws.{or-passed, equal-passes, passes-equal}
+
+pub passes-exactly : (job starts facts : List ℕ) → Passes job starts facts ↔ ((planRefusal job starts .number ≡ 0) × (facts ≡ factsOf job starts))
+unfolding checkRefusal
+passes-exactly job starts facts = (
+  λ e. let p = or-none (planRefusal job starts) (factsRefusal facts (factsOf job starts) 0) e in (p .0, passes-equal facts (factsOf job starts) 0 (p .1)),
+  λ h. rw (h .1) (ap (λ r. r .number) (sym (or-passed (planRefusal job starts) _ (h .0)) ∙ equal-passes (factsOf job starts) 0)),
+)
 
 module _ (room : ℕ) (job starts : List ℕ) {l c : ℕ} (accepted : fillAnswer room job starts ≡ Accepted l c) where
   -- no row fits, and the length is that of the list of facts

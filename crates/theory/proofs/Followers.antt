@@ -8,7 +8,8 @@ use lib.ListN.{length, getD, drop, set, replicate, length-drop, length-set}
 use lib.Seq.{drop-drop, getD-set-same, getD-set-other}
 use Rattle.words.specs.Scan.{leading, beyond}
 use Rattle.words.proofs.Scan.{beyond-drop, leading-fits}
-use Rattle.job.specs.Parts.{ofKind, total, nodeCount, memberWords, conditionWords}
+use Rattle.words.specs.Fields.{ofKind}
+use Rattle.job.specs.Parts.{total, nodeCount, memberWords, conditionWords}
 use Rattle.job.specs.WellFormed.{Placed}
 
 module _ {job places : List ℕ} (placed : Placed job 6 places) (p : ℕ) (h : p < nodeCount job) where

@@ -13,7 +13,7 @@ use Rattle.bitset.specs.Members.{has, Holds}
 use Rattle.bitset.proofs.Laws.{has-zero}
 use Rattle.words.specs.Tests.{both, either}
 use Rattle.words.specs.Fields.{startMoment, startAction}
-use Rattle.words.specs.Scan.{any}
+use Rattle.words.specs.Scan.{someWord}
 use Rattle.words.proofs.Scan.{drop-next, any-end}
 use Rattle.words.proofs.Choices.{same-or-not, either-or, eqb-swap}
 use Rattle.theory.specs.Trajectory.{isStartOf}
@@ -21,7 +21,7 @@ use Rattle.theory.specs.Trajectory.{isStartOf}
 -- the sets are those of the starts from position i on
 pub record Started (starts : List ℕ) (i : ℕ) (sets : List ℕ) : Type 0 where
   pub long : length sets ≡ 64
-  pub start : (a t : ℕ) → a < 64 → has (getD sets a 0) t ≡ any (isStartOf a t) (drop i starts)
+  pub start : (a t : ℕ) → a < 64 → has (getD sets a 0) t ≡ someWord (isStartOf a t) (drop i starts)
 
 pub started-none : (starts : List ℕ) → Started starts (length starts) (replicate 64 0)
 started-none starts = record {
@@ -34,7 +34,7 @@ pub started-more : {starts : List ℕ} {i j : ℕ} {sets : List ℕ} {x u : ℕ}
     → x ≡ startAction (getD starts i 0) → u ≡ startMoment (getD starts i 0)
     → Holds single (λ t. eqb t u) → Holds sum (λ t. has (getD sets x 0) t || has single t) → x < 64
     → Started starts i (set sets x sum)
-unfolding any
+unfolding someWord
 started-more {starts} {i} {j} {sets} {x} {u} single sum m next l ex eu one joined small = record {
   long = rw length-set (m .long);
   start = λ a t h. rw (drop-next starts i l, ← next, ← (m .start a t h), ← ex, ← eu) (cases a t (same-or-not x a));

@@ -1,5 +1,6 @@
 -- The answers of check and fill for any lists of words, row by row, and what fill leaves in the lent buffer.
 use mathlib.Core.List.{List, [], _∷_, _++_}
+use mathlib.Core.Path.{_≡_}
 use Prim.Native.Nat.{ℕ, suc}
 use lib.Dec.{eqb, ltb}
 use lib.ListN.{length, take, drop}
@@ -34,6 +35,10 @@ checkRefusal job starts facts = orElse (planRefusal job starts) (factsRefusal fa
 
 unfoldable pub fillRefusal : ℕ → List ℕ → List ℕ → Refusal
 fillRefusal room job starts = orElse (bufferRefusal room) (planRefusal job starts)
+
+-- a plan passes where no row of check fits
+abbrev pub Passes : List ℕ → List ℕ → List ℕ → Type 0
+Passes job starts facts = checkRefusal job starts facts .number ≡ 0
 
 -- a success of check has length 0, one of fill the number of facts
 unfoldable pub checkAnswer : List ℕ → List ℕ → List ℕ → Answer

@@ -87,9 +87,9 @@ pub fn check_plan(job: &[u32], starts: &[u32], facts: &[u32]) -> Answer
     ensures { λ r. ⌜ r ≡ checkAnswer (now (job .entry)) (now (starts .entry)) (now (facts .entry)) ⌝ }
 {
     let plan = judge(job, starts);
-    let refusal = plan.refusal;
-    if refusal.number != 0 {
-        return answer_of(refusal, 0, 0);
+    let rows = plan.refusal;
+    if rows.number != 0 {
+        return answer_of(rows, 0, 0);
     }
     let durations = plan.durations;
     let effects = plan.effects;

@@ -1,25 +1,9 @@
 // How many members and conditions stand after each node.
 ghost use mathlib.Core.Path.{_≡_};
-ghost use Prim.Native.Nat.{ℕ, _<_, _≤_};
-ghost use lib.ListN.{length, getD, drop};
-ghost use Rattle.words.specs.Scan.{leading};
-ghost use Rattle.job.specs.Parts.{ofKind, nodeCount, memberWords, conditionWords};
+ghost use Prim.Native.Nat.{ℕ, _<_};
+ghost use lib.ListN.{length, getD};
+ghost use Rattle.job.specs.Parts.{nodeCount, memberWords, conditionWords};
 ghost use Rattle.job.specs.WellFormed.{WellFormed, Placed};
-
-// How many words of kind `k` lead what follows position `at`.
-fn run_length(job: &[u32], at: usize, k: u32) -> usize
-    requires { ⌜ at ≤ length (now job) ⌝ }
-    ensures { λ r. ⌜ r ≡ length (leading (ofKind k) (drop at (now (job .entry)))) ⌝ }
-{
-    let mut i = at;
-    while i < job.len() {
-        if words::kind_of(job[i]) != k {
-            return i - at;
-        }
-        i += 1;
-    }
-    i - at
-}
 
 // The number of members of each node.
 pub fn member_counts(job: &[u32], nodes: &[usize; 64], count: usize) -> [usize; 64]
@@ -29,7 +13,7 @@ pub fn member_counts(job: &[u32], nodes: &[usize; 64], count: usize) -> [usize; 
     let mut sizes = [0usize; 64];
     let mut p = 0;
     while p < count {
-        sizes[p] = run_length(job, nodes[p] + 1, 7);
+        sizes[p] = words::run_length(job, nodes[p] + 1, 7);
         p += 1;
     }
     sizes
@@ -49,7 +33,7 @@ pub fn condition_counts(
     let mut limits = [0usize; 64];
     let mut p = 0;
     while p < count {
-        limits[p] = run_length(job, nodes[p] + 1 + sizes[p], 8);
+        limits[p] = words::run_length(job, nodes[p] + 1 + sizes[p], 8);
         p += 1;
     }
     limits

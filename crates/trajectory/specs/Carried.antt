@@ -4,7 +4,7 @@ use mathlib.Core.Path.{_≡_}
 use Prim.Native.Nat.{ℕ, _+_, _*_, _<_, _≤_}
 use lib.ListN.{length, getD}
 use Rattle.bitset.specs.Members.{has}
-use Rattle.words.specs.Scan.{any}
+use Rattle.words.specs.Scan.{someWord}
 use Rattle.job.specs.Parts.{lastMoment, formulaCount, nodeCount, memberWords, conditionWords}
 use Rattle.job.specs.WellFormed.{Placed}
 use Rattle.facts.specs.Values.{valueAt}
@@ -19,6 +19,6 @@ pub record Carried (job starts : List ℕ) (w : World) : Type 0 where
   pub places : Placed job 6 (w .places)
   pub sizes : (p : ℕ) → p < nodeCount job → getD (w .sizes) p 0 ≡ length (memberWords job p)
   pub limits : (p : ℕ) → p < nodeCount job → getD (w .limits) p 0 ≡ length (conditionWords job p)
-  pub moments : (a t : ℕ) → a < 64 → has (getD (w .starts) a 0) t ≡ any (isStartOf a t) starts
+  pub moments : (a t : ℕ) → a < 64 → has (getD (w .starts) a 0) t ≡ someWord (isStartOf a t) starts
   pub durations : Durations job (w .durations)
   pub values : (k t : ℕ) → k < formulaCount job → t ≤ lastMoment job → getD (w .values) (k * 64 + t) 0 ≡ formulaAt andTable orTable job (valueAt job starts) k t

@@ -3,15 +3,15 @@
 use mathlib.Core.Bool.{Bool, true, false}
 use mathlib.Core.List.{List, [], _∷_}
 use mathlib.Core.Logic.{by-cases}
-use mathlib.Core.Path.{_≡_, refl}
+use mathlib.Core.Path.{_≡_, refl, ap}
 use Prim.Native.Nat.{ℕ, zero, suc, _+_, _<_, _≤_}
 use native.Mathlib.Numerals.{add-one}
 use native.Mathlib.Decide.{decLt}
 use native.Mathlib.Omega.{arith}
-use lib.ListN.{length, getD, drop, drop-of-length-le}
+use lib.ListN.{length, getD, take, drop, drop-of-length-le}
 use lib.Seq.{drop-cons}
 use Rattle.words.specs.Tests.{pick, either}
-use Rattle.words.specs.Scan.{any, firstGives, leading, beyond}
+use Rattle.words.specs.Scan.{someWord, firstGives, leading, beyond}
 
 module _ (ws : List ℕ) (i : ℕ) where
   pub drop-next : i < length ws → drop i ws ≡ getD ws i 0 ∷ drop (i + 1) ws
@@ -32,16 +32,16 @@ module _ (ws : List ℕ) (i : ℕ) where
     gives-end h = rw (drop-of-length-le ws h)
 
   module _ (test : ℕ → Bool) where
-    pub any-hit : i < length ws → test (getD ws i 0) ≡ true → any test (drop i ws) ≡ true
-    unfolding any
+    pub any-hit : i < length ws → test (getD ws i 0) ≡ true → someWord test (drop i ws) ≡ true
+    unfolding someWord
     any-hit h e = rw (drop-next h, e)
 
-    pub any-miss : i < length ws → test (getD ws i 0) ≡ false → any test (drop i ws) ≡ any test (drop (i + 1) ws)
-    unfolding any
+    pub any-miss : i < length ws → test (getD ws i 0) ≡ false → someWord test (drop i ws) ≡ someWord test (drop (i + 1) ws)
+    unfolding someWord
     any-miss h e = rw (drop-next h, e)
 
-    pub any-end : length ws ≤ i → any test (drop i ws) ≡ false
-    unfolding any
+    pub any-end : length ws ≤ i → someWord test (drop i ws) ≡ false
+    unfolding someWord
     any-end h = rw (drop-of-length-le ws h)
 
   -- the same along the leading words that pass a test
@@ -65,21 +65,21 @@ module _ (ws : List ℕ) (i : ℕ) where
     laws-end h = rw (drop-of-length-le ws h)
 
   module _ (lead test : ℕ → Bool) where
-    pub any-laws-hit : i < length ws → lead (getD ws i 0) ≡ true → test (getD ws i 0) ≡ true → any test (leading lead (drop i ws)) ≡ true
-    unfolding any leading
+    pub any-laws-hit : i < length ws → lead (getD ws i 0) ≡ true → test (getD ws i 0) ≡ true → someWord test (leading lead (drop i ws)) ≡ true
+    unfolding someWord leading
     any-laws-hit h l e = rw (drop-next h, l, e)
 
     pub any-laws-miss : i < length ws → lead (getD ws i 0) ≡ true → test (getD ws i 0) ≡ false
-        → any test (leading lead (drop i ws)) ≡ any test (leading lead (drop (i + 1) ws))
-    unfolding any leading
+        → someWord test (leading lead (drop i ws)) ≡ someWord test (leading lead (drop (i + 1) ws))
+    unfolding someWord leading
     any-laws-miss h l e = rw (drop-next h, l, e)
 
-    pub any-laws-stop : i < length ws → lead (getD ws i 0) ≡ false → any test (leading lead (drop i ws)) ≡ false
-    unfolding any leading
+    pub any-laws-stop : i < length ws → lead (getD ws i 0) ≡ false → someWord test (leading lead (drop i ws)) ≡ false
+    unfolding someWord leading
     any-laws-stop h l = rw (drop-next h, l)
 
-    pub any-laws-end : length ws ≤ i → any test (leading lead (drop i ws)) ≡ false
-    unfolding any leading
+    pub any-laws-end : length ws ≤ i → someWord test (leading lead (drop i ws)) ≡ false
+    unfolding someWord leading
     any-laws-end h = rw (drop-of-length-le ws h)
 
 module _ (test : ℕ → Bool) where
@@ -122,6 +122,17 @@ module _ (test : ℕ → Bool) where
           → pick t (beyond test ws) (w ∷ ws) ≡ drop (length (pick t (w ∷ leading test ws) [])) (w ∷ ws)
       cases false ih = refl
       cases true ih = ih
+
+  -- they are the first of the list, as many as they are
+  pub leading-take : (ws : List ℕ) → take (length (leading test ws)) ws ≡ leading test ws
+  unfolding leading
+  leading-take [] = refl
+  leading-take (w ∷ ws) = cases (test w) (leading-take ws)
+    where
+      cases : (t : Bool) → take (length (leading test ws)) ws ≡ leading test ws
+          → take (length (pick t (w ∷ leading test ws) [])) (w ∷ ws) ≡ pick t (w ∷ leading test ws) []
+      cases false ih = refl
+      cases true ih = ap (λ (l : List ℕ). w ∷ l) ih
 
   -- how many lead, from a position on
   module _ (ws : List ℕ) (i : ℕ) where

@@ -16,6 +16,9 @@ spare w hi lo = eqb (field w hi lo) 0
 abbrev pub kind : ℕ → ℕ
 kind w = field w 31 28
 
+abbrev pub ofKind : ℕ → ℕ → Bool
+ofKind k w = eqb (kind w) k
+
 abbrev pub form : ℕ → ℕ
 form w = field w 27 24
 
@@ -57,7 +60,8 @@ actionNumber w = field w 11 6
 abbrev pub durationOf : ℕ → ℕ
 durationOf w = field w 5 0
 
--- kind 4: the role (0 needs true, 1 needs false, 2 makes true, 3 makes false), and the bits that it leaves spare
+-- kind 4, law: the role (0 needs true, 1 needs false: AD's executability conditions; 2 makes true, 3 makes false: its effects), and the
+-- bits that it leaves spare
 abbrev pub roleOf : ℕ → ℕ → ℕ
 roleOf head w = field w 7 6
 
@@ -121,7 +125,7 @@ conditionM w = field w 11 6
 abbrev pub conditionN : ℕ → ℕ
 conditionN w = field w 5 0
 
--- kind 9, start: its moment u, its action a
+-- kind 9, start (an occurrence of an action, 004's init): its moment u (time point), its action a
 abbrev pub startMoment : ℕ → ℕ
 startMoment s = field s 11 6
 

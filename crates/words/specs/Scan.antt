@@ -1,13 +1,14 @@
 -- What a list of words has, by a test on a word.
 use mathlib.Core.Bool.{Bool, true, false}
-use mathlib.Core.List.{List, [], _∷_}
-use Prim.Native.Nat.{ℕ, zero, suc}
-use Rattle.words.specs.Tests.{pick, either}
+use mathlib.Core.List.{List, [], _∷_, _++_}
+use Prim.Native.Nat.{ℕ, zero, suc, _+_}
+use lib.Dec.{eqb}
+use Rattle.words.specs.Tests.{pick, either, one}
 
 -- some word passes
-unfoldable pub any : (ℕ → Bool) → List ℕ → Bool
-any test [] = false
-any test (w ∷ ws) = either (test w) (any test ws)
+unfoldable pub someWord : (ℕ → Bool) → List ℕ → Bool
+someWord test [] = false
+someWord test (w ∷ ws) = either (test w) (someWord test ws)
 
 -- what the first word that passes gives, or `other` where none does
 unfoldable pub firstGives : (ℕ → Bool) → (ℕ → ℕ) → ℕ → List ℕ → ℕ
@@ -34,3 +35,13 @@ fromNumber test (suc j) (w ∷ ws) = pick (test w) (fromNumber test j ws) (fromN
 unfoldable pub someBelow : (ℕ → Bool) → ℕ → Bool
 someBelow test zero = false
 someBelow test (suc n) = either (someBelow test n) (test n)
+
+-- how often q is in a list
+unfoldable pub times : ℕ → List ℕ → ℕ
+times q [] = 0
+times q (x ∷ xs) = one (eqb q x) + times q xs
+
+-- g 0, g 1, .. up to g (n − 1), one after the other
+unfoldable pub joined : (ℕ → List ℕ) → ℕ → List ℕ
+joined g zero = []
+joined g (suc n) = joined g n ++ g n

@@ -1,13 +1,30 @@
 // The fields of the words, each read here alone, by the definitions of specs/Fields.antt.
 ghost use mathlib.Core.Path.{_≡_};
-ghost use Prim.Native.Nat.{_<_};
+ghost use Prim.Native.Nat.{_<_, _≤_};
+ghost use lib.ListN.{length, drop};
 ghost use Rattle.words.specs.Tests.{pick};
-ghost use Rattle.words.specs.Fields.{kind, form, fluentsOf, actionsOf, lastOf, fluentOf, knownSpare, lawSpare, knownValue, durationOf, roleOf, makes, madeValue, formulaX, formulaY, atomFluent, atomSpare, nodeX, nodeY, nodeM, nodeN, memberNode, startMoment, startAction, factWord, readingWord};
+ghost use Rattle.words.specs.Fields.{kind, ofKind, form, fluentsOf, actionsOf, lastOf, fluentOf, knownSpare, lawSpare, knownValue, durationOf, roleOf, makes, madeValue, formulaX, formulaY, atomFluent, atomSpare, nodeX, nodeY, nodeM, nodeN, memberNode, conditionFormula, conditionI, conditionJ, conditionM, conditionN, startMoment, startAction, factWord, readingWord};
+ghost use Rattle.words.specs.Scan.{leading};
 
 pub fn kind_of(w: u32) -> u32
     ensures { λ r. ⌜ (r ≡ kind w) × (r < 16) ⌝ }
 {
     w / 268435456 % 16
+}
+
+// How many words of kind `k` lead what stands from position `at` on.
+pub fn run_length(ws: &[u32], at: usize, k: u32) -> usize
+    requires { ⌜ at ≤ length (now ws) ⌝ }
+    ensures { λ r. ⌜ r ≡ length (leading (ofKind k) (drop at (now (ws .entry)))) ⌝ }
+{
+    let mut i = at;
+    while i < ws.len() {
+        if kind_of(ws[i]) != k {
+            return i - at;
+        }
+        i += 1;
+    }
+    i - at
 }
 
 pub fn form_of(w: u32) -> u32
@@ -145,6 +162,37 @@ pub fn node_n(w: u32) -> usize
 // Member of a task set: its node.
 pub fn member_node(w: u32) -> usize
     ensures { λ r. ⌜ (r ≡ memberNode w) × (r < 64) ⌝ }
+{
+    (w / 1 % 64) as usize
+}
+
+// Condition of a task set: the formula, members i and j, M, N.
+pub fn condition_formula(w: u32) -> usize
+    ensures { λ r. ⌜ (r ≡ conditionFormula w) × (r < 64) ⌝ }
+{
+    (w / 262144 % 64) as usize
+}
+
+pub fn condition_i(w: u32) -> usize
+    ensures { λ r. ⌜ (r ≡ conditionI w) × (r < 8) ⌝ }
+{
+    (w / 32768 % 8) as usize
+}
+
+pub fn condition_j(w: u32) -> usize
+    ensures { λ r. ⌜ (r ≡ conditionJ w) × (r < 8) ⌝ }
+{
+    (w / 4096 % 8) as usize
+}
+
+pub fn condition_m(w: u32) -> usize
+    ensures { λ r. ⌜ (r ≡ conditionM w) × (r < 64) ⌝ }
+{
+    (w / 64 % 64) as usize
+}
+
+pub fn condition_n(w: u32) -> usize
+    ensures { λ r. ⌜ (r ≡ conditionN w) × (r < 64) ⌝ }
 {
     (w / 1 % 64) as usize
 }

@@ -1,13 +1,13 @@
 //! The built program in folders of its own, against the checker written apart.
 #![cfg(feature = "find")]
 
+use planreader_tests::built::printed_in;
 use planreader_tests::checker::program::{file_of, planread, reading_text, refusal_text};
 use planreader_tests::generate::finds;
 use planreader_tests::generate::{damage, plan_damage};
 use planreader_tests::random::Random;
 use planreader_tests::vectors;
-use std::path::{Path, PathBuf};
-use std::process::Command;
+use std::path::PathBuf;
 use std::sync::atomic::{AtomicUsize, Ordering};
 use std::{env, fs};
 
@@ -18,13 +18,6 @@ enum File<'a> {
     Missing,
     Folder,
     Bytes(&'a [u8]),
-}
-
-fn program() -> PathBuf {
-    match env::var_os("PLANREAD") {
-        Some(path) => PathBuf::from(path),
-        None => Path::new(env!("CARGO_MANIFEST_DIR")).join("../../target/bin/planread"),
-    }
 }
 
 fn put(path: PathBuf, file: &File) {
@@ -43,11 +36,9 @@ fn printed(job: File, plan: File) -> String {
     fs::create_dir(&folder).expect("a folder of its own");
     put(folder.join("job.w32"), &job);
     put(folder.join("plan.w32"), &plan);
-    let program = fs::canonicalize(program()).expect("the program is built");
-    let output = Command::new(program).current_dir(&folder).output().expect("the program runs");
+    let text = printed_in(&folder);
     fs::remove_dir_all(&folder).expect("the folder is ours");
-    assert!(output.status.code().is_some(), "the program ends by itself");
-    String::from_utf8(output.stdout).expect("plain text")
+    text
 }
 
 fn printed_words(job: &[u32], plan: &[u32]) -> String {

@@ -11,7 +11,8 @@ use Rattle.reading.specs.Forms.{formNumber}
 use Rattle.reading.specs.World.{procedureAt, trajectoryAt}
 use Rattle.extract.specs.Contract.{Written}
 use Rattle.extract.proofs.Written.{written-none, written-under, written-length}
-use Rattle.extract.proofs.Steps.{Done, done-none, Halfway, resize, has-room, moments, place-inside, while-number, headed, part-moments, part-child, part-more, part-end, body-lower, pass-start, pass-some, pass-child, pass-more, pass-end}
+use Rattle.reading.proofs.Forms.{form-number}
+use Rattle.extract.proofs.Steps.{Done, done-none, Halfway, resize, has-room, moments, place-inside, headed, part-moments, part-child, part-more, part-end, body-lower, pass-start, pass-some, pass-child, pass-more, pass-end}
 use Rattle.extract.proofs.write_parts.Reads as parts
 use Rattle.extract.proofs.write_parts.Kinds as parts-kinds
 use Rattle.extract.proofs.+write_parts+write_passes+write_reading.Lts-write_parts as parts-lts
@@ -144,7 +145,7 @@ module _ (t : ℕ) where
       let i = c .before in
       let w = i .before .before .before .before in
       let (is, s) = entry w .pre in
-      (omega arith, (resize (same-size w) (headed s), λ g. i .if1 .left (i .before .form-of .ensures .0 ∙ while-number _ g)))
+      (omega arith, (resize (same-size w) (headed s), λ g. i .if1 .left (i .before .form-of .ensures .0 ∙ form-number _ g (omega arith))))
 
   same-length-2 : lts.Need-same-length-2 (calls t) (own-at t) own.Post
   same-length-2 c =

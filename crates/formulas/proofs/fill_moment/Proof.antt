@@ -4,7 +4,7 @@ use Prim.Native.Nat.{_-_, _<_, _≤_}
 use Rattle.job.specs.Parts.{formulaCount}
 use Rattle.facts.specs.Values.{valueAt}
 use Rattle.facts.proofs.Values.{value-most}
-use Rattle.facts.proofs.Placed.{formula-place}
+use Rattle.job.proofs.ByPlace.{formula-place}
 use Rattle.formulas.proofs.Laws.{formula-computed, formula-most}
 use Rattle.formulas.proofs.Columns.{Filling, fill-start, fill-entry, fill-end}
 use Rattle.formulas.specs.Values.{formulaAt}

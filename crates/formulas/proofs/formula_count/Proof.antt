@@ -4,15 +4,15 @@ use Prim.Native.Nat.{_-_, _≤_}
 use lib.Dec.{eqb}
 use lib.ListN.{length}
 use Rattle.words.proofs.Choices.{one-le}
-use Rattle.job.specs.Before.{before, count}
-use Rattle.formulas.proofs.Counting.{count-none, count-more}
+use Rattle.job.specs.Before.{before, countOfKind}
+use Rattle.job.proofs.Laws.{count-none, count-more}
 use native.Mathlib.Omega.{arith}
 use borrow.Author.Needs.{needs}
 use Rattle.formulas.proofs.formula_count.Statement.{statement}
 use Rattle.formulas.proofs.formula_count.Tie as tie
 
 abbrev Inv-loop : tie.InvT-loop
-Inv-loop job n₀ i₀ n i = (i ≤ length job) × (n ≤ i) × (n ≡ count 5 (before job i))
+Inv-loop job n₀ i₀ n i = (i ≤ length job) × (n ≤ i) × (n ≡ countOfKind 5 (before job i))
 
 abbrev μ-loop : tie.MeasureT-loop
 μ-loop job n₀ i₀ n i = length job - i
@@ -45,7 +45,7 @@ loop-again : tie.Need-loop-again Inv-loop μ-loop
 loop-again c =
     let job = c .before .before .before .before .before .before .args .job .now in
     let i = c .before .before .before .before .loop .i in
-    let more = rw (← c .before .kind-of .ensures .0) at (count-more job 5 i) in (
+    let more = rw (← c .before .kind-of .ensures .0) at (count-more job i 5) in (
       omega arith,
       omega (arith, c .one-if .ensures, one-le (eqb (c .before .kind-of .result) 5)),
       rw more (omega (arith, c .one-if .ensures)),

@@ -1,6 +1,7 @@
 -- `planreader::check` meets its contract: the answer of `theory::check_plan`, which is in range, packed. Assumes nothing.
 use mathlib.Core.Path.{sym, ap, subst, _∙_}
-use Rattle.answers.specs.Packed.{InRange, packed}
+use Rattle.answers.specs.Packed.{InRange, packed, reads-back}
+use Rattle.theory.specs.Answers.{checkAnswer}
 use Rattle.theory.proofs.Range.{check-range}
 use borrow.Author.Needs.{needs}
 use native.Mathlib.Omega.{arith}
@@ -10,11 +11,15 @@ use Rattle.planreader.proofs.check.Tie as tie
 check-plan-requires : tie.Need-check-plan-requires
 check-plan-requires c κs = search needs
 
+in-range : (c : tie.After-check-plan) → InRange (checkAnswer (c .before .before .before .before .args .job .now) (c .before .before .before .before .args .starts .now) (c .before .before .before .before .args .facts .now))
+in-range c =
+    check-range (c .before .before .before .before .args .job .now) (c .before .before .before .before .args .starts .now) (λ i. omega (arith, c .before .before .shared-slice-known2 .given i)) (c .before .before .before .before .args .facts .now)
+
 pack-requires : tie.Need-pack-requires
-pack-requires c κs = subst InRange (sym (c .check-plan .ensures)) (check-range (c .before .before .before .before .args .job .now) (c .before .before .before .before .args .starts .now) (λ i. omega (arith, c .before .before .shared-slice-known2 .given i)) (c .before .before .before .before .args .facts .now))
+pack-requires c κs = subst InRange (sym (c .check-plan .ensures)) (in-range c)
 
 returns : tie.Need-returns
-returns c = c .pack .ensures ∙ ap packed (c .before .check-plan .ensures)
+returns c = let e = c .pack .ensures ∙ ap packed (c .before .check-plan .ensures) in (e, reads-back e (in-range (c .before)))
 
 pub check-spec : {M : Type 1} → statement M
 check-spec = tie.close (tie.spec check-plan-requires pack-requires returns)

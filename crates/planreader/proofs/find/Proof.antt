@@ -1,5 +1,6 @@
 -- `planreader::find` meets its contract: the answer of `finder::find_reading`, which is in range, packed. Assumes nothing.
 use borrow.Author.Needs.{needs}
+use Rattle.answers.specs.Packed.{reads-back}
 use Rattle.planreader.proofs.find.Statement.{statement}
 use Rattle.planreader.proofs.find.Tie as tie
 
@@ -15,7 +16,13 @@ same-length c = search needs
 returns : tie.Need-returns
 returns c =
     let made = c .before .before .before .find-reading in
-    record { answer = made .result; number = c .pack .ensures; outcome = made .ensures .0 }
+    record {
+      answer = made .result;
+      number = c .pack .ensures;
+      fields = reads-back (c .pack .ensures) (made .ensures .1 .0);
+      outcome = made .ensures .0;
+      few = made .ensures .1 .1;
+    }
 
 pub find-spec : {M : Type 1} → statement M
 find-spec = tie.close (tie.spec find-reading-requires pack-requires same-length returns)

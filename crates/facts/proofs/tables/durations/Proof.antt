@@ -3,7 +3,7 @@ use mathlib.Core.Path.{_≡_, refl, sym, _∙_}
 use Prim.Native.Nat.{ℕ, _-_, _<_, _≤_}
 use lib.ListN.{length, getD, length-set}
 use Rattle.job.specs.Parts.{duration}
-use Rattle.facts.proofs.Placed.{duration-place, action-counted}
+use Rattle.job.proofs.ByPlace.{duration-place, action-counted}
 use Rattle.facts.proofs.Stores.{fill-more, set-all, replicate-all}
 use native.Mathlib.Omega.{arith}
 use borrow.Author.Needs.{needs}

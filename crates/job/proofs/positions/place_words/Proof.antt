@@ -7,7 +7,7 @@ use borrow.Author.Needs.{needs}
 use native.Mathlib.Omega.{arith}
 use lib.ListN.{length, replicate, set}
 use lib.Seq.{sets}
-use Rattle.job.specs.Before.{before, count}
+use Rattle.job.specs.Before.{before, countOfKind}
 use Rattle.job.specs.Index.{positions, placesUpto}
 use Rattle.job.proofs.Where.{Marked, marked-none, room, hit, miss}
 use Rattle.job.proofs.positions.place_words.Statement.{statement}

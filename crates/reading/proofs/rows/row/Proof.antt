@@ -1,7 +1,7 @@
 -- `reading::rows::row` meets its contract: in each arm the rule of the form is what the row function ensures. Assumes nothing.
-use Rattle.reading.proofs.Nodes.{eighth, reserved}
-use Rattle.words.specs.Fields.{form}
-use mathlib.Core.Path.{sym, _∙_}
+use Rattle.reading.proofs.Forms.{no-form}
+use Rattle.reading.specs.Forms.{formNumber}
+use mathlib.Core.Path.{sym, ap, _∙_}
 use native.Mathlib.Omega.{arith}
 use Rattle.sets.proofs.Laws.{in-none}
 use borrow.Author.Needs.{needs}
@@ -170,20 +170,16 @@ returns-8 : tie.Need-returns-8
 returns-8 c = λ e. rw (sym (c .before .before .before .before .before .form-of .ensures .0) ∙ c .before .before .before .before .match .keys8, ← (c .before .node-n2 .ensures .0), ← (c .before .before .node-m3 .ensures .0), ← (c .before .before .before .node-y6 .ensures .0), ← (c .before .before .before .before .before .before .node-x .ensures .0)) (c .end-window-row .ensures e)
 
 returns-9 : tie.Need-returns-9
-returns-9 c =
-    let f = c .before .before .before .form-of .ensures .0 in
-    λ e. rw (reserved (form (c .before .before .before .before .before .before .args .word)) (omega arith)) (in-none (λ e z. z) e)
+returns-9 c = absurd (c .before .before .before .before .pre .single (ap formNumber (sym (c .before .form-of .ensures .0) ∙ c .match .keys9)))
 
 returns-10 : tie.Need-returns-10
 returns-10 c =
-    let f = c .before .before .form-of .ensures .0 in
     let r = c .before .match .rest in
-    absurd (c .before .before .before .before .before .pre .single
-    (rw f at (eighth (c .before .before .form-of .result) (omega arith)
-    (r .0 .0 .0 .0 .0 .0 .0 .1) (r .0 .0 .0 .0 .0 .0 .1) (r .0 .0 .0 .0 .0 .1) (r .0 .0 .0 .0 .1) (r .0 .0 .0 .1) (r .0 .0 .1) (r .0 .1) (r .1))))
+    let none = no-form (c .before .before .form-of .result) (r .0 .0 .0 .0 .0 .0 .0 .0 .1) (r .0 .0 .0 .0 .0 .0 .0 .1) (r .0 .0 .0 .0 .0 .0 .1) (r .0 .0 .0 .0 .0 .1) (r .0 .0 .0 .0 .1) (r .0 .0 .0 .1) (r .0 .0 .1) (r .0 .1) (r .1) in
+    λ e. rw (rw (c .before .before .form-of .ensures .0) at none) (in-none (λ e z. z) e)
 
 returns-11 : tie.Need-returns-11
-returns-11 c = absurd (omega (arith, c .before .before .before .form-of .ensures .1))
+returns-11 c = absurd (omega (arith, c .before .before .form-of .ensures .1))
 
 pub row-spec : {M : Type 1} → statement M
 row-spec =

@@ -1,6 +1,7 @@
 -- `reading::table::fill_node` meets its contract. Assumes nothing.
 use lib.ListN.{getD}
-use Rattle.reading.proofs.Nodes.{set-number, same-ready, same-rows, part-ready, part-rows}
+use Rattle.reading.proofs.Forms.{form-number}
+use Rattle.reading.proofs.Nodes.{same-ready, same-rows, part-ready, part-rows}
 use Rattle.reading.specs.World.{alone, procedureAt, trajectoryAt}
 use mathlib.Core.Path.{refl, sym, _∙_}
 use native.Mathlib.Omega.{arith}
@@ -80,7 +81,7 @@ set-rows-requires c κs =
 fill-rows-requires : tie.Need-fill-rows-requires
 fill-rows-requires c κs =
     let s = c .before .before .before .before .before .before .before in
-    (same-ready (procedureAt 64 (now (s .args .words)) (now (s .args .places)) (now (s .args .sizes)) (now (s .args .limits))) (alone (getD (now (s .args .words)) (getD (now (s .args .places)) (s .args .p) 0) 0)) (trajectoryAt (s .args .n) (now (s .args .starts)) (now (s .args .durations)) (now (s .args .values))) (s .args .p) refl (λ f. absurd (c .before .if1 .left (c .before .before .form-of .ensures .0 ∙ set-number _ f))) (s .pre .2), λ f. c .before .if1 .left (c .before .before .form-of .ensures .0 ∙ set-number _ f))
+    (same-ready (procedureAt 64 (now (s .args .words)) (now (s .args .places)) (now (s .args .sizes)) (now (s .args .limits))) (alone (getD (now (s .args .words)) (getD (now (s .args .places)) (s .args .p) 0) 0)) (trajectoryAt (s .args .n) (now (s .args .starts)) (now (s .args .durations)) (now (s .args .values))) (s .args .p) refl (λ f. absurd (c .before .if1 .left (c .before .before .form-of .ensures .0 ∙ form-number _ f (omega arith)))) (s .pre .2), λ f. c .before .if1 .left (c .before .before .form-of .ensures .0 ∙ form-number _ f (omega arith)))
 
 same-length : tie.Need-same-length
 same-length c = search needs
@@ -96,7 +97,7 @@ same-length-2 c = search needs
 returns-2 : tie.Need-returns-2
 returns-2 c =
     let s = c .before .before .before .before .before .before .before .before .before .before in
-    same-rows (procedureAt 64 (now (s .args .words)) (now (s .args .places)) (now (s .args .sizes)) (now (s .args .limits))) (alone (getD (now (s .args .words)) (getD (now (s .args .places)) (s .args .p) 0) 0)) (trajectoryAt (s .args .n) (now (s .args .starts)) (now (s .args .durations)) (now (s .args .values))) (s .args .p) refl (λ f. absurd (c .before .before .before .before .if1 .left (c .before .before .before .before .before .form-of .ensures .0 ∙ set-number _ f))) (c .before .before .fill-rows .ensures)
+    same-rows (procedureAt 64 (now (s .args .words)) (now (s .args .places)) (now (s .args .sizes)) (now (s .args .limits))) (alone (getD (now (s .args .words)) (getD (now (s .args .places)) (s .args .p) 0) 0)) (trajectoryAt (s .args .n) (now (s .args .starts)) (now (s .args .durations)) (now (s .args .values))) (s .args .p) refl (λ f. absurd (c .before .before .before .before .if1 .left (c .before .before .before .before .before .form-of .ensures .0 ∙ form-number _ f (omega arith)))) (c .before .before .fill-rows .ensures)
 
 pub fill-node-spec : {M : Type 1} → statement M
 fill-node-spec =

@@ -1,0 +1,52 @@
+-- `sets::conditions::end_mask` meets its contract. Assumes nothing.
+use Prim.Native.Nat.{ℕ, zero, suc}
+use mathlib.Core.Path.{_≡_, refl, sym, _∙_}
+use mathlib.Core.Logic.{_↔_}
+use Rattle.bitset.specs.Members.{has, In}
+use Rattle.sets.specs.Search.{asked}
+use borrow.Author.Needs.{needs}
+use Rattle.sets.proofs.conditions.end_mask.Statement.{statement}
+use Rattle.sets.proofs.conditions.end_mask.Tie as tie
+
+-- whatever form is neither 0 nor 2 asks the end
+end-asked : (f x e : ℕ) → (f ≡ 0 → ⊥) → (f ≡ 2 → ⊥) → asked f x e ≡ e
+end-asked zero x e g h = absurd (g refl)
+end-asked (suc zero) x e g h = refl
+end-asked (suc (suc zero)) x e g h = absurd (h refl)
+end-asked (suc (suc (suc f))) x e g h = refl
+
+in-same : {r e a x : ℕ} → has r e ≡ has a x → In r e ↔ In a x
+in-same q = (λ t. record { yes = sym q ∙ t .yes }, λ t. record { yes = q ∙ t .yes })
+
+has-requires : tie.Need-has-requires
+has-requires c κs = search needs
+
+whole-requires : tie.Need-whole-requires
+whole-requires c κs = search needs
+
+has-requires-2 : tie.Need-has-requires-2
+has-requires-2 c κs = search needs
+
+whole-requires-2 : tie.Need-whole-requires-2
+whole-requires-2 c κs = search needs
+
+returns : tie.Need-returns
+returns c = λ e l. rw (c .before .before .match .keys1) (in-same (c .whole .ensures e l ∙ c .before .has .ensures))
+
+returns-2 : tie.Need-returns-2
+returns-2 c = λ e l. rw (c .before .before .match .keys2) (in-same (c .whole2 .ensures e l ∙ c .before .has2 .ensures))
+
+returns-3 : tie.Need-returns-3
+returns-3 c = λ e l. rw (end-asked _ _ e (c .match .rest .0 .1) (c .match .rest .1)) (λ t. t, λ t. t)
+
+pub end-mask-spec : {M : Type 1} → statement M
+end-mask-spec =
+    tie.close
+    (tie.spec
+    has-requires
+    whole-requires
+    has-requires-2
+    whole-requires-2
+    returns
+    returns-2
+    returns-3)

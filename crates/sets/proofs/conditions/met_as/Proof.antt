@@ -1,0 +1,112 @@
+-- `sets::conditions::met_as` meets its contract: in each arm the condition of the form. Assumes nothing.
+use Prim.Native.Nat.{ℕ, zero, suc}
+use mathlib.Core.Path.{_≡_, refl}
+use mathlib.Core.Bool.{false≢true}
+use native.Mathlib.Omega.{arith}
+use borrow.Author.Needs.{needs}
+use Rattle.sets.proofs.conditions.met_as.Statement.{statement}
+use Rattle.sets.proofs.conditions.met_as.Tie as tie
+
+-- any other form
+beyond : (f : ℕ) → (f ≡ 0 → ⊥) → (f ≡ 1 → ⊥) → (f ≡ 2 → ⊥) → (f ≡ 3 → ⊥) → (f ≡ 4 → ⊥) → (g : ℕ) × (f ≡ suc (suc (suc (suc (suc g)))))
+beyond zero a b c d e = absurd (a refl)
+beyond (suc zero) a b c d e = absurd (b refl)
+beyond (suc (suc zero)) a b c d e = absurd (c refl)
+beyond (suc (suc (suc zero))) a b c d e = absurd (d refl)
+beyond (suc (suc (suc (suc zero)))) a b c d e = absurd (e refl)
+beyond (suc (suc (suc (suc (suc f))))) a b c d e = (f, refl)
+
+add-ordered : tie.Need-add-ordered
+add-ordered c = search needs
+
+add-ordered-2 : tie.Need-add-ordered-2
+add-ordered-2 c = search needs
+
+ordered-requires : tie.Need-ordered-requires
+ordered-requires c κs = search needs
+
+add-ordered-3 : tie.Need-add-ordered-3
+add-ordered-3 c = search needs
+
+add-ordered-4 : tie.Need-add-ordered-4
+add-ordered-4 c = search needs
+
+ordered-requires-2 : tie.Need-ordered-requires-2
+ordered-requires-2 c κs = search needs
+
+holds-through-requires : tie.Need-holds-through-requires
+holds-through-requires c κs = search needs
+
+add-if2 : tie.Need-add-if2
+add-if2 c = search needs
+
+add-holds-through : tie.Need-add-holds-through
+add-holds-through c = search needs
+
+add-holds-through-2 : tie.Need-add-holds-through-2
+add-holds-through-2 c = search needs
+
+holds-through-requires-2 : tie.Need-holds-through-requires-2
+holds-through-requires-2 c κs = search needs
+
+add-holds-through-3 : tie.Need-add-holds-through-3
+add-holds-through-3 c = search needs
+
+holds-through-requires-3 : tie.Need-holds-through-requires-3
+holds-through-requires-3 c κs = search needs
+
+returns : tie.Need-returns
+returns c = rw (c .before .match .keys1) (c .ordered .ensures)
+
+returns-2 : tie.Need-returns-2
+returns-2 c = rw (c .before .match .keys2) (c .ordered2 .ensures)
+
+returns-3 : tie.Need-returns-3
+returns-3 c = rw (c .before .before .match .keys3) (
+  λ z. (c .before .if1 .taken, λ t g l. c .holds-through .ensures .0 z t (omega arith) l),
+  λ h. c .holds-through .ensures .1 (λ t g l. h .1 t (omega arith) l),
+)
+
+returns-4 : tie.Need-returns-4
+returns-4 c = rw (c .before .match .keys3) (λ z. absurd (false≢true z), λ h. let q = h .0 in absurd (omega arith))
+
+returns-5 : tie.Need-returns-5
+returns-5 c = rw (c .before .before .match .keys4) (
+  λ z. (c .before .if2 .taken, λ t g l. c .holds-through2 .ensures .0 z t g (omega arith)),
+  λ h. c .holds-through2 .ensures .1 (λ t g l. h .1 t g (omega arith)),
+)
+
+returns-6 : tie.Need-returns-6
+returns-6 c = rw (c .before .match .keys4) (λ z. absurd (false≢true z), λ h. let q = h .0 in absurd (omega arith))
+
+returns-7 : tie.Need-returns-7
+returns-7 c = rw (c .before .match .keys5) (c .holds-through3 .ensures)
+
+returns-8 : tie.Need-returns-8
+returns-8 c = let m = c .match .rest in let q = beyond _ (m .0 .0 .0 .0 .1) (m .0 .0 .0 .1) (m .0 .0 .1) (m .0 .1) (m .1) in rw (q .1) (λ z. absurd (false≢true z), λ h. absurd h)
+
+pub met-as-spec : {M : Type 1} → statement M
+met-as-spec =
+    tie.close
+    (tie.spec
+    add-ordered
+    add-ordered-2
+    ordered-requires
+    add-ordered-3
+    add-ordered-4
+    ordered-requires-2
+    holds-through-requires
+    add-if2
+    add-holds-through
+    add-holds-through-2
+    holds-through-requires-2
+    add-holds-through-3
+    holds-through-requires-3
+    returns
+    returns-2
+    returns-3
+    returns-4
+    returns-5
+    returns-6
+    returns-7
+    returns-8)

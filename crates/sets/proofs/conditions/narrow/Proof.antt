@@ -1,0 +1,160 @@
+-- `sets::conditions::narrow` meets its contract. The invariant: the masks have the first c conditions. Assumes nothing.
+use Prim.Native.Nat.{_-_, _*_, _≤_, _<_}
+use mathlib.Core.Path.{_≡_}
+use mathlib.Core.Logic.{⊎-elim}
+use native.Mathlib.Omega.{arith}
+use lib.ListN.{length, length-set}
+use Rattle.bitset.proofs.Laws.{not-both}
+use Rattle.sets.specs.Ends.{at}
+use Rattle.sets.specs.Search.{Narrowed}
+use Rattle.sets.proofs.Laws.{in-both}
+use Rattle.sets.proofs.Masks.{narrow-more, narrow-skip}
+use borrow.Author.Needs.{needs}
+use Rattle.sets.proofs.conditions.narrow.Statement.{statement}
+use Rattle.sets.proofs.conditions.narrow.Tie as tie
+
+abbrev Inv-loop : tie.InvT-loop
+Inv-loop conds allow k begins next₀ c₀ next c = (c ≤ length conds) × (length next ≡ 4) × Narrowed conds allow k begins next₀ c next
+
+abbrev μ-loop : tie.MeasureT-loop
+μ-loop conds allow k begins next₀ c₀ next c = length conds - c
+
+-- in each turn the condition's members and their begins are in range
+facts : (c : tie.After-condition-j Inv-loop μ-loop) → let a = c .before .before .before .before .before .before .before .args in
+    let i = c .before .condition-i .result in
+    let j = c .condition-j .result in
+    (i < 4) × (j < 4) × (at (a .t4) i < 64) × (at (a .t4) j < 64) × (length (a .conds .now) * 64 ≤ length (a .allow .now)) × (length (a .allow .now) * 8 < 9223372036854775808)
+facts c = let l = c .before .before .before in let s = l .before .before .before .before in
+    let n = s .pre .named (l .before .loop .c) (l .loop-test .taken) in
+    (omega (arith, n .0, c .before .condition-i .ensures .0), omega (arith, n .1, c .condition-j .ensures .0), s .pre .moments (c .before .condition-i .result), s .pre .moments (c .condition-j .result), s .pre .room, s .good .1 .0 .1)
+
+loop-holds : tie.Need-loop-holds Inv-loop μ-loop
+loop-holds c = (omega arith, omega arith, record { mask = λ i e. (λ t. (t, λ d l. absurd (omega arith)), λ t. t .0) })
+
+mul-w : tie.Need-mul-w Inv-loop μ-loop
+mul-w c = search needs
+
+shared-slice-read-w : tie.Need-shared-slice-read-w Inv-loop μ-loop
+shared-slice-read-w c = search needs
+
+condition-i-requires : tie.Need-condition-i-requires Inv-loop μ-loop
+condition-i-requires c κs = search needs
+
+condition-j-requires : tie.Need-condition-j-requires Inv-loop μ-loop
+condition-j-requires c κs = search needs
+
+is-later-requires : tie.Need-is-later-requires Inv-loop μ-loop
+is-later-requires c κs = search needs
+
+form-of-requires : tie.Need-form-of-requires Inv-loop μ-loop
+form-of-requires c κs = search needs
+
+mul-end-mask : tie.Need-mul-end-mask Inv-loop μ-loop
+mul-end-mask c = search needs
+
+mul-end-mask-2 : tie.Need-mul-end-mask-2 Inv-loop μ-loop
+mul-end-mask-2 c = search needs
+
+array-read-end-mask : tie.Need-array-read-end-mask Inv-loop μ-loop
+array-read-end-mask c = omega (arith, facts (c .before .before .before))
+
+cast-end-mask : tie.Need-cast-end-mask Inv-loop μ-loop
+cast-end-mask c = search needs
+
+add-end-mask : tie.Need-add-end-mask Inv-loop μ-loop
+add-end-mask c = omega (arith, facts (c .before .before .before))
+
+mul-end-mask-3 : tie.Need-mul-end-mask-3 Inv-loop μ-loop
+mul-end-mask-3 c = omega (arith, facts (c .before .before .before))
+
+shared-slice-read-end-mask : tie.Need-shared-slice-read-end-mask Inv-loop μ-loop
+shared-slice-read-end-mask c = omega (arith, facts (c .before .before .before .before))
+
+mul-end-mask-4 : tie.Need-mul-end-mask-4 Inv-loop μ-loop
+mul-end-mask-4 c = search needs
+
+array-read-end-mask-2 : tie.Need-array-read-end-mask-2 Inv-loop μ-loop
+array-read-end-mask-2 c = omega (arith, facts (c .before .before .before .before))
+
+end-mask-requires : tie.Need-end-mask-requires Inv-loop μ-loop
+end-mask-requires c κs = omega (arith, facts (c .before .before .before .before))
+
+mul-inter : tie.Need-mul-inter Inv-loop μ-loop
+mul-inter c = search needs
+
+array-read-inter : tie.Need-array-read-inter Inv-loop μ-loop
+array-read-inter c = omega (arith, facts (c .before .before .before .before .before))
+
+inter-requires : tie.Need-inter-requires Inv-loop μ-loop
+inter-requires c κs = search needs
+
+mul-next : tie.Need-mul-next Inv-loop μ-loop
+mul-next c = search needs
+
+array-write-next : tie.Need-array-write-next Inv-loop μ-loop
+array-write-next c = omega (arith, facts (c .before .before .before .before .before .before))
+
+add-c : tie.Need-add-c Inv-loop μ-loop
+add-c c = search needs
+
+loop-less : tie.Need-loop-less Inv-loop μ-loop
+loop-less c = search needs
+
+loop-again : tie.Need-loop-again Inv-loop μ-loop
+loop-again c =
+    let g = c .before .is-later .ensures in
+    let j = c .before .before in
+    let i = j .before in
+    let k = i .before .before .before .loop in
+    let s = i .before .before .before .before .before .before in
+    let qi = i .condition-i .ensures .0 in
+    let qj = j .condition-j .ensures .0 in (
+      omega arith,
+      ⊎-elim (λ z. rw (z .5) (simp length-set (k .inv .1))) (λ z. rw (z .1) (k .inv .1)) (c .if1 .came),
+      ⊎-elim
+          (λ z. rw (z .5, qi) (narrow-more (z .3 .result) (z .4 .result) (k .inv .1) (s .pre .named (k .c) (i .before .before .loop-test .taken) .0) (s .pre .small)
+          (rw (qi, qj) at (g .0 (z .0 .taken))) (λ e l. rw (qi, qj, z .1 .ensures .0) at (z .3 .ensures e l)) (λ e. rw qi at (in-both (z .4 .ensures) e)) (k .inv .2)))
+          (λ z. rw (z .1) (narrow-skip (λ n. not-both (g .1 (rw (qi, qj) n)) (z .0 .left)) (k .inv .2)))
+          (c .if1 .came),
+    )
+
+returns : tie.Need-returns Inv-loop μ-loop
+returns c = let h = c .before .loop .inv .2 in record {
+  mask = λ i e. (
+    λ t. let o = h .mask i e .0 t in (o .0, λ d l. o .1 d (omega arith)),
+    λ o. h .mask i e .1 (o .0, λ d l. o .1 d (omega arith)),
+  );
+}
+
+pub narrow-spec : {M : Type 1} → statement M
+narrow-spec =
+    tie.close
+    (tie.spec
+    Inv-loop
+    μ-loop
+    loop-holds
+    mul-w
+    shared-slice-read-w
+    condition-i-requires
+    condition-j-requires
+    is-later-requires
+    form-of-requires
+    mul-end-mask
+    mul-end-mask-2
+    array-read-end-mask
+    cast-end-mask
+    add-end-mask
+    mul-end-mask-3
+    shared-slice-read-end-mask
+    mul-end-mask-4
+    array-read-end-mask-2
+    end-mask-requires
+    mul-inter
+    array-read-inter
+    inter-requires
+    mul-next
+    array-write-next
+    add-c
+    loop-less
+    loop-again
+    returns)

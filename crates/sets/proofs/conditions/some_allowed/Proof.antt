@@ -1,0 +1,80 @@
+-- `sets::conditions::some_allowed` meets its contract. The invariant: the ends so far are those for the begins before y. Assumes nothing.
+use Prim.Native.Nat.{ℕ, _+_, _-_, _≤_, _<_}
+use mathlib.Core.Path.{_≡_, subst}
+use mathlib.Core.Logic.{_↔_}
+use native.Mathlib.Omega.{arith}
+use Rattle.bitset.specs.Members.{In}
+use Rattle.sets.specs.Search.{SomeBegin}
+use Rattle.sets.proofs.Laws.{in-none, gain, gain-step}
+use Rattle.sets.proofs.Own.{begin-none, begin-more}
+use borrow.Author.Needs.{needs}
+use Rattle.sets.proofs.conditions.some_allowed.Statement.{statement}
+use Rattle.sets.proofs.conditions.some_allowed.Tie as tie
+
+abbrev Inv-loop : tie.InvT-loop
+Inv-loop allow c form x n r₀ y₀ r y = (y ≤ n + 1) × ((e : ℕ) → e < 64 → In r e ↔ SomeBegin allow y form c x e)
+
+abbrev μ-loop : tie.MeasureT-loop
+μ-loop allow c form x n r₀ y₀ r y = n + 1 - y
+
+loop-holds : tie.Need-loop-holds Inv-loop μ-loop
+loop-holds c = let a = c .before .args in (omega arith, λ e l. in-none {P = λ z. SomeBegin (a .allow .now) 0 (a .form) (a .c) (a .x) z} (λ z. begin-none) e)
+
+mul-end-mask : tie.Need-mul-end-mask Inv-loop μ-loop
+mul-end-mask c = search needs
+
+cast-end-mask : tie.Need-cast-end-mask Inv-loop μ-loop
+cast-end-mask c = search needs
+
+add-end-mask : tie.Need-add-end-mask Inv-loop μ-loop
+add-end-mask c = search needs
+
+mul-end-mask-2 : tie.Need-mul-end-mask-2 Inv-loop μ-loop
+mul-end-mask-2 c = search needs
+
+shared-slice-read-end-mask : tie.Need-shared-slice-read-end-mask Inv-loop μ-loop
+shared-slice-read-end-mask c = search needs
+
+end-mask-requires : tie.Need-end-mask-requires Inv-loop μ-loop
+end-mask-requires c κs = search needs
+
+union-requires : tie.Need-union-requires Inv-loop μ-loop
+union-requires c κs = search needs
+
+add-y : tie.Need-add-y Inv-loop μ-loop
+add-y c = search needs
+
+loop-less : tie.Need-loop-less Inv-loop μ-loop
+loop-less c = search needs
+
+loop-again : tie.Need-loop-again Inv-loop μ-loop
+loop-again c = let k = c .before .before .before .before .loop in (
+  omega arith,
+  λ e l. gain-step (gain (c .before .end-mask .result) (c .union .ensures) (c .before .end-mask .ensures e l)) (begin-more (k .y)) (k .inv .1 e l),
+)
+
+returns : tie.Need-returns Inv-loop μ-loop
+returns c = λ e l.
+    let k = c .before .loop in
+    let a = c .before .before .before .args in
+    let q : k .y ≡ a .n + 1 = omega arith in
+    subst (λ (z : ℕ). In (k .r) e ↔ SomeBegin (a .allow .now) z (a .form) (a .c) (a .x) e) q (k .inv .1 e l)
+
+pub some-allowed-spec : {M : Type 1} → statement M
+some-allowed-spec =
+    tie.close
+    (tie.spec
+    Inv-loop
+    μ-loop
+    loop-holds
+    mul-end-mask
+    cast-end-mask
+    add-end-mask
+    mul-end-mask-2
+    shared-slice-read-end-mask
+    end-mask-requires
+    union-requires
+    add-y
+    loop-less
+    loop-again
+    returns)

@@ -1,0 +1,20 @@
+-- `sets::conditions::whole` meets its contract. Assumes nothing.
+use mathlib.Core.Path.{sym, _∙_}
+use native.Mathlib.Omega.{arith}
+use borrow.Author.Tests.{le-leb, lt-ltb}
+use Rattle.bitset.proofs.Laws.{both, has-zero}
+use borrow.Author.Needs.{needs}
+use Rattle.sets.proofs.conditions.whole.Statement.{statement}
+use Rattle.sets.proofs.conditions.whole.Tie as tie
+
+from-requires : tie.Need-from-requires
+from-requires c κs = search needs
+
+returns : tie.Need-returns
+returns c = λ e l. c .from .ensures e ∙ both (le-leb 0 e (omega arith)) (lt-ltb e 64 l) ∙ sym (c .before .if1 .taken)
+
+returns-2 : tie.Need-returns-2
+returns-2 c = λ e l. has-zero e ∙ sym (c .if1 .left)
+
+pub whole-spec : {M : Type 1} → statement M
+whole-spec = tie.close (tie.spec from-requires returns returns-2)

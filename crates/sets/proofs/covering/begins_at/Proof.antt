@@ -1,0 +1,57 @@
+-- `sets::covering::begins_at` meets its contract. The invariant: no member before i begins at b. Assumes nothing.
+use Prim.Native.Nat.{_-_, _≤_}
+use mathlib.Core.Path.{_≡_, refl}
+use mathlib.Core.Bool.{true, false≢true}
+use mathlib.Core.Logic.{⊎-elim}
+use native.Mathlib.Omega.{arith}
+use Rattle.sets.specs.Cover.{Some}
+use Rattle.sets.specs.Ends.{at}
+use Rattle.sets.proofs.Laws.{some-none, some-more}
+use borrow.Author.Needs.{needs}
+use Rattle.sets.proofs.covering.begins_at.Statement.{statement}
+use Rattle.sets.proofs.covering.begins_at.Tie as tie
+
+abbrev Inv-loop : tie.InvT-loop
+Inv-loop count b begins i₀ i = (i ≤ count) × (Some i (λ j. at begins j ≡ b) → ⊥)
+
+abbrev μ-loop : tie.MeasureT-loop
+μ-loop count b begins i₀ i = count - i
+
+loop-holds : tie.Need-loop-holds Inv-loop μ-loop
+loop-holds c = (omega arith, some-none)
+
+mul-if1 : tie.Need-mul-if1 Inv-loop μ-loop
+mul-if1 c = search needs
+
+array-read-if1 : tie.Need-array-read-if1 Inv-loop μ-loop
+array-read-if1 c = search needs
+
+returns : tie.Need-returns Inv-loop μ-loop
+returns c = (λ z. record { at = _; below = c .before .loop-test .taken; is = c .if1 .taken }, λ s. refl)
+
+add-i : tie.Need-add-i Inv-loop μ-loop
+add-i c = search needs
+
+loop-less : tie.Need-loop-less Inv-loop μ-loop
+loop-less c = search needs
+
+loop-again : tie.Need-loop-again Inv-loop μ-loop
+loop-again c = (omega arith, λ s. ⊎-elim (c .before .before .loop .inv .1) (c .if1 .left) (some-more _ .0 s))
+
+returns-2 : tie.Need-returns-2 Inv-loop μ-loop
+returns-2 c = (λ z. absurd (false≢true z), λ s. absurd (c .before .loop .inv .1 (record { at = s .at; below = omega (arith, s .below); is = s .is })))
+
+pub begins-at-spec : {M : Type 1} → statement M
+begins-at-spec =
+    tie.close
+    (tie.spec
+    Inv-loop
+    μ-loop
+    loop-holds
+    mul-if1
+    array-read-if1
+    returns
+    add-i
+    loop-less
+    loop-again
+    returns-2)

@@ -1,0 +1,93 @@
+-- `sets::covering::covered` meets its contract. The invariant: from the end `least` on, the members before i ask nothing more. Assumes nothing.
+use Prim.Native.Nat.{ℕ, _-_, _≤_, _<_}
+use mathlib.Core.Logic.{_↔_, ⊎-elim}
+use native.Mathlib.Omega.{arith}
+use borrow.Author.Tests.{not-true, not-false}
+use Rattle.bitset.proofs.Laws.{not-both}
+use Rattle.sets.specs.Cover.{Needed}
+use Rattle.sets.specs.Ends.{at}
+use Rattle.sets.proofs.Laws.{in-none, in-both, in-from}
+use Rattle.sets.proofs.Needs.{all-more}
+use borrow.Author.Needs.{needs}
+use Rattle.sets.proofs.covering.covered.Statement.{statement}
+use Rattle.sets.proofs.covering.covered.Tie as tie
+
+abbrev Inv-loop : tie.InvT-loop
+Inv-loop begins ends count b least₀ i₀ least i =
+    (i ≤ count) × (least < 64) × ((e : ℕ) → e < 64 → (least ≤ e) ↔ ((j : ℕ) → j < i → Needed count (at begins) (at ends) b j e))
+
+abbrev μ-loop : tie.MeasureT-loop
+μ-loop begins ends count b least₀ i₀ least i = count - i
+
+begins-at-requires : tie.Need-begins-at-requires Inv-loop μ-loop
+begins-at-requires c κs = search needs
+
+returns : tie.Need-returns Inv-loop μ-loop
+returns c = in-none (λ e h. not-both (c .before .begins-at .ensures .1 (h .first)) (not-true _ (c .if1 .taken)))
+
+loop-holds : tie.Need-loop-holds Inv-loop μ-loop
+loop-holds c = (omega arith, omega arith, λ e l. (λ h j k. absurd (omega arith), λ h. omega arith))
+
+need-requires : tie.Need-need-requires Inv-loop μ-loop
+need-requires c κs = omega (arith, c .before .before .before .before .pre .1 (c .before .loop .i))
+
+returns-2 : tie.Need-returns-2 Inv-loop μ-loop
+returns-2 c = let s = c .before .before .before .before .before .before in
+    in-none (λ e h. let k = h .last in let l = c .before .need .ensures e (s .pre .2 (k .at) e (k .below) (k .is)) .1 (h .needs (c .before .before .before .loop .i) (omega arith)) in omega (arith, s .pre .2 (k .at) e (k .below) (k .is), c .if2 .taken))
+
+add-i : tie.Need-add-i Inv-loop μ-loop
+add-i c = search needs
+
+loop-less : tie.Need-loop-less Inv-loop μ-loop
+loop-less c = search needs
+
+loop-again : tie.Need-loop-again Inv-loop μ-loop
+loop-again c = let k = c .before .before .before .before .loop in let n = c .before .before .need in (
+  omega arith,
+  ⊎-elim (λ w. omega arith) (λ w. omega arith) (c .if3 .came),
+  λ e l. all-more (k .inv .2 e l) (n .ensures e l) (⊎-elim (λ w. (λ h. (omega arith, omega arith), λ h. let u = h .1 in omega arith)) (λ w. (λ h. (omega arith, omega arith), λ h. let u = h .0 in omega arith)) (c .if3 .came)),
+)
+
+ends-before-requires : tie.Need-ends-before-requires Inv-loop μ-loop
+ends-before-requires c κs = search needs
+
+from-requires : tie.Need-from-requires Inv-loop μ-loop
+from-requires c κs = search needs
+
+inter-requires : tie.Need-inter-requires Inv-loop μ-loop
+inter-requires c κs = search needs
+
+returns-3 : tie.Need-returns-3 Inv-loop μ-loop
+returns-3 c = λ e.
+    let k = c .before .before .before .before in
+    let s = k .before .before .before in
+    let both = in-both (c .inter .ensures) e in
+    let late = in-from (c .before .from .ensures) e in
+    let some = c .before .before .ends-before .ensures e in (
+      λ t. let p = both .0 t in let j = some .0 (p .0) in let l = late .0 (p .1) in record {
+        last = record { at = j .at; below = j .below; is = j .is .1 };
+        first = k .before .before .begins-at .ensures .0 (not-false _ (k .before .if1 .left));
+        needs = λ i g. k .loop .inv .2 e (l .1) .0 (l .0) i (omega arith);
+      },
+      λ h. let j = h .last in let l = s .pre .2 (j .at) e (j .below) (j .is) in
+          both .1 (some .1 (record { at = j .at; below = j .below; is = (s .pre .1 (j .at), j .is) }), late .1 (k .loop .inv .2 e l .1 (λ i g. h .needs i (omega arith)), l)),
+    )
+
+pub covered-spec : {M : Type 1} → statement M
+covered-spec =
+    tie.close
+    (tie.spec
+    Inv-loop
+    μ-loop
+    begins-at-requires
+    returns
+    loop-holds
+    need-requires
+    returns-2
+    add-i
+    loop-less
+    loop-again
+    ends-before-requires
+    from-requires
+    inter-requires
+    returns-3)

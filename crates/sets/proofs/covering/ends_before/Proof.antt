@@ -1,0 +1,68 @@
+-- `sets::covering::ends_before` meets its contract. The invariant: the ends so far are those of the members before i. Assumes nothing.
+use Prim.Native.Nat.{ℕ, _-_, _≤_, _<_}
+use mathlib.Core.Logic.{_↔_, ⊎-elim}
+use native.Mathlib.Omega.{arith}
+use Rattle.bitset.specs.Members.{In}
+use Rattle.sets.specs.Cover.{Some}
+use Rattle.sets.specs.Ends.{at}
+use Rattle.sets.proofs.Laws.{in-union, in-none, in-more, some-none, some-more, gain-yes, gain-no}
+use borrow.Author.Needs.{needs}
+use Rattle.sets.proofs.covering.ends_before.Statement.{statement}
+use Rattle.sets.proofs.covering.ends_before.Tie as tie
+
+abbrev Inv-loop : tie.InvT-loop
+Inv-loop count x begins ends r₀ i₀ r i =
+    (i ≤ count) × ((e : ℕ) → In r e ↔ Some i (λ j. (at begins j < x) × (In (at ends j) e)))
+
+abbrev μ-loop : tie.MeasureT-loop
+μ-loop count x begins ends r₀ i₀ r i = count - i
+
+loop-holds : tie.Need-loop-holds Inv-loop μ-loop
+loop-holds c = (omega arith, in-none (λ e. some-none))
+
+mul-if1 : tie.Need-mul-if1 Inv-loop μ-loop
+mul-if1 c = search needs
+
+array-read-if1 : tie.Need-array-read-if1 Inv-loop μ-loop
+array-read-if1 c = search needs
+
+mul-union : tie.Need-mul-union Inv-loop μ-loop
+mul-union c = search needs
+
+array-read-union : tie.Need-array-read-union Inv-loop μ-loop
+array-read-union c = search needs
+
+union-requires : tie.Need-union-requires Inv-loop μ-loop
+union-requires c κs = search needs
+
+add-i : tie.Need-add-i Inv-loop μ-loop
+add-i c = search needs
+
+loop-less : tie.Need-loop-less Inv-loop μ-loop
+loop-less c = search needs
+
+loop-again : tie.Need-loop-again Inv-loop μ-loop
+loop-again c = (omega arith, in-more (λ e. ⊎-elim (λ w. rw (w .2) (gain-yes (w .0 .taken) (in-union (w .1 .ensures) e))) (λ w. rw (w .1) (gain-no (λ l. let z = w .0 .left in omega arith))) (c .if1 .came)) (λ e. some-more _) (c .before .before .loop .inv .1))
+
+returns : tie.Need-returns Inv-loop μ-loop
+returns c = let l = c .before .loop in λ e. (
+  λ t. let s = l .inv .1 e .0 t in record { at = s .at; below = omega (arith, s .below); is = s .is },
+  λ s. l .inv .1 e .1 (record { at = s .at; below = omega (arith, s .below); is = s .is }),
+)
+
+pub ends-before-spec : {M : Type 1} → statement M
+ends-before-spec =
+    tie.close
+    (tie.spec
+    Inv-loop
+    μ-loop
+    loop-holds
+    mul-if1
+    array-read-if1
+    mul-union
+    array-read-union
+    union-requires
+    add-i
+    loop-less
+    loop-again
+    returns)

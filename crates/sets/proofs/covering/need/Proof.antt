@@ -1,0 +1,60 @@
+-- `sets::covering::need` meets its contract. Assumes nothing.
+use Prim.Native.Nat.{_-_}
+use native.Mathlib.Omega.{arith}
+use Rattle.sets.proofs.Needs.{reaches, bridges, needed-own, needed-both}
+use borrow.Author.Needs.{needs}
+use Rattle.sets.proofs.covering.need.Statement.{statement}
+use Rattle.sets.proofs.covering.need.Tie as tie
+
+mul-least-from : tie.Need-mul-least-from
+mul-least-from c = search needs
+
+array-read-least-from : tie.Need-array-read-least-from
+array-read-least-from c = search needs
+
+least-from-requires : tie.Need-least-from-requires
+least-from-requires c κs = search needs
+
+mul-x : tie.Need-mul-x
+mul-x c = search needs
+
+array-read-x : tie.Need-array-read-x
+array-read-x c = search needs
+
+ends-before-requires : tie.Need-ends-before-requires
+ends-before-requires c κs = search needs
+
+sub-least-from : tie.Need-sub-least-from
+sub-least-from c = search needs
+
+least-from-requires-2 : tie.Need-least-from-requires-2
+least-from-requires-2 c κs = search needs
+
+returns : tie.Need-returns
+returns c = λ e l. let o = c .before .before .before .before in let m = c .before .before .ends-before in
+    needed-both (c .before .before .before .if1 .taken) (reaches (o .least-from .ensures e l)) (bridges (m .result) (m .ensures) (c .before .least-from2 .ensures e l))
+    (λ h. (omega arith, h), λ s. s .1)
+
+returns-2 : tie.Need-returns-2
+returns-2 c = λ e l. let o = c .before .before .before .before in let m = c .before .before .ends-before in
+    needed-both (c .before .before .before .if1 .taken) (reaches (o .least-from .ensures e l)) (bridges (m .result) (m .ensures) (c .before .least-from2 .ensures e l))
+    (λ h. (h, omega arith), λ s. s .0)
+
+returns-3 : tie.Need-returns-3
+returns-3 c = λ e l. needed-own (λ g. omega (arith, c .if1 .left)) (reaches (c .before .least-from .ensures e l))
+
+pub need-spec : {M : Type 1} → statement M
+need-spec =
+    tie.close
+    (tie.spec
+    mul-least-from
+    array-read-least-from
+    least-from-requires
+    mul-x
+    array-read-x
+    ends-before-requires
+    sub-least-from
+    least-from-requires-2
+    returns
+    returns-2
+    returns-3)

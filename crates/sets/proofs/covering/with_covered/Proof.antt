@@ -1,0 +1,43 @@
+-- `sets::covering::with_covered` meets its contract: an end that is covered is in some mask. Assumes nothing.
+use Prim.Native.Nat.{ℕ}
+use mathlib.Core.Path.{subst}
+use mathlib.Core.Logic.{inl, inr, ⊎-elim}
+use Rattle.bitset.specs.Members.{In}
+use Rattle.sets.proofs.Laws.{in-union, gain}
+use borrow.Author.Needs.{needs}
+use Rattle.sets.proofs.covering.with_covered.Statement.{statement}
+use Rattle.sets.proofs.covering.with_covered.Tie as tie
+
+ends-before-requires : tie.Need-ends-before-requires
+ends-before-requires c κs = search needs
+
+union-requires : tie.Need-union-requires
+union-requires c κs = search needs
+
+returns : tie.Need-returns
+returns c = let s = c .before .before .before in λ e. (
+  inl,
+  ⊎-elim (λ p. p) (λ h. let j = h .last in
+      let t = c .before .before .ends-before .ensures e .1 (record { at = j .at; below = j .below; is = (s .pre .1 (j .at), j .is) }) in
+      subst (λ (x : ℕ). In x e) (c .if1 .taken) (in-union (c .before .union .ensures) e .1 (inr t))),
+)
+
+covered-requires : tie.Need-covered-requires
+covered-requires c κs = search needs
+
+union-requires-2 : tie.Need-union-requires-2
+union-requires-2 c κs = search needs
+
+returns-2 : tie.Need-returns-2
+returns-2 c = λ e. gain (c .before .covered .result) (c .union2 .ensures) (c .before .covered .ensures e)
+
+pub with-covered-spec : {M : Type 1} → statement M
+with-covered-spec =
+    tie.close
+    (tie.spec
+    ends-before-requires
+    union-requires
+    returns
+    covered-requires
+    union-requires-2
+    returns-2)

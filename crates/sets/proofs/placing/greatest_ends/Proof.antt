@@ -1,0 +1,73 @@
+-- `sets::placing::greatest_ends` meets its contract. Assumes nothing.
+use Prim.Native.Nat.{ℕ, _-_, _≤_, _<_}
+use mathlib.Core.Path.{_≡_, refl}
+use native.Mathlib.Omega.{arith}
+use borrow.Author.Count.{below-more}
+use lib.ListN.{length, set, length-set}
+use lib.Seq.{getD-set-same, getD-set-other}
+use Rattle.bitset.specs.Members.{Highest}
+use Rattle.sets.specs.Ends.{at}
+use borrow.Author.Needs.{needs}
+use Rattle.sets.proofs.placing.greatest_ends.Statement.{statement}
+use Rattle.sets.proofs.placing.greatest_ends.Tie as tie
+
+abbrev Inv-loop : tie.InvT-loop
+Inv-loop count e sets ends₀ i₀ ends i = (i ≤ count) × (length ends ≡ 4) × ((j : ℕ) → j < i → Highest (at sets j) e (at ends j))
+
+abbrev μ-loop : tie.MeasureT-loop
+μ-loop count e sets ends₀ i₀ ends i = count - i
+
+loop-holds : tie.Need-loop-holds Inv-loop μ-loop
+loop-holds c = (omega arith, refl, λ j l. absurd (omega arith))
+
+mul-greatest-upto : tie.Need-mul-greatest-upto Inv-loop μ-loop
+mul-greatest-upto c = search needs
+
+array-read-greatest-upto : tie.Need-array-read-greatest-upto Inv-loop μ-loop
+array-read-greatest-upto c = search needs
+
+greatest-upto-requires : tie.Need-greatest-upto-requires Inv-loop μ-loop
+greatest-upto-requires c κs = let s = c .before .before in (s .pre .0, s .pre .2 (c .before .loop .i) (c .loop-test .taken))
+
+mul-ends : tie.Need-mul-ends Inv-loop μ-loop
+mul-ends c = search needs
+
+array-write-ends : tie.Need-array-write-ends Inv-loop μ-loop
+array-write-ends c = search needs
+
+add-i : tie.Need-add-i Inv-loop μ-loop
+add-i c = search needs
+
+loop-less : tie.Need-loop-less Inv-loop μ-loop
+loop-less c = search needs
+
+loop-again : tie.Need-loop-again Inv-loop μ-loop
+loop-again c =
+    let l = c .before .before .loop in
+    let s = c .before .before .before in (
+      omega arith,
+      simp length-set (l .inv .1),
+      below-more (λ j. Highest (at (s .args .t1) j) (s .args .e) (at (set (l .ends) (l .i) (c .greatest-upto .result)) j)) (l .i)
+          (λ j g. rw (getD-set-other (l .ends) (l .i) j (c .greatest-upto .result) 0 (omega arith)) (l .inv .2 j g))
+          (rw (getD-set-same (l .ends) (l .i) (c .greatest-upto .result) 0 (omega (arith, l .inv .1, s .pre .1, c .before .loop-test .taken))) (c .greatest-upto .ensures)),
+    )
+
+returns : tie.Need-returns Inv-loop μ-loop
+returns c = λ i l. c .before .loop .inv .2 i (omega arith)
+
+pub greatest-ends-spec : {M : Type 1} → statement M
+greatest-ends-spec =
+    tie.close
+    (tie.spec
+    Inv-loop
+    μ-loop
+    loop-holds
+    mul-greatest-upto
+    array-read-greatest-upto
+    greatest-upto-requires
+    mul-ends
+    array-write-ends
+    add-i
+    loop-less
+    loop-again
+    returns)

@@ -1,0 +1,32 @@
+-- `sets::placing::greatest_upto` meets its contract. Assumes nothing.
+use Prim.Native.Nat.{ℕ, _≤_}
+use mathlib.Core.Path.{_≡_, subst}
+use mathlib.Core.Bool.{false}
+use Rattle.bitset.specs.Members.{has, HighestUpto}
+use Rattle.bitset.proofs.Laws.{not-both}
+use borrow.Author.Needs.{needs}
+use Rattle.sets.proofs.placing.greatest_upto.Statement.{statement}
+use Rattle.sets.proofs.placing.greatest_upto.Tie as tie
+
+highest-upto-requires : tie.Need-highest-upto-requires
+highest-upto-requires c κs = search needs
+
+enum-known-m : tie.Need-enum-known-m
+enum-known-m c = search needs
+
+enum-told : tie.Need-enum-told
+enum-told c = search needs
+
+returns : tie.Need-returns
+returns c = subst (HighestUpto _ _) (c .before .m .given .1) (c .before .before .before .highest-upto .ensures)
+
+returns-2 : tie.Need-returns-2
+returns-2 c =
+    let s = c .before .before .before in
+    let n : (k : ℕ) → k ≤ s .args .e → has (s .args .x) k ≡ false = subst (HighestUpto (s .args .x) (s .args .e)) (c .enum-told .given .1) (c .before .before .highest-upto .ensures) in
+    let y = s .pre .1 in
+    not-both (y .1 .yes) (n (y .0) (y .2))
+
+pub greatest-upto-spec : {M : Type 1} → statement M
+greatest-upto-spec =
+    tie.close (tie.spec highest-upto-requires enum-known-m enum-told returns returns-2)

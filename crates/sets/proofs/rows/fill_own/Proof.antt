@@ -1,0 +1,96 @@
+-- `sets::rows::fill_own` meets its contract. The invariant: the rows before c are right. Assumes nothing.
+use Prim.Native.Nat.{_-_, _*_, _/_, _≤_}
+use mathlib.Core.Path.{_≡_, refl}
+use native.Mathlib.Omega.{arith}
+use lib.ListN.{length, length-set}
+use Rattle.sets.specs.Search.{OwnRows}
+use Rattle.sets.proofs.Own.{own-more}
+use borrow.Author.Needs.{needs}
+use Rattle.sets.proofs.rows.fill_own.Statement.{statement}
+use Rattle.sets.proofs.rows.fill_own.Tie as tie
+
+abbrev Inv-loop : tie.InvT-loop
+Inv-loop members conds allow table n own₀ c₀ own c =
+    (c ≤ length members * 64) × (length own ≡ length own₀) × OwnRows members conds n allow table c own
+
+abbrev μ-loop : tie.MeasureT-loop
+μ-loop members conds allow table n own₀ c₀ own c = length members * 64 - c
+
+loop-holds : tie.Need-loop-holds Inv-loop μ-loop
+loop-holds c = (omega arith, refl, record { row = λ i l. absurd (omega arith) })
+
+mul-loop : tie.Need-mul-loop Inv-loop μ-loop
+mul-loop c = search needs
+
+cast-x : tie.Need-cast-x Inv-loop μ-loop
+cast-x c = search needs
+
+mul-member-node : tie.Need-mul-member-node Inv-loop μ-loop
+mul-member-node c = search needs
+
+shared-slice-read-member-node : tie.Need-shared-slice-read-member-node Inv-loop μ-loop
+shared-slice-read-member-node c = search needs
+
+member-node-requires : tie.Need-member-node-requires Inv-loop μ-loop
+member-node-requires c κs = search needs
+
+ends-at-requires : tie.Need-ends-at-requires Inv-loop μ-loop
+ends-at-requires c κs = let s = c .before .before .before .before .before .before .before .before .before in omega (arith, c .member-node .ensures .0, s .pre .1 (c .before .before .before .loop .c / 64) (omega (arith, c .before .before .loop-test .taken)), s .pre .2)
+
+own-row-requires : tie.Need-own-row-requires Inv-loop μ-loop
+own-row-requires c κs = let s = c .before .before .before .before .before .before .before .before .before .before in (s .pre .3, omega arith, s .pre .2)
+
+mul-own : tie.Need-mul-own Inv-loop μ-loop
+mul-own c = search needs
+
+slice-write-own : tie.Need-slice-write-own Inv-loop μ-loop
+slice-write-own c = let s = c .before .before .before .before .before .before .before .before .before .before .before in omega (arith, s .pre .4, c .before .before .before .before .before .loop .inv .1, c .before .before .before .before .loop-test .taken)
+
+add-c : tie.Need-add-c Inv-loop μ-loop
+add-c c = search needs
+
+loop-less : tie.Need-loop-less Inv-loop μ-loop
+loop-less c = search needs
+
+loop-again : tie.Need-loop-again Inv-loop μ-loop
+loop-again c =
+    let s = c .before .before .before .before .before .before .before .before .before .before .before in
+    let k = c .before .before .before .before .before .loop in
+    let m = c .before .before .member-node in (
+      omega (arith, c .before .before .before .before .loop-test .taken),
+      simp length-set (k .inv .1),
+      own-more (k .c) (c .own-row .result) (omega (arith, s .pre .4, k .inv .1, c .before .before .before .before .loop-test .taken)) (k .inv .2) (λ e.
+          let o = c .own-row .ensures e in
+          let p = rw (m .ensures .0) at (c .before .ends-at .ensures e) in (
+            λ t. let u = o .0 t in let v = p .0 (u .0) in (v .0, v .1, v .2, u .1),
+            λ t. o .1 (p .1 (t .0, t .1, t .2), t .3),
+          )),
+    )
+
+same-length : tie.Need-same-length Inv-loop μ-loop
+same-length c = c .before .loop .inv .1
+
+returns : tie.Need-returns Inv-loop μ-loop
+returns c = let h = c .before .loop .inv .2 in record { row = λ i l. h .row i (omega arith) }
+
+pub fill-own-spec : {M : Type 1} → statement M
+fill-own-spec =
+    tie.close
+    (tie.spec
+    Inv-loop
+    μ-loop
+    loop-holds
+    mul-loop
+    cast-x
+    mul-member-node
+    shared-slice-read-member-node
+    member-node-requires
+    ends-at-requires
+    own-row-requires
+    mul-own
+    slice-write-own
+    add-c
+    loop-less
+    loop-again
+    same-length
+    returns)

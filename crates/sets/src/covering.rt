@@ -1,0 +1,163 @@
+// The ends of a set whose members' begins are fixed, by the masks of the members' ends, with no search.
+ghost use mathlib.Core.Path.{_≡_};
+ghost use mathlib.Core.Bool.{true};
+ghost use mathlib.Core.Logic.{_↔_, _⊎_};
+ghost use Prim.Native.Nat.{ℕ, _<_, _≤_};
+ghost use Rattle.bitset.specs.Members.{In};
+ghost use Rattle.sets.specs.Cover.{Some, Needed, Coverable, Spans, Attained};
+ghost use Rattle.sets.specs.Ends.{at};
+
+// The ends of the members that begin before x.
+fn ends_before(begins: [u32; 4], ends: [u64; 4], count: usize, x: u32) -> u64
+    requires { ⌜ count ≤ 4 ⌝ }
+    ensures { λ r. ⌜ ((e : ℕ) → In r e ↔ Some count (λ i. (at begins i < x) × (In (at ends i) e))) ⌝ }
+{
+    let mut r = 0;
+    let mut i = 0;
+    while i < count {
+        if begins[i] < x {
+            r = bitset::union(r, ends[i]);
+        }
+        i += 1;
+    }
+    r
+}
+
+// The least member from a on, or 64.
+fn least_from(x: u64, a: u32) -> u32
+    requires { ⌜ a < 64 ⌝ }
+    ensures { λ r. ⌜ ((e : ℕ) → e < 64 → (r ≤ e) ↔ ((y : ℕ) × (In x y) × (a ≤ y) × (y ≤ e))) ⌝ }
+{
+    let late = bitset::inter(x, bitset::from(a));
+    if late == 0 {
+        return 64;
+    }
+    bitset::lowest(late)
+}
+
+// The end from which on member i asks nothing more, or 64.
+fn need(begins: [u32; 4], ends: [u64; 4], count: usize, b: u32, i: usize) -> u32
+    requires { ⌜ (count ≤ 4) × (i < count) × (at begins i < 64) ⌝ }
+    ensures { λ r. ⌜ ((e : ℕ) → e < 64 → (r ≤ e) ↔ Needed count (at begins) (at ends) b i e) ⌝ }
+{
+    let own = least_from(ends[i], 0);
+    let x = begins[i];
+    if b < x {
+        let bridge = least_from(ends_before(begins, ends, count, x), x - 1);
+        if own < bridge {
+            return bridge;
+        }
+    }
+    own
+}
+
+// Whether one of the first count members begins at b.
+fn begins_at(begins: [u32; 4], count: usize, b: u32) -> bool
+    requires { ⌜ count ≤ 4 ⌝ }
+    ensures { λ r. ⌜ (r ≡ true) ↔ Some count (λ i. at begins i ≡ b) ⌝ }
+{
+    let mut i = 0;
+    while i < count {
+        if begins[i] == b {
+            return true;
+        }
+        i += 1;
+    }
+    false
+}
+
+// The ends e of which some choice of ends covers b..e.
+fn covered(begins: [u32; 4], ends: [u64; 4], count: usize, b: u32) -> u64
+    requires { ⌜ (count ≤ 4) × ((i : ℕ) → at begins i < 64) × ((i e : ℕ) → i < count → In (at ends i) e → e < 64) ⌝ }
+    ensures { λ r. ⌜ ((e : ℕ) → In r e ↔ Coverable count (at begins) (at ends) b e) ⌝ }
+{
+    if !begins_at(begins, count, b) {
+        return 0;
+    }
+    let mut least = 0;
+    let mut i = 0;
+    while i < count {
+        let own = need(begins, ends, count, b, i);
+        if 63 < own {
+            return 0;
+        }
+        if least < own {
+            least = own;
+        }
+        i += 1;
+    }
+    bitset::inter(ends_before(begins, ends, count, 64), bitset::from(least))
+}
+
+// `found` and these ends, which are not worked out where no mask has an end that is not found yet.
+pub fn with_covered(begins: [u32; 4], ends: [u64; 4], count: usize, b: u32, found: u64) -> u64
+    requires { ⌜ (count ≤ 4) × ((i : ℕ) → at begins i < 64) × ((i e : ℕ) → i < count → In (at ends i) e → e < 64) ⌝ }
+    ensures { λ r. ⌜ ((e : ℕ) → In r e ↔ (In found e ⊎ Coverable count (at begins) (at ends) b e)) ⌝ }
+{
+    if bitset::union(found, ends_before(begins, ends, count, 64)) == found {
+        return found;
+    }
+    bitset::union(found, covered(begins, ends, count, b))
+}
+
+// The greatest ends of the choices of an end out of each mask.
+pub fn attained(ends: [u64; 4], count: usize) -> u64
+    requires { ⌜ (count ≤ 4) × ((i e : ℕ) → In (at ends i) e → e < 64) ⌝ }
+    ensures { λ r. ⌜ ((e : ℕ) → In r e ↔ Attained count (at ends) e) ⌝ }
+{
+    let mut all = 0;
+    let mut least = 0;
+    let mut i = 0;
+    while i < count {
+        let own = least_from(ends[i], 0);
+        if 63 < own {
+            return 0;
+        }
+        if least < own {
+            least = own;
+        }
+        all = bitset::union(all, ends[i]);
+        i += 1;
+    }
+    bitset::inter(all, bitset::from(least))
+}
+
+// The moments from x to the greatest of these ends.
+pub fn span(x: u32, ends: u64) -> u64
+    requires { ⌜ x < 64 ⌝ }
+    ensures { λ r. ⌜ ((t : ℕ) → In r t ↔ Spans x ends t) ⌝ }
+{
+    match bitset::highest_upto(ends, 63) {
+        bitset::Member::At(m) => bitset::between(x, m),
+        bitset::Member::Nothing => 0,
+    }
+}
+
+// The moments that one of the first count members can cover.
+pub fn spans(begins: [u32; 4], ends: [u64; 4], count: usize) -> u64
+    requires { ⌜ (count ≤ 4) × ((i : ℕ) → at begins i < 64) ⌝ }
+    ensures { λ r. ⌜ ((t : ℕ) → In r t ↔ Some count (λ i. Spans (at begins i) (at ends i) t)) ⌝ }
+{
+    let mut r = 0;
+    let mut i = 0;
+    while i < count {
+        r = bitset::union(r, span(begins[i], ends[i]));
+        i += 1;
+    }
+    r
+}
+
+// The first moment from a on that is not in x, or n.
+pub fn first_outside(x: u64, a: u32, n: u32) -> u32
+    requires { ⌜ (a ≤ n) × (n < 64) ⌝ }
+    ensures { λ r. ⌜ (a ≤ r) × (r ≤ n) × ((y : ℕ) → a ≤ y → y < r → In x y) × ((r ≡ n) ⊎ (In x r → ⊥)) ⌝ }
+{
+    let mut t = a;
+    while t < n {
+        if !bitset::has(x, t) {
+            return t;
+        }
+        t += 1;
+    }
+    t
+}

@@ -1,0 +1,48 @@
+-- `starts::clashes::clash_table` meets its contract. The invariant: the entries below `k` are right. Assumes nothing.
+use mathlib.Core.Path.{refl}
+use Prim.Native.Nat.{ℕ, _-_, _≤_}
+use Rattle.starts.proofs.Pairs.{Entered, entered-start, entered-more, entered-all}
+use native.Mathlib.Omega.{arith}
+use Rattle.starts.proofs.clashes.clash_table.Statement.{statement}
+use Rattle.starts.proofs.clashes.clash_table.Tie as tie
+
+abbrev Inv-loop : tie.InvT-loop
+Inv-loop job effects table₀ k₀ table k = (k ≤ 4096) × Entered job k table
+
+abbrev μ-loop : tie.MeasureT-loop
+μ-loop job effects table₀ k₀ table k = 4096 - k
+
+loop-holds : tie.Need-loop-holds Inv-loop μ-loop
+loop-holds c = (omega arith, entered-start _ _ (refl {a = 4096}))
+
+clash-entry-requires : tie.Need-clash-entry-requires Inv-loop μ-loop
+clash-entry-requires c κs = c .before .before .before .pre
+
+array-write-table : tie.Need-array-write-table Inv-loop μ-loop
+array-write-table c = omega (arith, c .before .before .loop .inv .1 .size)
+
+add-k : tie.Need-add-k Inv-loop μ-loop
+add-k c = omega arith
+
+loop-less : tie.Need-loop-less Inv-loop μ-loop
+loop-less c = omega arith
+
+loop-again : tie.Need-loop-again Inv-loop μ-loop
+loop-again c = (omega arith, entered-more _ _ _ _ (c .before .before .loop .inv .1) (c .before .loop-test .taken) (c .clash-entry .ensures))
+
+returns : tie.Need-returns Inv-loop μ-loop
+returns c = entered-all _ (c .before .before .before .pre .0) (c .before .loop .k) _ (omega arith) (c .before .loop .inv .1)
+
+pub clash-table-spec : {M : Type 1} → statement M
+clash-table-spec =
+    tie.close
+    (tie.spec
+    Inv-loop
+    μ-loop
+    loop-holds
+    clash-entry-requires
+    array-write-table
+    add-k
+    loop-less
+    loop-again
+    returns)

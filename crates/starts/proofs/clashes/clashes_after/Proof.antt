@@ -1,0 +1,95 @@
+-- `starts::clashes::clashes_after` meets its contract. The invariant: no action below `a` clashes and is in hand. Assumes nothing.
+use mathlib.Core.Path.{_≡_, refl, sym}
+use Prim.Native.Nat.{ℕ, _-_, _≤_, _<_}
+use mathlib.Core.Bool.{Bool, true, false}
+use Rattle.job.specs.Parts.{actions}
+use lib.Dec.{eqb}
+use Rattle.words.specs.Tests.{one}
+use Rattle.starts.specs.Rows.{clash}
+use Rattle.words.specs.Scan.{someBelow}
+use Rattle.starts.specs.Latest.{Clashes, clashesAfter}
+use Rattle.starts.proofs.Below.{some-start, some-more, some-hit}
+use borrow.Author.Needs.{needs}
+use native.Mathlib.Omega.{arith}
+use Rattle.starts.proofs.clashes.clashes_after.Statement.{statement}
+use Rattle.starts.proofs.clashes.clashes_after.Tie as tie
+
+abbrev Inv-loop : tie.InvT-loop
+Inv-loop job latest table b u n a₀ a = (a ≤ n) × (someBelow (clashesAfter job latest b u) a ≡ false)
+
+abbrev μ-loop : tie.MeasureT-loop
+μ-loop job latest table b u n a₀ a = n - a
+
+-- what the table's entry tells
+is-one : (t : Bool) → eqb (one t) 1 ≡ t
+is-one true = refl
+is-one false = refl
+
+shared-slice-read-actions-of : tie.Need-shared-slice-read-actions-of Inv-loop μ-loop
+shared-slice-read-actions-of c = c .before .before .pre .0 .some
+
+actions-of-requires : tie.Need-actions-of-requires Inv-loop μ-loop
+actions-of-requires c κs = search needs
+
+loop-holds : tie.Need-loop-holds Inv-loop μ-loop
+loop-holds c = (omega arith, some-start _)
+
+mul-if1 : tie.Need-mul-if1 Inv-loop μ-loop
+mul-if1 c = omega (arith, c .before .before .before .before .before .pre .0 .few-actions, c .before .before .before .before .before .pre .2, c .before .before .actions-of .ensures .0)
+
+element-copy-out-if1 : tie.Need-element-copy-out-if1 Inv-loop μ-loop
+element-copy-out-if1 c = omega (arith, c .before .before .before .before .before .pre .0 .few-actions, c .before .before .before .before .before .pre .2, c .before .before .actions-of .ensures .0)
+
+mul-if1-2 : tie.Need-mul-if1-2 Inv-loop μ-loop
+mul-if1-2 c = omega (arith, c .before .before .before .before .before .before .pre .0 .few-actions, c .before .before .before .before .before .before .pre .2, c .before .before .before .actions-of .ensures .0)
+
+add-if1 : tie.Need-add-if1 Inv-loop μ-loop
+add-if1 c = omega (arith, c .before .before .before .before .before .before .pre .0 .few-actions, c .before .before .before .before .before .before .pre .2, c .before .before .before .actions-of .ensures .0)
+
+element-copy-out-if1-2 : tie.Need-element-copy-out-if1-2 Inv-loop μ-loop
+element-copy-out-if1-2 c = omega (arith, c .before .before .before .before .before .before .pre .0 .few-actions, c .before .before .before .before .before .before .pre .2, c .before .before .before .actions-of .ensures .0)
+
+returns : tie.Need-returns Inv-loop μ-loop
+returns c = let args = c .before .before .before .before .before .before .before .before .args in let pre = c .before .before .before .before .before .before .before .before .pre in
+    let n = c .before .before .before .before .before .actions-of .ensures .0 in
+    let a : c .before .before .before .before .loop .a < actions (args .job .now) = omega arith in
+    sym (some-hit (clashesAfter (args .job .now) (args .latest .now) (args .b) (args .u)) _ (c .before .before .before .before .loop .a) a
+    (rw (← is-one (clash (args .job .now) (c .before .before .before .before .loop .a) (args .b)), ← pre .1 .entry (c .before .before .before .before .loop .a) (args .b) a (pre .2)) (c .if1 .taken)))
+
+add-a : tie.Need-add-a Inv-loop μ-loop
+add-a c = omega arith
+
+loop-less : tie.Need-loop-less Inv-loop μ-loop
+loop-less c = omega arith
+
+loop-again : tie.Need-loop-again Inv-loop μ-loop
+loop-again c = let args = c .before .before .before .before .before .before .before .before .args in let pre = c .before .before .before .before .before .before .before .before .pre in
+    let n = c .before .before .before .before .before .actions-of .ensures .0 in
+    let a : c .before .before .before .before .loop .a < actions (args .job .now) = omega arith in (
+      omega arith,
+      some-more (clashesAfter (args .job .now) (args .latest .now) (args .b) (args .u)) _ (c .before .before .before .before .loop .inv .1)
+          (rw (← is-one (clash (args .job .now) (c .before .before .before .before .loop .a) (args .b)), ← pre .1 .entry (c .before .before .before .before .loop .a) (args .b) a (pre .2)) (c .if1 .left)),
+    )
+
+returns-2 : tie.Need-returns-2 Inv-loop μ-loop
+returns-2 c = let e : c .before .loop .a ≡ actions (c .before .before .before .before .before .args .job .now) = omega (arith, c .before .before .actions-of .ensures .0) in rw (← e) (sym (c .before .loop .inv .1))
+
+pub clashes-after-spec : {M : Type 1} → statement M
+clashes-after-spec =
+    tie.close
+    (tie.spec
+    Inv-loop
+    μ-loop
+    shared-slice-read-actions-of
+    actions-of-requires
+    loop-holds
+    mul-if1
+    element-copy-out-if1
+    mul-if1-2
+    add-if1
+    element-copy-out-if1-2
+    returns
+    add-a
+    loop-less
+    loop-again
+    returns-2)

@@ -1,0 +1,93 @@
+-- `starts::clashes::has_clash` meets its contract. The invariant: the actions are not opposed on a fluent below `f`. Assumes nothing.
+use mathlib.Core.Path.{_≡_, sym}
+use Prim.Native.Nat.{ℕ, _-_, _≤_, _<_}
+use mathlib.Core.Bool.{false}
+use Rattle.job.specs.Parts.{fluents}
+use Rattle.starts.specs.Rows.{opposed, clash}
+use Rattle.words.specs.Scan.{someBelow}
+use Rattle.starts.proofs.Below.{some-start, some-more, some-hit}
+use borrow.Author.Needs.{needs}
+use native.Mathlib.Omega.{arith}
+use Rattle.starts.proofs.clashes.has_clash.Statement.{statement}
+use Rattle.starts.proofs.clashes.has_clash.Tie as tie
+
+abbrev Inv-loop : tie.InvT-loop
+Inv-loop job effects a b n f₀ f = (f ≤ n) × (someBelow (opposed job a b) f ≡ false)
+
+abbrev μ-loop : tie.MeasureT-loop
+μ-loop job effects a b n f₀ f = n - f
+
+shared-slice-read-fluents-of : tie.Need-shared-slice-read-fluents-of Inv-loop μ-loop
+shared-slice-read-fluents-of c = c .before .before .pre .0 .some
+
+fluents-of-requires : tie.Need-fluents-of-requires Inv-loop μ-loop
+fluents-of-requires c κs = search needs
+
+loop-holds : tie.Need-loop-holds Inv-loop μ-loop
+loop-holds c = (omega arith, some-start _)
+
+mul-x : tie.Need-mul-x Inv-loop μ-loop
+mul-x c = omega (arith, c .before .before .before .before .before .pre .0 .few-actions, c .before .before .before .before .before .pre .2)
+
+add-x : tie.Need-add-x Inv-loop μ-loop
+add-x c = omega (arith, c .before .before .before .before .before .pre .0 .few-actions, c .before .before .before .before .before .pre .0 .few-fluents, c .before .before .before .before .before .pre .2, c .before .before .fluents-of .ensures .0)
+
+element-copy-out-x : tie.Need-element-copy-out-x Inv-loop μ-loop
+element-copy-out-x c = omega (arith, c .before .before .before .before .before .pre .0 .few-actions, c .before .before .before .before .before .pre .0 .few-fluents, c .before .before .before .before .before .pre .2, c .before .before .fluents-of .ensures .0)
+
+mul-y : tie.Need-mul-y Inv-loop μ-loop
+mul-y c = omega (arith, c .before .before .before .before .before .before .pre .0 .few-actions, c .before .before .before .before .before .before .pre .3)
+
+add-y : tie.Need-add-y Inv-loop μ-loop
+add-y c = omega (arith, c .before .before .before .before .before .before .pre .0 .few-actions, c .before .before .before .before .before .before .pre .0 .few-fluents, c .before .before .before .before .before .before .pre .3, c .before .before .before .fluents-of .ensures .0)
+
+element-copy-out-y : tie.Need-element-copy-out-y Inv-loop μ-loop
+element-copy-out-y c = omega (arith, c .before .before .before .before .before .before .pre .0 .few-actions, c .before .before .before .before .before .before .pre .0 .few-fluents, c .before .before .before .before .before .before .pre .3, c .before .before .before .fluents-of .ensures .0)
+
+returns : tie.Need-returns Inv-loop μ-loop
+unfolding clash
+returns c = let args = c .before .before .before .before .before .before .before .before .args in let pre = c .before .before .before .before .before .before .before .before .pre in
+    let n = c .before .before .before .before .before .fluents-of .ensures .0 in
+    let f : c .before .before .before .before .loop .f < fluents (args .job .now) = omega arith in
+    sym (some-hit (opposed (args .job .now) (args .a) (args .b)) _ (c .before .before .before .before .loop .f) f
+    (rw (← pre .1 .entry (args .a) (c .before .before .before .before .loop .f) (pre .2) f, ← pre .1 .entry (args .b) (c .before .before .before .before .loop .f) (pre .3) f) (c .if1 .taken)))
+
+add-f : tie.Need-add-f Inv-loop μ-loop
+add-f c = omega arith
+
+loop-less : tie.Need-loop-less Inv-loop μ-loop
+loop-less c = omega arith
+
+loop-again : tie.Need-loop-again Inv-loop μ-loop
+loop-again c = let args = c .before .before .before .before .before .before .before .before .args in let pre = c .before .before .before .before .before .before .before .before .pre in
+    let n = c .before .before .before .before .before .fluents-of .ensures .0 in
+    let f : c .before .before .before .before .loop .f < fluents (args .job .now) = omega arith in (
+      omega arith,
+      some-more (opposed (args .job .now) (args .a) (args .b)) _ (c .before .before .before .before .loop .inv .1)
+          (rw (← pre .1 .entry (args .a) (c .before .before .before .before .loop .f) (pre .2) f, ← pre .1 .entry (args .b) (c .before .before .before .before .loop .f) (pre .3) f) (c .if1 .left)),
+    )
+
+returns-2 : tie.Need-returns-2 Inv-loop μ-loop
+unfolding clash
+returns-2 c = let e : c .before .loop .f ≡ fluents (c .before .before .before .before .before .args .job .now) = omega (arith, c .before .before .fluents-of .ensures .0) in rw (← e) (sym (c .before .loop .inv .1))
+
+pub has-clash-spec : {M : Type 1} → statement M
+has-clash-spec =
+    tie.close
+    (tie.spec
+    Inv-loop
+    μ-loop
+    shared-slice-read-fluents-of
+    fluents-of-requires
+    loop-holds
+    mul-x
+    add-x
+    element-copy-out-x
+    mul-y
+    add-y
+    element-copy-out-y
+    returns
+    add-f
+    loop-less
+    loop-again
+    returns-2)

@@ -1,0 +1,66 @@
+-- `starts::order::wrong_word` meets its contract. The invariant: the row fits no word before `i`. Assumes nothing.
+use mathlib.Core.Path.{_≡_, sym}
+use Prim.Native.Nat.{ℕ, _-_, _≤_}
+use lib.ListN.{length}
+use Rattle.answers.specs.Rows.{firstOf, passed}
+use Rattle.answers.proofs.Rows.{first-start}
+use Rattle.starts.specs.Rows.{wrongWord, numbered}
+use Rattle.starts.proofs.Below.{row-more, row-found}
+use native.Mathlib.Omega.{arith}
+use Rattle.starts.proofs.order.wrong_word.Statement.{statement}
+use Rattle.starts.proofs.order.wrong_word.Tie as tie
+
+abbrev Inv-loop : tie.InvT-loop
+Inv-loop job starts i₀ i = (i ≤ length starts) × (firstOf (numbered 6 (wrongWord job starts)) i ≡ passed)
+
+abbrev μ-loop : tie.MeasureT-loop
+μ-loop job starts i₀ i = length starts - i
+
+loop-holds : tie.Need-loop-holds Inv-loop μ-loop
+loop-holds c = (omega arith, first-start _)
+
+mul-is-start : tie.Need-mul-is-start Inv-loop μ-loop
+mul-is-start c = omega arith
+
+shared-slice-read-is-start : tie.Need-shared-slice-read-is-start Inv-loop μ-loop
+shared-slice-read-is-start c = omega arith
+
+is-start-requires : tie.Need-is-start-requires Inv-loop μ-loop
+is-start-requires c κs = c .before .before .before .before .before .pre .some
+
+is-above-requires : tie.Need-is-above-requires Inv-loop μ-loop
+is-above-requires c κs = omega arith
+
+returns : tie.Need-returns Inv-loop μ-loop
+unfolding wrongWord
+returns c = let args = c .before .before .before .before .before .before .before .before .args in sym (row-found (wrongWord (args .job .now) (args .starts .now)) 6 _ _ (omega arith) (c .before .before .before .before .before .loop .inv .1) (rw (← c .before .before .is-start .ensures, ← c .before .is-above .ensures) (c .if1 .taken)) (omega arith))
+
+add-i : tie.Need-add-i Inv-loop μ-loop
+add-i c = omega arith
+
+loop-less : tie.Need-loop-less Inv-loop μ-loop
+loop-less c = omega arith
+
+loop-again : tie.Need-loop-again Inv-loop μ-loop
+unfolding wrongWord
+loop-again c = let args = c .before .before .before .before .before .before .before .before .args in (omega arith, row-more (wrongWord (args .job .now) (args .starts .now)) 6 _ (c .before .before .before .before .before .loop .inv .1) (rw (← c .before .before .is-start .ensures, ← c .before .is-above .ensures) (c .if1 .left)))
+
+returns-2 : tie.Need-returns-2 Inv-loop μ-loop
+returns-2 c = let e : c .before .loop .i ≡ length (c .before .before .before .before .args .starts .now) = omega arith in rw (← e) (sym (c .before .loop .inv .1))
+
+pub wrong-word-spec : {M : Type 1} → statement M
+wrong-word-spec =
+    tie.close
+    (tie.spec
+    Inv-loop
+    μ-loop
+    loop-holds
+    mul-is-start
+    shared-slice-read-is-start
+    is-start-requires
+    is-above-requires
+    returns
+    add-i
+    loop-less
+    loop-again
+    returns-2)

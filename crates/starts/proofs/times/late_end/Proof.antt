@@ -1,0 +1,73 @@
+-- `starts::times::late_end` meets its contract. The invariant: the row fits no word before `i`. Assumes nothing.
+use mathlib.Core.Path.{_≡_, sym, _∙_}
+use Prim.Native.Nat.{ℕ, _-_, _≤_}
+use lib.ListN.{length}
+use Rattle.answers.specs.Rows.{firstOf, passed}
+use borrow.Author.Tests.{lt-ltb, le-ltb}
+use Rattle.answers.proofs.Rows.{first-start}
+use Rattle.starts.specs.Rows.{endsLate, numbered}
+use Rattle.starts.proofs.Below.{row-more, row-found}
+use Rattle.starts.proofs.Words.{finish-is}
+use borrow.Author.Needs.{needs}
+use native.Mathlib.Omega.{arith}
+use Rattle.starts.proofs.times.late_end.Statement.{statement}
+use Rattle.starts.proofs.times.late_end.Tie as tie
+
+abbrev Inv-loop : tie.InvT-loop
+Inv-loop job durations starts last i₀ i = (i ≤ length starts) × (firstOf (numbered 7 (endsLate job starts)) i ≡ passed)
+
+abbrev μ-loop : tie.MeasureT-loop
+μ-loop job durations starts last i₀ i = length starts - i
+
+shared-slice-read-last-of : tie.Need-shared-slice-read-last-of Inv-loop μ-loop
+shared-slice-read-last-of c = c .before .before .before .pre .0 .some
+
+last-of-requires : tie.Need-last-of-requires Inv-loop μ-loop
+last-of-requires c κs = search needs
+
+loop-holds : tie.Need-loop-holds Inv-loop μ-loop
+loop-holds c = (omega arith, first-start _)
+
+mul-finish-of : tie.Need-mul-finish-of Inv-loop μ-loop
+mul-finish-of c = omega arith
+
+shared-slice-read-finish-of : tie.Need-shared-slice-read-finish-of Inv-loop μ-loop
+shared-slice-read-finish-of c = omega arith
+
+finish-of-requires : tie.Need-finish-of-requires Inv-loop μ-loop
+finish-of-requires c κs = c .before .before .before .before .before .before .before .pre .1 .small _
+
+returns : tie.Need-returns Inv-loop μ-loop
+unfolding endsLate
+returns c = let e = c .before .finish-of .ensures ∙ finish-is (c .before .before .before .before .before .before .before .before .before .pre .1) (c .before .before .before .before .before .before .before .before .before .pre .2) _ (c .before .before .before .loop-test .taken) in let args = c .before .before .before .before .before .before .before .before .before .args in sym (row-found (endsLate (args .job .now) (args .starts .now)) 7 _ _ (omega arith) (c .before .before .before .before .loop .inv .1) (rw (← c .before .before .before .before .before .last-of .ensures .0, ← e) (lt-ltb _ _ (c .if1 .taken))) (omega arith))
+
+add-i : tie.Need-add-i Inv-loop μ-loop
+add-i c = omega arith
+
+loop-less : tie.Need-loop-less Inv-loop μ-loop
+loop-less c = omega arith
+
+loop-again : tie.Need-loop-again Inv-loop μ-loop
+unfolding endsLate
+loop-again c = let e = c .before .finish-of .ensures ∙ finish-is (c .before .before .before .before .before .before .before .before .before .pre .1) (c .before .before .before .before .before .before .before .before .before .pre .2) _ (c .before .before .before .loop-test .taken) in let args = c .before .before .before .before .before .before .before .before .before .args in (omega arith, row-more (endsLate (args .job .now) (args .starts .now)) 7 _ (c .before .before .before .before .loop .inv .1) (rw (← c .before .before .before .before .before .last-of .ensures .0, ← e) (le-ltb _ _ (c .if1 .left))))
+
+returns-2 : tie.Need-returns-2 Inv-loop μ-loop
+returns-2 c = let e : c .before .loop .i ≡ length (c .before .before .before .before .before .before .args .starts .now) = omega arith in rw (← e) (sym (c .before .loop .inv .1))
+
+pub late-end-spec : {M : Type 1} → statement M
+late-end-spec =
+    tie.close
+    (tie.spec
+    Inv-loop
+    μ-loop
+    shared-slice-read-last-of
+    last-of-requires
+    loop-holds
+    mul-finish-of
+    shared-slice-read-finish-of
+    finish-of-requires
+    returns
+    add-i
+    loop-less
+    loop-again
+    returns-2)

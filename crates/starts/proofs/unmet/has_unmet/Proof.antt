@@ -1,0 +1,81 @@
+-- `starts::unmet::has_unmet` meets its contract. The invariant: the first law that is not met stands at `i` or after. Assumes nothing.
+use mathlib.Core.Path.{_≡_, sym, _∙_}
+use Prim.Native.Nat.{ℕ, _-_, _≤_}
+use lib.ListN.{length, getD, drop}
+use lib.Seq.{drop-drop}
+use borrow.Author.Tests.{eq-eqb, ne-eqb}
+use Rattle.words.specs.Scan.{someWord, leading}
+use Rattle.words.proofs.Scan.{any-laws-hit, any-laws-miss, any-laws-stop, any-laws-end}
+use Rattle.words.specs.Fields.{ofKind}
+use Rattle.job.specs.Parts.{headWord}
+use Rattle.starts.specs.Rows.{unmet}
+use borrow.Author.Needs.{needs}
+use native.Mathlib.Omega.{arith}
+use Rattle.starts.proofs.unmet.has_unmet.Statement.{statement}
+use Rattle.starts.proofs.unmet.has_unmet.Tie as tie
+
+abbrev Inv-loop : tie.InvT-loop
+Inv-loop job at state head i₀ i = (i ≤ length job)
+    × (someWord (unmet (headWord job) (λ f. getD state f 0)) (leading (ofKind 4) (drop 1 (drop at job))) ≡ someWord (unmet (headWord job) (λ f. getD state f 0)) (leading (ofKind 4) (drop i job)))
+
+abbrev μ-loop : tie.MeasureT-loop
+μ-loop job at state head i₀ i = length job - i
+
+shared-slice-read-head : tie.Need-shared-slice-read-head Inv-loop μ-loop
+shared-slice-read-head c = search needs
+
+add-i : tie.Need-add-i Inv-loop μ-loop
+add-i c = omega arith
+
+loop-holds : tie.Need-loop-holds Inv-loop μ-loop
+loop-holds c = (omega arith, rw drop-drop)
+
+mul-w : tie.Need-mul-w Inv-loop μ-loop
+mul-w c = omega arith
+
+shared-slice-read-w : tie.Need-shared-slice-read-w Inv-loop μ-loop
+shared-slice-read-w c = omega arith
+
+kind-of-requires : tie.Need-kind-of-requires Inv-loop μ-loop
+kind-of-requires c κs = search needs
+
+returns : tie.Need-returns Inv-loop μ-loop
+returns c = let k = ne-eqb _ 4 (c .if1 .taken) in sym (c .before .before .before .before .loop .inv .1 ∙ any-laws-stop _ _ _ _ (c .before .before .before .loop-test .taken) (rw (c .before .kind-of .ensures .0) at k))
+
+is-unmet-requires : tie.Need-is-unmet-requires Inv-loop μ-loop
+is-unmet-requires c κs = search needs
+
+returns-2 : tie.Need-returns-2 Inv-loop μ-loop
+returns-2 c = let k = eq-eqb _ 4 (c .before .before .if1 .left) in sym (c .before .before .before .before .before .before .loop .inv .1 ∙ any-laws-hit _ _ _ _ (c .before .before .before .before .before .loop-test .taken) (rw (c .before .before .before .kind-of .ensures .0) at k) (sym (c .before .is-unmet .ensures) ∙ c .if2 .taken))
+
+add-i-2 : tie.Need-add-i-2 Inv-loop μ-loop
+add-i-2 c = omega arith
+
+loop-less : tie.Need-loop-less Inv-loop μ-loop
+loop-less c = omega arith
+
+loop-again : tie.Need-loop-again Inv-loop μ-loop
+loop-again c = let k = eq-eqb _ 4 (c .before .before .if1 .left) in (omega arith, c .before .before .before .before .before .before .loop .inv .1 ∙ any-laws-miss _ _ _ _ (c .before .before .before .before .before .loop-test .taken) (rw (c .before .before .before .kind-of .ensures .0) at k) (sym (c .before .is-unmet .ensures) ∙ c .if2 .left))
+
+returns-3 : tie.Need-returns-3 Inv-loop μ-loop
+returns-3 c = sym (c .before .loop .inv .1 ∙ any-laws-end _ _ _ _ (c .loop-test .left))
+
+pub has-unmet-spec : {M : Type 1} → statement M
+has-unmet-spec =
+    tie.close
+    (tie.spec
+    Inv-loop
+    μ-loop
+    shared-slice-read-head
+    add-i
+    loop-holds
+    mul-w
+    shared-slice-read-w
+    kind-of-requires
+    returns
+    is-unmet-requires
+    returns-2
+    add-i-2
+    loop-less
+    loop-again
+    returns-3)

@@ -1,0 +1,108 @@
+// Row 9: starts that clash.
+ghost use mathlib.Core.Path.{_≡_};
+ghost use Prim.Native.Nat.{_+_, _*_, _/_, _%_, _<_};
+ghost use lib.ListN.{length};
+ghost use Rattle.words.specs.Tests.{one};
+ghost use Rattle.words.specs.Scan.{someBelow};
+ghost use Rattle.answers.specs.Rows.{firstOf};
+ghost use Rattle.job.specs.Parts.{actions};
+ghost use Rattle.job.specs.WellFormed.{WellFormed};
+ghost use Rattle.facts.specs.Tables.{Durations, Effects};
+ghost use Rattle.starts.specs.Rows.{clash, clashes, numbered};
+ghost use Rattle.starts.specs.Latest.{Worded, Clashes, clashesAfter};
+use crate::times::finish_of;
+use answers::Refusal;
+use words::*;
+
+// Row 9: whether two actions clash, and the table of all pairs.
+fn has_clash(job: &[u32], effects: &[u8; 4096], a: usize, b: usize) -> bool
+    requires { ⌜ WellFormed (now job) × Effects (now job) (now effects) × (a < actions (now job)) × (b < actions (now job)) ⌝ }
+    ensures { λ r. ⌜ r ≡ clash (now (job .entry)) a b ⌝ }
+{
+    let n = fluents_of(job[0]);
+    let mut f = 0;
+    while f < n {
+        let x = effects[a * 64 + f];
+        let y = effects[b * 64 + f];
+        if ((x == 2) & (y == 0)) | ((x == 0) & (y == 2)) {
+            return true;
+        }
+        f += 1;
+    }
+    false
+}
+
+fn clash_entry(job: &[u32], effects: &[u8; 4096], k: usize) -> u8
+    requires { ⌜ WellFormed (now job) × Effects (now job) (now effects) ⌝ }
+    ensures { λ r. ⌜ (k / 64 < actions (now (job .entry)) → k % 64 < actions (now (job .entry)) → r ≡ one (clash (now (job .entry)) (k / 64) (k % 64))) ⌝ }
+{
+    let n = actions_of(job[0]);
+    let a = k / 64;
+    let b = k % 64;
+    if n <= a {
+        return 0;
+    }
+    if n <= b {
+        return 0;
+    }
+    if has_clash(job, effects, a, b) { 1 } else { 0 }
+}
+
+fn clash_table(job: &[u32], effects: &[u8; 4096]) -> [u8; 4096]
+    requires { ⌜ WellFormed (now job) × Effects (now job) (now effects) ⌝ }
+    ensures { λ r. ⌜ Clashes (now (job .entry)) r ⌝ }
+{
+    let mut table = [0u8; 4096];
+    let mut k = 0;
+    while k < 4096 {
+        table[k] = clash_entry(job, effects, k);
+        k += 1;
+    }
+    table
+}
+
+// Whether some action that clashes with `b` has its latest finish after moment `u`.
+fn clashes_after(job: &[u32], latest: &[usize; 64], table: &[u8; 4096], b: usize, u: usize) -> bool
+    requires { ⌜ WellFormed (now job) × Clashes (now job) (now table) × (b < actions (now job)) ⌝ }
+    ensures { λ r. ⌜ r ≡ someBelow (clashesAfter (now (job .entry)) (now (latest .entry)) b u) (actions (now (job .entry))) ⌝ }
+{
+    let n = actions_of(job[0]);
+    let mut a = 0;
+    while a < n {
+        if (u < latest[a]) & (table[a * 64 + b] == 1) {
+            return true;
+        }
+        a += 1;
+    }
+    false
+}
+
+pub fn first_clash(
+    job: &[u32],
+    durations: &[usize; 64],
+    effects: &[u8; 4096],
+    starts: &[u32],
+) -> Refusal
+    requires { ⌜ WellFormed (now job) × Durations (now job) (now durations) × Effects (now job) (now effects) × Worded (now job) (now starts) ⌝ }
+    ensures { λ r. ⌜ r ≡ firstOf (numbered 9 (clashes (now (job .entry)) (now (starts .entry)))) (length (now (starts .entry))) ⌝ }
+{
+    let table = clash_table(job, effects);
+    let mut latest = [0usize; 64];
+    let mut i = 0;
+    while i < starts.len() {
+        let s = starts[i];
+        let a = start_action(s);
+        if clashes_after(job, &latest, &table, a, start_moment(s)) {
+            return Refusal {
+                number: 9,
+                position: i,
+            };
+        }
+        latest[a] = finish_of(durations, s);
+        i += 1;
+    }
+    Refusal {
+        number: 0,
+        position: 0,
+    }
+}

@@ -1,0 +1,51 @@
+// Row 6: the words of a plan's starts, and their order.
+ghost use mathlib.Core.Path.{_≡_};
+ghost use Prim.Native.Nat.{_-_, _/_, _%_, _<_};
+ghost use lib.ListN.{length};
+ghost use Rattle.answers.specs.Rows.{firstOf};
+ghost use Rattle.job.specs.WellFormed.{WellFormed};
+ghost use Rattle.starts.specs.Rows.{isStart, ascends, wrongWord, numbered};
+use answers::Refusal;
+use words::*;
+
+// Row 6: whether a word is a start of the job, and above the word before it.
+fn is_start(job: &[u32], s: u32) -> bool
+    requires { ⌜ 0 < length (now job) ⌝ }
+    ensures { λ r. ⌜ r ≡ isStart (now (job .entry)) s ⌝ }
+{
+    let head = job[0];
+    (kind_of(s) == 9)
+        & (s / 4096 % 65536 == 0)
+        & (start_moment(s) <= last_of(head))
+        & (start_action(s) < actions_of(head))
+}
+
+fn is_above(starts: &[u32], i: usize) -> bool
+    requires { ⌜ i < length (now starts) ⌝ }
+    ensures { λ r. ⌜ r ≡ ascends (now (starts .entry)) i ⌝ }
+{
+    if i == 0 {
+        return true;
+    }
+    starts[i - 1] < starts[i]
+}
+
+pub fn wrong_word(job: &[u32], starts: &[u32]) -> Refusal
+    requires { ⌜ WellFormed (now job) ⌝ }
+    ensures { λ r. ⌜ r ≡ firstOf (numbered 6 (wrongWord (now (job .entry)) (now (starts .entry)))) (length (now (starts .entry))) ⌝ }
+{
+    let mut i = 0;
+    while i < starts.len() {
+        if !(is_start(job, starts[i]) & is_above(starts, i)) {
+            return Refusal {
+                number: 6,
+                position: i,
+            };
+        }
+        i += 1;
+    }
+    Refusal {
+        number: 0,
+        position: 0,
+    }
+}

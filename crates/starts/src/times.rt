@@ -1,0 +1,67 @@
+// Rows 7 and 8: when starts finish.
+ghost use mathlib.Core.Path.{_≡_};
+ghost use Prim.Native.Nat.{_+_, _<_};
+ghost use lib.ListN.{length, getD};
+ghost use Rattle.words.specs.Fields.{startMoment, startAction};
+ghost use Rattle.answers.specs.Rows.{firstOf};
+ghost use Rattle.job.specs.WellFormed.{WellFormed};
+ghost use Rattle.facts.specs.Tables.{Durations};
+ghost use Rattle.starts.specs.Rows.{endsLate, inHandAlready, numbered};
+ghost use Rattle.starts.specs.Latest.{Worded};
+use answers::Refusal;
+use words::*;
+
+// The moment at which a start finishes, by the table of durations.
+pub fn finish_of(durations: &[usize; 64], s: u32) -> usize
+    requires { ⌜ getD (now durations) (startAction s) 0 < 64 ⌝ }
+    ensures { λ r. ⌜ r ≡ startMoment s + getD (now (durations .entry)) (startAction s) 0 ⌝ }
+{
+    start_moment(s) + durations[start_action(s)]
+}
+
+// Row 7.
+pub fn late_end(job: &[u32], durations: &[usize; 64], starts: &[u32]) -> Refusal
+    requires { ⌜ WellFormed (now job) × Durations (now job) (now durations) × Worded (now job) (now starts) ⌝ }
+    ensures { λ r. ⌜ r ≡ firstOf (numbered 7 (endsLate (now (job .entry)) (now (starts .entry)))) (length (now (starts .entry))) ⌝ }
+{
+    let last = last_of(job[0]);
+    let mut i = 0;
+    while i < starts.len() {
+        if last < finish_of(durations, starts[i]) {
+            return Refusal {
+                number: 7,
+                position: i,
+            };
+        }
+        i += 1;
+    }
+    Refusal {
+        number: 0,
+        position: 0,
+    }
+}
+
+// Row 8. The table has the latest finish of each action's starts so far.
+pub fn restart(job: &[u32], durations: &[usize; 64], starts: &[u32]) -> Refusal
+    requires { ⌜ WellFormed (now job) × Durations (now job) (now durations) × Worded (now job) (now starts) ⌝ }
+    ensures { λ r. ⌜ r ≡ firstOf (numbered 8 (inHandAlready (now (job .entry)) (now (starts .entry)))) (length (now (starts .entry))) ⌝ }
+{
+    let mut latest = [0usize; 64];
+    let mut i = 0;
+    while i < starts.len() {
+        let s = starts[i];
+        let a = start_action(s);
+        if start_moment(s) < latest[a] {
+            return Refusal {
+                number: 8,
+                position: i,
+            };
+        }
+        latest[a] = finish_of(durations, s);
+        i += 1;
+    }
+    Refusal {
+        number: 0,
+        position: 0,
+    }
+}

@@ -1,0 +1,78 @@
+-- `words::run_length` meets its contract. The invariant: what leads from `at` is what was passed and what leads from `i`. Assumes nothing.
+use mathlib.Core.Path.{_≡_, refl, sym, _∙_}
+use Prim.Native.Nat.{_+_, _-_, _≤_}
+use native.Mathlib.Omega.{arith}
+use borrow.Author.Tests.{eq-eqb, ne-eqb}
+use lib.ListN.{length, drop}
+use Rattle.words.specs.Scan.{leading}
+use Rattle.words.proofs.Scan.{lead-hit, lead-miss, lead-end}
+use Rattle.words.specs.Fields.{ofKind}
+use borrow.Author.Needs.{needs}
+use Rattle.words.proofs.run_length.Statement.{statement}
+use Rattle.words.proofs.run_length.Tie as tie
+
+abbrev Inv-loop : tie.InvT-loop
+Inv-loop ws at k i₀ i =
+    (at ≤ i) × (i ≤ length ws) × (at + length (leading (ofKind k) (drop at ws)) ≡ i + length (leading (ofKind k) (drop i ws)))
+
+abbrev μ-loop : tie.MeasureT-loop
+μ-loop ws at k i₀ i = length ws - i
+
+loop-holds : tie.Need-loop-holds Inv-loop μ-loop
+loop-holds c = (omega arith, omega arith, refl)
+
+mul-kind-of : tie.Need-mul-kind-of Inv-loop μ-loop
+mul-kind-of c = search needs
+
+shared-slice-read-kind-of : tie.Need-shared-slice-read-kind-of Inv-loop μ-loop
+shared-slice-read-kind-of c = search needs
+
+kind-of-requires : tie.Need-kind-of-requires Inv-loop μ-loop
+kind-of-requires c κs = search needs
+
+sub-result : tie.Need-sub-result Inv-loop μ-loop
+sub-result c = search needs
+
+returns : tie.Need-returns Inv-loop μ-loop
+returns c =
+    let l = lead-miss (ofKind (c .before .before .before .before .before .before .args .k)) (c .before .before .before .before .before .before .args .ws .now) (c .before .before .before .before .loop .i) (c .before .before .before .loop-test .taken)
+    (ne-eqb _ _ (λ e. c .if1 .taken (c .before .kind-of .ensures .0 ∙ e))) in
+    omega (arith, l)
+
+add-i : tie.Need-add-i Inv-loop μ-loop
+add-i c = search needs
+
+loop-less : tie.Need-loop-less Inv-loop μ-loop
+loop-less c = search needs
+
+loop-again : tie.Need-loop-again Inv-loop μ-loop
+loop-again c =
+    let l = lead-hit (ofKind (c .before .before .before .before .before .before .args .k)) (c .before .before .before .before .before .before .args .ws .now) (c .before .before .before .before .loop .i) (c .before .before .before .loop-test .taken)
+    (eq-eqb _ _ (sym (c .before .kind-of .ensures .0) ∙ c .if1 .left)) in
+    (omega arith, omega arith, omega (arith, l))
+
+sub-result-2 : tie.Need-sub-result-2 Inv-loop μ-loop
+sub-result-2 c = search needs
+
+returns-2 : tie.Need-returns-2 Inv-loop μ-loop
+returns-2 c =
+    let l = lead-end (ofKind (c .before .before .before .args .k)) (c .before .before .before .args .ws .now) (c .before .loop .i) (omega arith) in
+    omega (arith, l)
+
+pub run-length-spec : {M : Type 1} → statement M
+run-length-spec =
+    tie.close
+    (tie.spec
+    Inv-loop
+    μ-loop
+    loop-holds
+    mul-kind-of
+    shared-slice-read-kind-of
+    kind-of-requires
+    sub-result
+    returns
+    add-i
+    loop-less
+    loop-again
+    sub-result-2
+    returns-2)

@@ -1,0 +1,158 @@
+//! The examples for people: their listings, files and expected texts, and the README's blocks, against the checker written apart.
+#![cfg(feature = "find")]
+
+use planreader_tests::built::printed_in;
+use planreader_tests::checker::calls::{self, Outcome};
+use planreader_tests::checker::program::{file_of, planread, reading_text};
+use planreader_tests::checker::readings::build::readings;
+use planreader_tests::checker::readings::literal::Triple;
+use planreader_tests::words::{action, condition, fact, formula, head, initially, kind, law, member, node, start};
+use std::fs;
+use std::path::{Path, PathBuf};
+
+const FOLDERS: [&str; 3] = ["door", "too-soon", "no-pause"];
+
+fn root() -> PathBuf {
+    Path::new(env!("CARGO_MANIFEST_DIR")).join("../..")
+}
+
+fn example(folder: &str, name: &str) -> PathBuf {
+    root().join("examples").join(folder).join(name)
+}
+
+fn text(path: PathBuf) -> String {
+    fs::read_to_string(&path).unwrap_or_else(|error| panic!("{}: {error}", path.display()))
+}
+
+fn bytes(folder: &str, name: &str) -> Vec<u8> {
+    fs::read(example(folder, name)).expect("a file of the example")
+}
+
+/// The words of a listing: what stands before '#' on each line.
+fn listed(folder: &str, name: &str) -> Vec<u32> {
+    let text = text(example(folder, name));
+    let words = text.lines().flat_map(|line| line.split('#').next().unwrap_or("").split_whitespace());
+    words.map(|word| u32::from_str_radix(word, 16).expect("a word in hexadecimal")).collect()
+}
+
+/// The starts and the facts of a listed plan.
+fn plan(folder: &str) -> (Vec<u32>, Vec<u32>) {
+    listed(folder, "plan.txt").into_iter().partition(|&word| kind(word) == 9)
+}
+
+/// The door's job said a second time, with numbers for fields.
+fn door() -> Vec<u32> {
+    let facts = [0, 1, 2, 3, 4, 6].map(|fluent| initially(fluent, false));
+    let formulas = [(1, 3, 0), (1, 4, 0), (2, 1, 0), (1, 5, 0), (1, 6, 0), (3, 3, 4)];
+    let formulas = formulas.map(|(form, x, y)| formula(form, x, y));
+    [&[head(7, 8, 12)], &facts[..], &actions(), &formulas, &procedure()].concat()
+}
+
+/// Each with its duration, and the roles and fluents of its laws.
+fn actions() -> Vec<u32> {
+    let actions: [(usize, &[(usize, usize)]); 8] = [
+        (2, &[(1, 0), (2, 0)]),
+        (1, &[(0, 0), (2, 1)]),
+        (1, &[(0, 1), (2, 2)]),
+        (1, &[(0, 2), (2, 3)]),
+        (2, &[(0, 3), (2, 4)]),
+        (2, &[(0, 4), (2, 5)]),
+        (1, &[(0, 0), (2, 6)]),
+        (1, &[(0, 0), (0, 5), (3, 0)]),
+    ];
+    let mut words = vec![];
+    for (number, (duration, laws)) in actions.into_iter().enumerate() {
+        words.push(action(number, duration));
+        words.extend(laws.iter().map(|&(role, fluent)| law(role, fluent)));
+    }
+    words
+}
+
+fn procedure() -> Vec<u32> {
+    let act = |action| node(0, action, 0, 0, 0);
+    let sequence = |x, y| node(2, x, y, 0, 0);
+    let bending =
+        [act(0), act(1), act(2), node(7, 1, 2, 1, 3), act(3), act(4), node(4, 0, 5, 4, 0), node(5, 2, 6, 0, 0)];
+    let finishing = [act(5), act(6), node(8, 0, 0, 0, 0), member(8), member(9), condition(0, 0, 0, 1, 0, 1)];
+    let rest = [node(1, 5, 0, 0, 0), act(7), sequence(11, 12), sequence(10, 13), sequence(7, 14), sequence(3, 15)];
+    [&bending[..], &finishing, &rest, &[sequence(0, 16)]].concat()
+}
+
+#[test]
+fn listings_are_the_files_word_for_word() {
+    for folder in FOLDERS {
+        assert_eq!(file_of(&listed("door", "job.txt")), bytes(folder, "job.w32"), "{folder}");
+        assert_eq!(file_of(&listed(folder, "plan.txt")), bytes(folder, "plan.w32"), "{folder}");
+    }
+}
+
+#[test]
+fn the_door_s_words_say_what_is_meant() {
+    assert_eq!(listed("door", "job.txt"), door());
+    let begins = [0, 2, 5, 6, 7, 9, 10, 11];
+    let starts: Vec<u32> = begins.into_iter().enumerate().map(|(action, moment)| start(moment, action)).collect();
+    assert_eq!(plan("door").0, starts);
+    assert_eq!(plan("door").1[..2], [fact(0, 0, false), fact(0, 1, false)]);
+}
+
+#[test]
+fn the_facts_are_those_of_the_rules() {
+    for folder in ["door", "no-pause"] {
+        let (starts, facts) = plan(folder);
+        assert_eq!(calls::fill(&door(), &starts, 4_096).1, facts, "{folder}");
+    }
+}
+
+#[test]
+fn the_program_and_the_checker_print_what_is_expected() {
+    for folder in FOLDERS {
+        let expected = text(example(folder, "expected.txt"));
+        let right = planread(Some(&bytes(folder, "job.w32")), Some(&bytes(folder, "plan.w32")));
+        assert!(right.agrees(&expected), "{folder}: the checker");
+        assert_eq!(printed_in(&example(folder, "")), expected, "{folder}: the program");
+    }
+}
+
+/// So that every run prints the same words.
+#[test]
+fn the_door_has_one_reading_and_it_is_the_listed_one() {
+    let (starts, facts) = plan("door");
+    let Outcome::Read { world, decision } = calls::find(&door(), &starts, &facts, 4_096) else {
+        panic!("the door has a reading");
+    };
+    let whole = Triple { node: world.root(), begin: 0, end: world.last() };
+    let listed = listed("door", "reading.txt");
+    assert_eq!(readings(&world, &decision, whole, 2), std::slice::from_ref(&listed));
+    assert_eq!(text(example("door", "expected.txt")), reading_text(&listed, decision.count()));
+}
+
+/// The lines of a text as a block of a Markdown page.
+fn block(text: &str) -> String {
+    text.lines().map(|line| format!("    {line}\n")).collect()
+}
+
+#[test]
+fn the_readme_shows_the_expected_texts() {
+    let readme = text(root().join("README.md"));
+    for folder in FOLDERS {
+        assert!(readme.contains(&block(&text(example(folder, "expected.txt")))), "{folder}");
+    }
+    let reading = text(example("door", "reading.txt"));
+    let words: String = reading.lines().filter(|line| line.starts_with('b')).map(|line| format!("{line}\n")).collect();
+    assert!(readme.contains(&block(&words)), "the reading, word by word");
+    let said: String = text(example("door", "host.txt")).lines().take(4).map(|line| format!("{line}\n")).collect();
+    assert!(readme.contains(&block(&said)), "what the host says first");
+}
+
+/// The C lines of the README stand in the example that is compiled and run.
+#[test]
+fn the_readme_s_c_lines_are_the_host_s() {
+    let readme = text(root().join("README.md"));
+    let host = text(root().join("examples/host.c"));
+    let section = readme.split("## Calling it from C").nth(1).and_then(|rest| rest.split("\n## ").next());
+    let lines: Vec<&str> = section.expect("that section").lines().filter(|line| line.ends_with(';')).collect();
+    assert!(lines.len() > 3);
+    for line in lines {
+        assert!(host.lines().any(|written| written.trim() == line.trim()), "{line}");
+    }
+}
