@@ -76,7 +76,7 @@ def first_error(log, folder):
 # The kinds of errors, and what such an error says.
 KINDS = {
     # a fact that is asked: no proof of it was found
-    "a fact fails": ("`search`: no proof", "`omega`:", "it is not proved that", "give a proof of that"),
+    "a fact fails": ("`search`: no proof", "`omega`", "it is not proved that", "give a proof of that"),
     # a step of the written proof is a proof of something else than what is asked
     "a step fails": ("expected type", "two types", "`rw`"),
     # the written proof names what the mutant does not ask, or leaves out what it asks
