@@ -71,7 +71,7 @@ class Suite:
             run(["ar", "rcs", made, calls / "calls.o"])
         env = {**os.environ, "PLANREADER_LIB_DIR": str(calls)}
         cargo = ["--offline", "--locked", "--message-format=json", "--target-dir", str(TARGET / "mutation" / "cargo")]
-        tests = executables(["cargo", "test", "--no-run", "--features", "find", "--manifest-path", str(ROOT / "tests/rust/Cargo.toml"), *cargo], env)
+        tests = executables(["cargo", "test", "--no-run", "--manifest-path", str(ROOT / "tests/rust/Cargo.toml"), *cargo], env)
         bench = executables(["cargo", "build", "--release", "--manifest-path", str(ROOT / "bench/Cargo.toml"), *cargo], env)
         host = WORK / "host"
         run(["cc", "-std=c11", "-O2", f"-I{ROOT / 'include'}", ROOT / "tests/c/host.c", made, "-lpthread", "-ldl", "-o", host])

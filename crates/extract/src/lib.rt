@@ -1,5 +1,5 @@
 // Writing out a reading that the table says there is, into a buffer that the caller lends: the node's own word, and then its parts, each
-// by a call for a lower node.
+// by a call for a lower node. Each node is named as a child once, so that nothing is walked twice.
 ghost use mathlib.Core.Path.{_≡_};
 ghost use lib.ListN.{length};
 ghost use Rattle.reading.specs.Forms.{While, formAt};

@@ -46,7 +46,7 @@ fn meeting(xs: u64, table: &[u64], y: usize, first: usize, last: usize, e: usize
 }
 
 // The first end of x, begun at b, from `from` on, after which y can begin, `low` to `high` later, and end at e, and the first such begin.
-// There is one.
+// There is one. The ends of x are walked by trailing zeros, the lowest first.
 pub fn cut(
     table: &[u64],
     x: usize,

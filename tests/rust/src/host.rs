@@ -21,10 +21,6 @@ extern "C" {
         buffer: *mut u32,
         buffer_len: usize,
     ) -> u64;
-}
-
-#[cfg(feature = "find")]
-extern "C" {
     #[link_name = "find"]
     fn c_find(
         job: *const u32,
@@ -62,7 +58,6 @@ pub fn fill(job: &[u32], starts: &[u32], buffer: &mut [u32]) -> Answer {
     })
 }
 
-#[cfg(feature = "find")]
 pub fn find(job: &[u32], starts: &[u32], facts: &[u32], buffer: &mut [u32]) -> Answer {
     // SAFETY: each pointer and length are those of one live slice; the buffer is lent for writing.
     Answer::unpack(unsafe {

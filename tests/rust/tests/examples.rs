@@ -1,5 +1,4 @@
 //! The examples for people: their listings, files and expected texts, and the README's blocks, against the checker written apart.
-#![cfg(feature = "find")]
 
 use planreader_tests::built::printed_in;
 use planreader_tests::checker::calls::{self, Outcome};

@@ -1,5 +1,4 @@
 //! The archive's find against the checker written apart.
-#![cfg(feature = "find")]
 
 use planreader_tests::checker::answer::Answer;
 use planreader_tests::compare::{find, find_tiny};

@@ -1,5 +1,4 @@
 //! The built program in folders of its own, against the checker written apart.
-#![cfg(feature = "find")]
 
 use planreader_tests::built::printed_in;
 use planreader_tests::checker::program::{file_of, planread, reading_text, refusal_text};

@@ -1,0 +1,31 @@
+/* An input of the fuzzer: lists of 32-bit words, in the machine's byte order. Bytes after the last whole word are dropped.
+ *
+ *   word 0, control:  3..0  length of the buffer: see buffer_words
+ *                     4     facts: 0 the words given; 1 those that fill writes, or the words given where it refuses
+ *                     5     a list ends at an inaccessible page (0), or begins after one (1)
+ *                     6     pointer of an empty list: NULL (0), or into an inaccessible page (1)
+ *                     7     also call with the job in the place of every list
+ *                     19..8 number of job words J; 31..20 number of start words S
+ *   then J job words, S start words, and fact words to the end. A list that is cut short has the words that are there.
+ */
+#ifndef INPUT_H
+#define INPUT_H
+#include "word.h"
+
+enum { JOB_MOST = 4095, STARTS_MOST = 4095, FACTS_MOST = 8192, INPUT_MOST = 1 + JOB_MOST + STARTS_MOST + FACTS_MOST };
+enum { FACTS_BY_FILL = 1u << 4, LISTS_BEGIN = 1u << 5, EMPTY_POINTS = 1u << 6, ONE_LIST = 1u << 7, CHOICES = 0xffu };
+
+struct input {
+    uint32_t choices; /* the control word's bits 7..0 */
+    size_t job_len, starts_len, facts_len;
+    uint32_t job[JOB_MOST], starts[STARTS_MOST], facts[FACTS_MOST];
+};
+
+void input_decode(struct input *in, const uint8_t *data, size_t size);
+
+/* Writes at most `most` bytes, whole words, and hands back how many. Words that do not fit are left out. */
+size_t input_encode(const struct input *in, uint8_t *data, size_t most);
+
+/* The buffer's length by the control word: 4,096, or a length that is refused, or a greater one. */
+size_t buffer_words(uint32_t choices);
+#endif
