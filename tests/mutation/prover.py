@@ -29,6 +29,7 @@ def check(kit, mutant, folder):
     changes is checked anew."""
     kept = WORK / "incremental" / mutant.crate
     if not kept.exists():
+        kept.mkdir(parents=True)
         checked(kit, mutant.crate, ROOT / "crates" / mutant.crate, ["--incremental", str(kept)])
     log = checked(kit, mutant.crate, folder, ["--incremental", str(kept)])
     (folder / "prover.log").write_text(log)
