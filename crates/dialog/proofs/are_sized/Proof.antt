@@ -4,12 +4,6 @@ use borrow.Author.Needs.{needs}
 use Rattle.dialog.proofs.are_sized.Statement.{statement}
 use Rattle.dialog.proofs.are_sized.Tie as tie
 
-is-sized-requires : tie.Need-is-sized-requires
-is-sized-requires c κs = search needs
-
-is-sized-requires-2 : tie.Need-is-sized-requires-2
-is-sized-requires-2 c κs = search needs
-
 returns : tie.Need-returns
 returns c = rw (sym (c .before .before .is-sized .ensures) ∙ c .before .if1 .taken) (c .is-sized2 .ensures)
 
@@ -17,4 +11,4 @@ returns-2 : tie.Need-returns-2
 returns-2 c = rw (sym (c .before .is-sized .ensures) ∙ c .if1 .left)
 
 pub are-sized-spec : {M : Type 1} → statement M
-are-sized-spec = tie.close (tie.spec is-sized-requires is-sized-requires-2 returns returns-2)
+are-sized-spec = tie.close (tie.spec (λ c κs. search needs) (λ c κs. search needs) returns returns-2)

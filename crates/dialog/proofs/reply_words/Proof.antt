@@ -11,9 +11,6 @@ use borrow.Author.Needs.{needs}
 use Rattle.dialog.proofs.reply_words.Statement.{statement}
 use Rattle.dialog.proofs.reply_words.Tie as tie
 
-starts-length-requires : tie.Need-starts-length-requires
-starts-length-requires c κs = search needs
-
 -- the starts end within the plan
 within : (c : tie.After-starts-length) → c .starts-length .result ≤ length (c .before .before .before .before .before .args .plan .now)
 within c = starts-fit (c .before .before .before .before .before .args .plan .now) _ (c .starts-length .ensures)
@@ -30,22 +27,10 @@ sub-find-reading c = within (c .before)
 part-find-reading-start : tie.Need-part-find-reading-start
 part-find-reading-start c = omega (arith, within (c .before))
 
-part-find-reading-end : tie.Need-part-find-reading-end
-part-find-reading-end c = search needs
-
-find-reading-requires : tie.Need-find-reading-requires
-find-reading-requires c κs = search needs
-
 report-requires : tie.Need-report-requires
 report-requires c κs =
     let start = c .before .before .before .before .before .before .before .before .before .before .before .before .before in
     omega (arith, outcome-length (c .before .before .before .before .find-reading .ensures .0), ap length (start .pre .0), length-lent, start .pre .1)
-
-same-length : tie.Need-same-length
-same-length c = search needs
-
-same-length-2 : tie.Need-same-length-2
-same-length-2 c = search needs
 
 returns : tie.Need-returns
 returns c =
@@ -57,14 +42,14 @@ pub reply-words-spec : {M : Type 1} → statement M
 reply-words-spec =
     tie.close
     (tie.spec
-    starts-length-requires
+    (λ c κs. search needs)
     slice-aggregate-find-reading
     mul-find-reading
     sub-find-reading
     part-find-reading-start
-    part-find-reading-end
-    find-reading-requires
+    (λ c. search needs)
+    (λ c κs. search needs)
     report-requires
-    same-length
-    same-length-2
+    (λ c. search needs)
+    (λ c. search needs)
     returns)

@@ -5,17 +5,11 @@ use Rattle.extract.proofs.Whole.{emit-writable, emit-emitted}
 use Rattle.extract.proofs.emit.Statement.{statement}
 use Rattle.extract.proofs.emit.Tie as tie
 
-sub-write-reading : tie.Need-sub-write-reading
-sub-write-reading c = search needs
-
 write-reading-requires : tie.Need-write-reading-requires
 write-reading-requires c κs = emit-writable (c .before .before .before .before .pre)
-
-same-length : tie.Need-same-length
-same-length c = search needs
 
 returns : tie.Need-returns
 returns c = emit-emitted (c .before .before .before .before .before .before .before .pre) refl (c .before .before .write-reading .ensures)
 
 pub emit-spec : {M : Type 1} → statement M
-emit-spec = tie.close (tie.spec sub-write-reading write-reading-requires same-length returns)
+emit-spec = tie.close (tie.spec (λ c. search needs) write-reading-requires (λ c. search needs) returns)

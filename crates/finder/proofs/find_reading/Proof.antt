@@ -12,12 +12,6 @@ use Rattle.finder.proofs.find_reading.Tie as tie
 returns : tie.Need-returns
 returns c = (short-buffer _ _ _ _ (c .if1 .taken), (omega arith, omega arith))
 
-check-plan-requires : tie.Need-check-plan-requires
-check-plan-requires c κs = search needs
-
-enum-told : tie.Need-enum-told
-enum-told c = search needs
-
 returns-2 : tie.Need-returns-2
 returns-2 c =
     let e = c .before .before .check-plan .ensures in (
@@ -27,9 +21,6 @@ returns-2 c =
         refused-length (c .enum-told .given .1),
       ),
     )
-
-enum-told-2 : tie.Need-enum-told-2
-enum-told-2 c = search needs
 
 world-of-requires : tie.Need-world-of-requires
 world-of-requires c κs = plan-none _ _ _ (c .before .before .check-plan .ensures) (c .enum-told2 .given .1)
@@ -41,9 +32,6 @@ seek-requires c κs = (
   omega (arith, c .before .before .before .before .before .if1),
 )
 
-same-length : tie.Need-same-length
-same-length c = search needs
-
 returns-3 : tie.Need-returns-3
 returns-3 c =
     (then-sought _ _ _ _ (omega (arith, c .before .before .before .before .before .before .before .before .if1)) (c .before .before .before .before .before .before .before .check-plan .ensures) (c .before .before .before .before .before .enum-told2 .given .1) (c .before .before .seek .ensures .0), c .before .before .seek .ensures .1)
@@ -53,11 +41,11 @@ find-reading-spec =
     tie.close
     (tie.spec
     returns
-    check-plan-requires
-    enum-told
+    (λ c κs. search needs)
+    (λ c. search needs)
     returns-2
-    enum-told-2
+    (λ c. search needs)
     world-of-requires
     seek-requires
-    same-length
+    (λ c. search needs)
     returns-3)

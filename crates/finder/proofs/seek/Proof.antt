@@ -7,9 +7,6 @@ use borrow.Author.Needs.{needs}
 use Rattle.finder.proofs.seek.Statement.{statement}
 use Rattle.finder.proofs.seek.Tie as tie
 
-slice-aggregate-tabulate : tie.Need-slice-aggregate-tabulate
-slice-aggregate-tabulate c = search needs
-
 tabulate-requires : tie.Need-tabulate-requires
 tabulate-requires c κs = (world-ready _ _ _ (c .before .before .before .before .before .before .before .before .before .before .before .before .before .before .before .before .pre .0) (c .before .before .before .before .before .before .before .before .before .before .before .before .before .before .before .before .pre .1), blank 4096 refl)
 
@@ -34,15 +31,9 @@ cast-has c = omega (arith, few-moments _ _ _ (c .before .before .before .before 
 has-requires : tie.Need-has-requires
 has-requires c κs = few-moments _ _ _ (c .before .before .before .before .before .before .before .before .before .before .before .before .before .before .before .before .before .before .pre .0) (c .before .before .before .before .before .before .before .before .before .before .before .before .before .before .before .before .before .before .pre .1)
 
-slice-aggregate-emit : tie.Need-slice-aggregate-emit
-slice-aggregate-emit c = search needs
-
 emit-requires : tie.Need-emit-requires
 emit-requires c κs =
     emit-ready _ _ _ (c .before .before .before .before .before .before .before .before .before .before .before .before .before .before .before .before .before .before .before .before .before .before .before .before .before .before .before .before .pre .0) (c .before .before .before .before .before .before .before .before .before .before .before .before .before .before .before .before .before .before .before .before .before .before .before .before .before .before .before .before .pre .1) (c .before .before .before .before .before .before .before .before .before .before .before .tabulate .ensures) (sym (c .before .before .before .before .before .before .before .before .before .has .ensures) ∙ c .before .before .before .before .before .before .before .before .if1 .taken) (c .before .before .before .before .before .before .before .before .before .before .before .before .before .before .before .before .before .before .before .before .before .before .before .before .before .before .before .before .pre .2)
-
-same-length : tie.Need-same-length
-same-length c = search needs
 
 returns : tie.Need-returns
 returns c =
@@ -56,7 +47,7 @@ pub seek-spec : {M : Type 1} → statement M
 seek-spec =
     tie.close
     (tie.spec
-    slice-aggregate-tabulate
+    (λ c. search needs)
     tabulate-requires
     sub-root
     mul-root
@@ -65,8 +56,8 @@ seek-spec =
     array-read-root
     cast-has
     has-requires
-    slice-aggregate-emit
+    (λ c. search needs)
     emit-requires
-    same-length
+    (λ c. search needs)
     returns
     returns-2)

@@ -51,9 +51,6 @@ element-write-values c = omega (arith, c .before .before .before .before .before
 add-k : tie.Need-add-k Inv-loop μ-loop
 add-k c = omega (arith, c .before .before .before .before .before .before .before .before .before .before .pre .2 .few-formulas, c .before .before .before .before .before .before .before .before .before .before .pre .4, c .before .before .before .before .before .before .before .before .before .before .pre .8)
 
-loop-less : tie.Need-loop-less Inv-loop μ-loop
-loop-less c = omega arith
-
 loop-again : tie.Need-loop-again Inv-loop μ-loop
 loop-again c =
     let p = c .before .before .before .before .before .before .before .before .before .before .pre in
@@ -92,7 +89,7 @@ fill-moment-spec =
     add-values
     element-write-values
     add-k
-    loop-less
+    (λ c. omega arith)
     loop-again
     step-requires
     returns)

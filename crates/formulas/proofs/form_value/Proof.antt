@@ -5,71 +5,11 @@ use borrow.Author.Needs.{needs}
 use Rattle.formulas.proofs.form_value.Statement.{statement}
 use Rattle.formulas.proofs.form_value.Tie as tie
 
-form-of-requires : tie.Need-form-of-requires
-form-of-requires c κs = search needs
-
-formula-x-requires : tie.Need-formula-x-requires
-formula-x-requires c κs = search needs
-
-formula-y-requires : tie.Need-formula-y-requires
-formula-y-requires c κs = search needs
-
-atom-fluent-requires : tie.Need-atom-fluent-requires
-atom-fluent-requires c κs = search needs
-
-element-copy-out-result : tie.Need-element-copy-out-result
-element-copy-out-result c = search needs
-
-mul-result : tie.Need-mul-result
-mul-result c = search needs
-
-add-result : tie.Need-add-result
-add-result c = search needs
-
-element-copy-out-result-2 : tie.Need-element-copy-out-result-2
-element-copy-out-result-2 c = search needs
-
 sub-result : tie.Need-sub-result
 sub-result c = c .before .before .before .before .before .pre .0 .most _
 
-mul-by-table : tie.Need-mul-by-table
-mul-by-table c = search needs
-
-add-by-table : tie.Need-add-by-table
-add-by-table c = search needs
-
-element-copy-out-by-table : tie.Need-element-copy-out-by-table
-element-copy-out-by-table c = search needs
-
-mul-by-table-2 : tie.Need-mul-by-table-2
-mul-by-table-2 c = search needs
-
-add-by-table-2 : tie.Need-add-by-table-2
-add-by-table-2 c = search needs
-
-element-copy-out-by-table-2 : tie.Need-element-copy-out-by-table-2
-element-copy-out-by-table-2 c = search needs
-
 by-table-requires : tie.Need-by-table-requires
 by-table-requires c κs = (c .before .before .before .before .before .before .pre .0 .most _, c .before .before .before .before .before .before .pre .0 .most _)
-
-mul-by-table-3 : tie.Need-mul-by-table-3
-mul-by-table-3 c = search needs
-
-add-by-table-3 : tie.Need-add-by-table-3
-add-by-table-3 c = search needs
-
-element-copy-out-by-table-3 : tie.Need-element-copy-out-by-table-3
-element-copy-out-by-table-3 c = search needs
-
-mul-by-table-4 : tie.Need-mul-by-table-4
-mul-by-table-4 c = search needs
-
-add-by-table-4 : tie.Need-add-by-table-4
-add-by-table-4 c = search needs
-
-element-copy-out-by-table-4 : tie.Need-element-copy-out-by-table-4
-element-copy-out-by-table-4 c = search needs
 
 by-table-requires-2 : tie.Need-by-table-requires-2
 by-table-requires-2 c κs = (c .before .before .before .before .before .before .pre .0 .most _, c .before .before .before .before .before .before .pre .0 .most _)
@@ -100,28 +40,28 @@ pub form-value-spec : {M : Type 1} → statement M
 form-value-spec =
     tie.close
     (tie.spec
-    form-of-requires
-    formula-x-requires
-    formula-y-requires
-    atom-fluent-requires
-    element-copy-out-result
-    mul-result
-    add-result
-    element-copy-out-result-2
+    (λ c κs. search needs)
+    (λ c κs. search needs)
+    (λ c κs. search needs)
+    (λ c κs. search needs)
+    (λ c. search needs)
+    (λ c. search needs)
+    (λ c. search needs)
+    (λ c. search needs)
     sub-result
-    mul-by-table
-    add-by-table
-    element-copy-out-by-table
-    mul-by-table-2
-    add-by-table-2
-    element-copy-out-by-table-2
+    (λ c. search needs)
+    (λ c. search needs)
+    (λ c. search needs)
+    (λ c. search needs)
+    (λ c. search needs)
+    (λ c. search needs)
     by-table-requires
-    mul-by-table-3
-    add-by-table-3
-    element-copy-out-by-table-3
-    mul-by-table-4
-    add-by-table-4
-    element-copy-out-by-table-4
+    (λ c. search needs)
+    (λ c. search needs)
+    (λ c. search needs)
+    (λ c. search needs)
+    (λ c. search needs)
+    (λ c. search needs)
     by-table-requires-2
     returns
     returns-2

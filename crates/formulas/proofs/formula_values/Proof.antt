@@ -22,9 +22,6 @@ formula-count-requires c κs = c .before .before .pre .2
 shared-slice-read-last-of : tie.Need-shared-slice-read-last-of Inv-loop μ-loop
 shared-slice-read-last-of c = c .before .before .before .before .pre .2 .some
 
-last-of-requires : tie.Need-last-of-requires Inv-loop μ-loop
-last-of-requires c κs = search needs
-
 initial-state-requires : tie.Need-initial-state-requires Inv-loop μ-loop
 initial-state-requires c κs = c .before .before .before .before .before .pre .2
 
@@ -39,9 +36,6 @@ fill-moment-requires c κs =
 
 add-t : tie.Need-add-t Inv-loop μ-loop
 add-t c = omega (arith, c .before .before .before .before .before .before .before .before .before .before .before .pre .2 .few-moments, c .before .before .before .before .before .before .last-of .ensures .0)
-
-loop-less : tie.Need-loop-less Inv-loop μ-loop
-loop-less c = omega arith
 
 loop-again : tie.Need-loop-again Inv-loop μ-loop
 loop-again c = (omega arith, c .fill-moment .ensures .0, c .fill-moment .ensures .1)
@@ -59,11 +53,11 @@ formula-values-spec =
     μ-loop
     formula-count-requires
     shared-slice-read-last-of
-    last-of-requires
+    (λ c κs. search needs)
     initial-state-requires
     loop-holds
     fill-moment-requires
     add-t
-    loop-less
+    (λ c. omega arith)
     loop-again
     returns)

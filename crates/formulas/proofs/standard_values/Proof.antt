@@ -9,8 +9,5 @@ formula-values-requires c κs =
     let p = c .before .before .before .before .pre in
     (and-small, or-small, p .0, p .1, p .2, p .3, p .4)
 
-returns : tie.Need-returns
-returns c = search needs
-
 pub standard-values-spec : {M : Type 1} → statement M
-standard-values-spec = tie.close (tie.spec formula-values-requires returns)
+standard-values-spec = tie.close (tie.spec formula-values-requires (λ c. search needs))

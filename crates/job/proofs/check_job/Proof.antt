@@ -10,9 +10,6 @@ use Rattle.job.proofs.Table.{clear, few, limits-actions, limits-formula
 use Rattle.job.proofs.check_job.Statement.{statement}
 use Rattle.job.proofs.check_job.Tie as tie
 
-job-refusal-requires : tie.Need-job-refusal-requires
-job-refusal-requires c κs = search needs
-
 index-words-requires : tie.Need-index-words-requires
 index-words-requires c κs =
     let none = clear _ (sym (ap (λ (r : Refusal). r .number) (c .before .before .job-refusal .ensures)) ∙ c .if1 .taken) .words in
@@ -37,4 +34,4 @@ returns-2 c =
     rw (← e, z, c .index-words2 .ensures)
 
 pub check-job-spec : {M : Type 1} → statement M
-check-job-spec = tie.close (tie.spec job-refusal-requires index-words-requires index-words-requires-2 returns returns-2)
+check-job-spec = tie.close (tie.spec (λ c κs. search needs) index-words-requires index-words-requires-2 returns returns-2)

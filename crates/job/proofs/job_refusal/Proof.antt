@@ -11,9 +11,6 @@ use Rattle.job.proofs.job_refusal.Tie as tie
 returns : tie.Need-returns
 returns c = sym (by-length _ (c .if1 .taken))
 
-scan-words-requires : tie.Need-scan-words-requires
-scan-words-requires c κs = search needs
-
 returns-2 : tie.Need-returns-2
 returns-2 c =
     let e = c .before .before .before .scan-words .ensures .0 in
@@ -32,4 +29,4 @@ returns-3 c =
 pub job-refusal-spec : {M : Type 1} → statement M
 job-refusal-spec =
     tie.close
-    (tie.spec returns scan-words-requires returns-2 end-refusal-requires returns-3)
+    (tie.spec returns (λ c κs. search needs) returns-2 end-refusal-requires returns-3)

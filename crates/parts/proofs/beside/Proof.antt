@@ -6,33 +6,9 @@ use Rattle.parts.proofs.Search.{start-meets, start-at}
 use Rattle.parts.proofs.beside.Statement.{statement}
 use Rattle.parts.proofs.beside.Tie as tie
 
-mul-xs : tie.Need-mul-xs
-mul-xs c = search needs
-
-add-xs : tie.Need-add-xs
-add-xs c = search needs
-
-mul-xs-2 : tie.Need-mul-xs-2
-mul-xs-2 c = search needs
-
-shared-slice-read-xs : tie.Need-shared-slice-read-xs
-shared-slice-read-xs c = search needs
-
-add-meeting : tie.Need-add-meeting
-add-meeting c = search needs
-
-add-meeting-2 : tie.Need-add-meeting-2
-add-meeting-2 c = search needs
-
-meeting-requires : tie.Need-meeting-requires
-meeting-requires c κs = search needs
-
 -- the begin that was found
 moment : (c : tie.After-meeting) → c .meeting .result < 64
 moment c = let some = c .before .before .before .pre .1 in c .meeting .ensures .any (some .1) (start-meets (some .3))
-
-mul-ends : tie.Need-mul-ends
-mul-ends c = search needs
 
 add-ends : tie.Need-add-ends
 add-ends c = omega (arith, moment c)
@@ -61,14 +37,14 @@ pub beside-spec : {M : Type 1} → statement M
 beside-spec =
     tie.close
     (tie.spec
-    mul-xs
-    add-xs
-    mul-xs-2
-    shared-slice-read-xs
-    add-meeting
-    add-meeting-2
-    meeting-requires
-    mul-ends
+    (λ c. search needs)
+    (λ c. search needs)
+    (λ c. search needs)
+    (λ c. search needs)
+    (λ c. search needs)
+    (λ c. search needs)
+    (λ c κs. search needs)
+    (λ c. search needs)
     add-ends
     mul-ends-2
     shared-slice-read-ends

@@ -4,17 +4,11 @@ use borrow.Author.Needs.{needs}
 use Rattle.parts.proofs.branch.Statement.{statement}
 use Rattle.parts.proofs.branch.Tie as tie
 
-one-requires : tie.Need-one-requires
-one-requires c κs = search needs
-
 returns : tie.Need-returns
 returns c = inl (c .before .if1 .taken, c .one .ensures)
-
-one-requires-2 : tie.Need-one-requires-2
-one-requires-2 c κs = search needs
 
 returns-2 : tie.Need-returns-2
 returns-2 c = inr (c .before .if1 .left, c .one2 .ensures)
 
 pub branch-spec : {M : Type 1} → statement M
-branch-spec = tie.close (tie.spec one-requires returns one-requires-2 returns-2)
+branch-spec = tie.close (tie.spec (λ c κs. search needs) returns (λ c κs. search needs) returns-2)

@@ -6,24 +6,6 @@ use Rattle.bitset.proofs.Laws.{not-both}
 use Rattle.parts.proofs.choose.Statement.{statement}
 use Rattle.parts.proofs.choose.Tie as tie
 
-mul-has : tie.Need-mul-has
-mul-has c = search needs
-
-add-has : tie.Need-add-has
-add-has c = search needs
-
-mul-has-2 : tie.Need-mul-has-2
-mul-has-2 c = search needs
-
-shared-slice-read-has : tie.Need-shared-slice-read-has
-shared-slice-read-has c = search needs
-
-cast-has : tie.Need-cast-has
-cast-has c = search needs
-
-has-requires : tie.Need-has-requires
-has-requires c κs = search needs
-
 returns : tie.Need-returns
 returns c = (inl refl, record { yes = sym (c .before .has .ensures) ∙ c .if1 .taken })
 
@@ -31,4 +13,4 @@ returns-2 : tie.Need-returns-2
 returns-2 c = (inr refl, ⊎-elim (λ x. not-both (x .yes) (sym (c .before .has .ensures) ∙ c .if1 .left)) (λ y. y) (c .before .before .before .before .pre .1))
 
 pub choose-spec : {M : Type 1} → statement M
-choose-spec = tie.close (tie.spec mul-has add-has mul-has-2 shared-slice-read-has cast-has has-requires returns returns-2)
+choose-spec = tie.close (tie.spec (λ c. search needs) (λ c. search needs) (λ c. search needs) (λ c. search needs) (λ c. search needs) (λ c κs. search needs) returns returns-2)

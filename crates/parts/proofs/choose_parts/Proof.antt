@@ -27,32 +27,11 @@ moments s =
 rows : (s : tie.Start) → length (s .args .table .now) ≡ 4096
 rows s = s .pre .0 .found .size
 
-mul-place : tie.Need-mul-place
-mul-place c = search needs
-
-element-copy-out-place : tie.Need-element-copy-out-place
-element-copy-out-place c = search needs
-
 mul-word : tie.Need-mul-word
 mul-word c = omega (arith, inside (c .before .before .before))
 
 shared-slice-read-word : tie.Need-shared-slice-read-word
 shared-slice-read-word c = omega (arith, inside (c .before .before .before .before))
-
-node-x-requires : tie.Need-node-x-requires
-node-x-requires c κs = search needs
-
-node-y-requires : tie.Need-node-y-requires
-node-y-requires c κs = search needs
-
-node-m-requires : tie.Need-node-m-requires
-node-m-requires c κs = search needs
-
-node-n-requires : tie.Need-node-n-requires
-node-n-requires c κs = search needs
-
-form-of-requires : tie.Need-form-of-requires
-form-of-requires c κs = search needs
 
 -- ---- what each arm asks
 
@@ -77,15 +56,6 @@ either-requires c κs =
       (x .1, y .1, moments s .0, moments s .1, rows s),
       choice-some (s .pre .0) node begin here (ap formNumber (sym (m .form-of .ensures .0) ∙ c .match .keys2)) (x .0) (y .0),
     )
-
-mul-branch : tie.Need-mul-branch
-mul-branch c = search needs
-
-add-branch : tie.Need-add-branch
-add-branch c = search needs
-
-element-copy-out-branch : tie.Need-element-copy-out-branch
-element-copy-out-branch c = search needs
 
 branch-requires : tie.Need-branch-requires
 branch-requires c κs = moments (entry (c .before .before))
@@ -119,18 +89,6 @@ after-requires-2 c κs =
 add-placed : tie.Need-add-placed
 add-placed c = omega (arith, inside (entry (c .before)))
 
-mul-placed : tie.Need-mul-placed
-mul-placed c = search needs
-
-element-copy-out-placed : tie.Need-element-copy-out-placed
-element-copy-out-placed c = search needs
-
-mul-placed-2 : tie.Need-mul-placed-2
-mul-placed-2 c = search needs
-
-element-copy-out-placed-2 : tie.Need-element-copy-out-placed-2
-element-copy-out-placed-2 c = search needs
-
 placed-requires : tie.Need-placed-requires
 placed-requires c κs =
     let a = c .before .before in
@@ -138,9 +96,6 @@ placed-requires c κs =
     let s = entry m in
     let (node, begin, here, loop) = s .pre .1 in
     (inside s, set-some (s .pre .0) node begin here (ap formNumber (sym (m .form-of .ensures .0) ∙ a .match .keys6)))
-
-none-requires : tie.Need-none-requires
-none-requires c κs = search needs
 
 -- ---- what each arm gives
 
@@ -226,30 +181,30 @@ pub choose-parts-spec : {M : Type 1} → statement M
 choose-parts-spec =
     tie.close
     (tie.spec
-    mul-place
-    element-copy-out-place
+    (λ c. search needs)
+    (λ c. search needs)
     mul-word
     shared-slice-read-word
-    node-x-requires
-    node-y-requires
-    node-m-requires
-    node-n-requires
-    form-of-requires
+    (λ c κs. search needs)
+    (λ c κs. search needs)
+    (λ c κs. search needs)
+    (λ c κs. search needs)
+    (λ c κs. search needs)
     after-requires
     either-requires
-    mul-branch
-    add-branch
-    element-copy-out-branch
+    (λ c. search needs)
+    (λ c. search needs)
+    (λ c. search needs)
     branch-requires
     beside-requires
     after-requires-2
     add-placed
-    mul-placed
-    element-copy-out-placed
-    mul-placed-2
-    element-copy-out-placed-2
+    (λ c. search needs)
+    (λ c. search needs)
+    (λ c. search needs)
+    (λ c. search needs)
     placed-requires
-    none-requires
+    (λ c κs. search needs)
     returns
     returns-2
     returns-3

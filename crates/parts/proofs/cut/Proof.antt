@@ -13,35 +13,14 @@ Inv-loop table x y b e low high from left₀ left = Left table x y b e low high 
 abbrev μ-loop : tie.MeasureT-loop
 μ-loop table x y b e low high from left₀ left = size left
 
-mul-inter : tie.Need-mul-inter Inv-loop μ-loop
-mul-inter c = search needs
-
-add-inter : tie.Need-add-inter Inv-loop μ-loop
-add-inter c = search needs
-
-mul-inter-2 : tie.Need-mul-inter-2 Inv-loop μ-loop
-mul-inter-2 c = search needs
-
-shared-slice-read-inter : tie.Need-shared-slice-read-inter Inv-loop μ-loop
-shared-slice-read-inter c = search needs
-
 cast-from : tie.Need-cast-from Inv-loop μ-loop
 cast-from c = let some = c .before .before .pre .1 .2 in omega (arith, some .after, some .end)
 
 from-requires : tie.Need-from-requires Inv-loop μ-loop
 from-requires c κs = let some = c .before .before .pre .1 .2 in omega (arith, some .after, some .end)
 
-inter-requires : tie.Need-inter-requires Inv-loop μ-loop
-inter-requires c κs = search needs
-
 loop-holds : tie.Need-loop-holds Inv-loop μ-loop
 loop-holds c = left-start _ (c .before .from .ensures) (c .inter .ensures)
-
-lowest-requires : tie.Need-lowest-requires Inv-loop μ-loop
-lowest-requires c κs = search needs
-
-cast-k : tie.Need-cast-k Inv-loop μ-loop
-cast-k c = search needs
 
 add-meeting : tie.Need-add-meeting Inv-loop μ-loop
 add-meeting c = omega (arith, c .lowest .ensures .below)
@@ -54,9 +33,6 @@ meeting-requires c κs = omega (arith, c .lowest .ensures .below, c .before .bef
 
 returns : tie.Need-returns Inv-loop μ-loop
 returns c = left-found (c .before .before .before .before .loop .inv) (c .before .before .lowest .ensures) (c .before .meeting .ensures) (c .if1 .taken)
-
-drop-lowest-requires : tie.Need-drop-lowest-requires Inv-loop μ-loop
-drop-lowest-requires c κs = search needs
 
 loop-less : tie.Need-loop-less Inv-loop μ-loop
 loop-less c = omega (arith, c .drop-lowest .ensures .fewer)
@@ -75,21 +51,21 @@ cut-spec =
     (tie.spec
     Inv-loop
     μ-loop
-    mul-inter
-    add-inter
-    mul-inter-2
-    shared-slice-read-inter
+    (λ c. search needs)
+    (λ c. search needs)
+    (λ c. search needs)
+    (λ c. search needs)
     cast-from
     from-requires
-    inter-requires
+    (λ c κs. search needs)
     loop-holds
-    lowest-requires
-    cast-k
+    (λ c κs. search needs)
+    (λ c. search needs)
     add-meeting
     add-meeting-2
     meeting-requires
     returns
-    drop-lowest-requires
+    (λ c κs. search needs)
     loop-less
     loop-again
     returns-2)

@@ -5,17 +5,8 @@ use Rattle.parts.proofs.Search.{nonempty, ends-first, ends-second}
 use Rattle.parts.proofs.ends.Statement.{statement}
 use Rattle.parts.proofs.ends.Tie as tie
 
-cast-has : tie.Need-cast-has
-cast-has c = search needs
-
-has-requires : tie.Need-has-requires
-has-requires c κs = search needs
-
 lowest-requires : tie.Need-lowest-requires
 lowest-requires c κs = nonempty _ _ (c .before .before .pre .1 .in-b)
-
-cast-t7 : tie.Need-cast-t7
-cast-t7 c = search needs
 
 returns : tie.Need-returns
 returns c = ends-first (c .before .before .before .pre .1) (sym (c .before .before .has .ensures) ∙ c .before .if1 .taken) (c .lowest .ensures)
@@ -23,11 +14,8 @@ returns c = ends-first (c .before .before .before .pre .1) (sym (c .before .befo
 lowest-requires-2 : tie.Need-lowest-requires-2
 lowest-requires-2 c κs = nonempty _ _ (c .before .before .pre .1 .in-a)
 
-cast-t8 : tie.Need-cast-t8
-cast-t8 c = search needs
-
 returns-2 : tie.Need-returns-2
 returns-2 c = ends-second (c .before .before .before .pre .1) (sym (c .before .before .has .ensures) ∙ c .before .if1 .left) (c .lowest2 .ensures)
 
 pub ends-spec : {M : Type 1} → statement M
-ends-spec = tie.close (tie.spec cast-has has-requires lowest-requires cast-t7 returns lowest-requires-2 cast-t8 returns-2)
+ends-spec = tie.close (tie.spec (λ c. search needs) (λ c κs. search needs) lowest-requires (λ c. search needs) returns lowest-requires-2 (λ c. search needs) returns-2)

@@ -20,27 +20,6 @@ loop-holds c = record { from = omega arith; left = λ k h. h .from }
 returns : tie.Need-returns Inv-loop μ-loop
 returns c = none-meets (c .before .before .loop .inv) (λ k h l s. omega (arith, c .if1 .taken))
 
-mul-max-of : tie.Need-mul-max-of Inv-loop μ-loop
-mul-max-of c = search needs
-
-add-max-of : tie.Need-add-max-of Inv-loop μ-loop
-add-max-of c = search needs
-
-mul-max-of-2 : tie.Need-mul-max-of-2 Inv-loop μ-loop
-mul-max-of-2 c = search needs
-
-shared-slice-read-max-of : tie.Need-shared-slice-read-max-of Inv-loop μ-loop
-shared-slice-read-max-of c = search needs
-
-max-of-requires : tie.Need-max-of-requires Inv-loop μ-loop
-max-of-requires c κs = search needs
-
-cast-has : tie.Need-cast-has Inv-loop μ-loop
-cast-has c = search needs
-
-has-requires : tie.Need-has-requires Inv-loop μ-loop
-has-requires c κs = search needs
-
 returns-2 : tie.Need-returns-2 Inv-loop μ-loop
 returns-2 c =
     let l = c .before .before .before .before .before .before .loop in
@@ -53,12 +32,6 @@ returns-2 c =
       };
       any = λ k h. c .before .before .before .before .if1 .left;
     }
-
-add-m : tie.Need-add-m Inv-loop μ-loop
-add-m c = search needs
-
-loop-less : tie.Need-loop-less Inv-loop μ-loop
-loop-less c = omega arith
 
 loop-again : tie.Need-loop-again Inv-loop μ-loop
 loop-again c =
@@ -76,15 +49,15 @@ meeting-spec =
     μ-loop
     loop-holds
     returns
-    mul-max-of
-    add-max-of
-    mul-max-of-2
-    shared-slice-read-max-of
-    max-of-requires
-    cast-has
-    has-requires
+    (λ c. search needs)
+    (λ c. search needs)
+    (λ c. search needs)
+    (λ c. search needs)
+    (λ c κs. search needs)
+    (λ c. search needs)
+    (λ c κs. search needs)
     returns-2
-    add-m
-    loop-less
+    (λ c. search needs)
+    (λ c. omega arith)
     loop-again
     returns-3)

@@ -20,27 +20,6 @@ abbrev μ-loop : tie.MeasureT-loop
 loop-holds : tie.Need-loop-holds Inv-loop μ-loop
 loop-holds c = (omega arith, refl, λ j l. absurd (omega arith))
 
-mul-member-node : tie.Need-mul-member-node Inv-loop μ-loop
-mul-member-node c = search needs
-
-shared-slice-read-member-node : tie.Need-shared-slice-read-member-node Inv-loop μ-loop
-shared-slice-read-member-node c = search needs
-
-member-node-requires : tie.Need-member-node-requires Inv-loop μ-loop
-member-node-requires c κs = search needs
-
-mul-nodes : tie.Need-mul-nodes Inv-loop μ-loop
-mul-nodes c = search needs
-
-array-write-nodes : tie.Need-array-write-nodes Inv-loop μ-loop
-array-write-nodes c = search needs
-
-add-i : tie.Need-add-i Inv-loop μ-loop
-add-i c = search needs
-
-loop-less : tie.Need-loop-less Inv-loop μ-loop
-loop-less c = search needs
-
 loop-again : tie.Need-loop-again Inv-loop μ-loop
 loop-again c =
     let l = c .before .before .before .loop in
@@ -63,12 +42,12 @@ member-nodes-spec =
     Inv-loop
     μ-loop
     loop-holds
-    mul-member-node
-    shared-slice-read-member-node
-    member-node-requires
-    mul-nodes
-    array-write-nodes
-    add-i
-    loop-less
+    (λ c. search needs)
+    (λ c. search needs)
+    (λ c κs. search needs)
+    (λ c. search needs)
+    (λ c. search needs)
+    (λ c. search needs)
+    (λ c. search needs)
     loop-again
     returns)

@@ -15,45 +15,6 @@ size-of s = omega arith
 limit-of : (s : tie.Start) → s .args .first + s .args .size + s .args .limit - (s .args .first + s .args .size) ≡ s .args .limit
 limit-of s = omega arith
 
-add-middle : tie.Need-add-middle
-add-middle c = search needs
-
-mul-members : tie.Need-mul-members
-mul-members c = search needs
-
-sub-members : tie.Need-sub-members
-sub-members c = search needs
-
-part-members-start : tie.Need-part-members-start
-part-members-start c = search needs
-
-part-members-end : tie.Need-part-members-end
-part-members-end c = search needs
-
-add-place : tie.Need-add-place
-add-place c = search needs
-
-mul-place : tie.Need-mul-place
-mul-place c = search needs
-
-sub-place : tie.Need-sub-place
-sub-place c = search needs
-
-part-place-start : tie.Need-part-place-start
-part-place-start c = search needs
-
-part-place-end : tie.Need-part-place-end
-part-place-end c = search needs
-
-cast-place : tie.Need-cast-place
-cast-place c = search needs
-
-cast-place-2 : tie.Need-cast-place-2
-cast-place-2 c = search needs
-
-cast-place-3 : tie.Need-cast-place-3
-cast-place-3 c = search needs
-
 place-requires : tie.Need-place-requires
 place-requires c κs = let s = c .before .before .before .before in rw (size-of s, limit-of s) (s .pre .1)
 
@@ -77,19 +38,19 @@ pub placed-spec : {M : Type 1} → statement M
 placed-spec =
     tie.close
     (tie.spec
-    add-middle
-    mul-members
-    sub-members
-    part-members-start
-    part-members-end
-    add-place
-    mul-place
-    sub-place
-    part-place-start
-    part-place-end
-    cast-place
-    cast-place-2
-    cast-place-3
+    (λ c. search needs)
+    (λ c. search needs)
+    (λ c. search needs)
+    (λ c. search needs)
+    (λ c. search needs)
+    (λ c. search needs)
+    (λ c. search needs)
+    (λ c. search needs)
+    (λ c. search needs)
+    (λ c. search needs)
+    (λ c. search needs)
+    (λ c. search needs)
+    (λ c. search needs)
     place-requires
     member-nodes-requires
     returns)

@@ -8,9 +8,6 @@ use native.Mathlib.Omega.{arith}
 use Rattle.planreader.proofs.check.Statement.{statement}
 use Rattle.planreader.proofs.check.Tie as tie
 
-check-plan-requires : tie.Need-check-plan-requires
-check-plan-requires c κs = search needs
-
 in-range : (c : tie.After-check-plan) → InRange (checkAnswer (c .before .before .before .before .args .job .now) (c .before .before .before .before .args .starts .now) (c .before .before .before .before .args .facts .now))
 in-range c =
     check-range (c .before .before .before .before .args .job .now) (c .before .before .before .before .args .starts .now) (λ i. omega (arith, c .before .before .shared-slice-known2 .given i)) (c .before .before .before .before .args .facts .now)
@@ -22,4 +19,4 @@ returns : tie.Need-returns
 returns c = let e = c .pack .ensures ∙ ap packed (c .before .check-plan .ensures) in (e, reads-back e (in-range (c .before)))
 
 pub check-spec : {M : Type 1} → statement M
-check-spec = tie.close (tie.spec check-plan-requires pack-requires returns)
+check-spec = tie.close (tie.spec (λ c κs. search needs) pack-requires returns)

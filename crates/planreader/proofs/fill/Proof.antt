@@ -9,9 +9,6 @@ use native.Mathlib.Omega.{arith}
 use Rattle.planreader.proofs.fill.Statement.{statement}
 use Rattle.planreader.proofs.fill.Tie as tie
 
-fill-plan-requires : tie.Need-fill-plan-requires
-fill-plan-requires c κs = search needs
-
 in-range : (c : tie.After-slice-known2) → InRange (fillAnswer (length (c .before .before .before .before .before .before .before .args .buffer .now)) (c .before .before .before .before .before .before .before .args .job .now) (c .before .before .before .before .before .before .before .args .starts .now))
 in-range c =
     fill-range (c .before .before .before .before .before .before .before .args .job .now) (c .before .before .before .before .before .before .before .args .starts .now) (λ i. omega (arith, c .before .before .before .before .before .shared-slice-known2 .given i)) (length (c .before .before .before .before .before .before .before .args .buffer .now))
@@ -19,13 +16,10 @@ in-range c =
 pack-requires : tie.Need-pack-requires
 pack-requires c κs = subst InRange (sym (c .before .before .fill-plan .ensures .0)) (in-range c)
 
-same-length : tie.Need-same-length
-same-length c = search needs
-
 returns : tie.Need-returns
 returns c = let made = c .before .before .before .fill-plan .ensures in
     let e = c .pack .ensures ∙ ap packed (made .0) in
     (e, (reads-back e (in-range (c .before)), rw (made .0) at (made .1)))
 
 pub fill-spec : {M : Type 1} → statement M
-fill-spec = tie.close (tie.spec fill-plan-requires pack-requires same-length returns)
+fill-spec = tie.close (tie.spec (λ c κs. search needs) pack-requires (λ c. search needs) returns)

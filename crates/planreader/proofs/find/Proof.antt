@@ -4,14 +4,8 @@ use Rattle.answers.specs.Packed.{reads-back}
 use Rattle.planreader.proofs.find.Statement.{statement}
 use Rattle.planreader.proofs.find.Tie as tie
 
-find-reading-requires : tie.Need-find-reading-requires
-find-reading-requires c κs = search needs
-
 pack-requires : tie.Need-pack-requires
 pack-requires c κs = c .before .before .find-reading .ensures .1 .0
-
-same-length : tie.Need-same-length
-same-length c = search needs
 
 returns : tie.Need-returns
 returns c =
@@ -25,4 +19,4 @@ returns c =
     }
 
 pub find-spec : {M : Type 1} → statement M
-find-spec = tie.close (tie.spec find-reading-requires pack-requires same-length returns)
+find-spec = tie.close (tie.spec (λ c κs. search needs) pack-requires (λ c. search needs) returns)

@@ -5,22 +5,10 @@ use borrow.Author.Needs.{needs}
 use Rattle.report.proofs.decimal.Statement.{statement}
 use Rattle.report.proofs.decimal.Tie as tie
 
-decimal-requires : tie.Need-decimal-requires
-decimal-requires c κs = search needs
-
-array-share-prefix-digits : tie.Need-array-share-prefix-digits
-array-share-prefix-digits c = search needs
-
-slice-aggregate-append : tie.Need-slice-aggregate-append
-slice-aggregate-append c = search needs
-
 append-requires : tie.Need-append-requires
 append-requires c κs =
     let made = c .before .before .decimal .ensures in
     omega (arith, few 10 1 20 _ _ (omega arith) (omega arith) (omega arith) (made .1 .0))
-
-same-length : tie.Need-same-length
-same-length c = search needs
 
 returns : tie.Need-returns
 returns c =
@@ -31,9 +19,9 @@ pub decimal-spec : {M : Type 1} → statement M
 decimal-spec =
     tie.close
     (tie.spec
-    decimal-requires
-    array-share-prefix-digits
-    slice-aggregate-append
+    (λ c κs. search needs)
+    (λ c. search needs)
+    (λ c. search needs)
     append-requires
-    same-length
+    (λ c. search needs)
     returns)

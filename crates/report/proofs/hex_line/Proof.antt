@@ -5,30 +5,15 @@ use borrow.Author.Needs.{needs}
 use Rattle.report.proofs.hex_line.Statement.{statement}
 use Rattle.report.proofs.hex_line.Tie as tie
 
-hex-requires : tie.Need-hex-requires
-hex-requires c κs = search needs
-
-array-share-prefix-digits : tie.Need-array-share-prefix-digits
-array-share-prefix-digits c = search needs
-
-slice-aggregate-append : tie.Need-slice-aggregate-append
-slice-aggregate-append c = search needs
-
 append-requires : tie.Need-append-requires
 append-requires c κs =
     let made = c .before .before .hex .ensures in
     omega (arith, few 16 8 8 (c .before .before .before .before .before .args .word) _ (omega arith) (omega arith) (c .before .before .before .before .before .fits .word .fits) (made .1 .0))
 
-slice-aggregate-append-2 : tie.Need-slice-aggregate-append-2
-slice-aggregate-append-2 c = search needs
-
 append-requires-2 : tie.Need-append-requires-2
 append-requires-2 c κs =
     let made = c .before .before .before .before .before .before .before .hex .ensures in
     omega (arith, c .before .before .before .before .append .ensures .ends, few 16 8 8 (c .before .before .before .before .before .before .before .before .before .before .args .word) _ (omega arith) (omega arith) (c .before .before .before .before .before .before .before .before .before .before .fits .word .fits) (made .1 .0))
-
-same-length : tie.Need-same-length
-same-length c = search needs
 
 returns : tie.Need-returns
 returns c =
@@ -39,11 +24,11 @@ pub hex-line-spec : {M : Type 1} → statement M
 hex-line-spec =
     tie.close
     (tie.spec
-    hex-requires
-    array-share-prefix-digits
-    slice-aggregate-append
+    (λ c κs. search needs)
+    (λ c. search needs)
+    (λ c. search needs)
     append-requires
-    slice-aggregate-append-2
+    (λ c. search needs)
     append-requires-2
-    same-length
+    (λ c. search needs)
     returns)

@@ -4,14 +4,8 @@ use borrow.Author.Needs.{needs}
 use Rattle.report.proofs.line.Statement.{statement}
 use Rattle.report.proofs.line.Tie as tie
 
-append-requires : tie.Need-append-requires
-append-requires c κs = search needs
-
-same-length : tie.Need-same-length
-same-length c = search needs
-
 returns : tie.Need-returns
 returns c = text-of (c .before .before .append .ensures)
 
 pub line-spec : {M : Type 1} → statement M
-line-spec = tie.close (tie.spec append-requires same-length returns)
+line-spec = tie.close (tie.spec (λ c κs. search needs) (λ c. search needs) returns)

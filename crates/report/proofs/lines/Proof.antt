@@ -19,30 +19,12 @@ loop-holds : tie.Need-loop-holds Inv-loop μ-loop
 unfolding hexLines
 loop-holds c = (omega arith, (omega arith, nothing _ _))
 
-mul-hex-line : tie.Need-mul-hex-line Inv-loop μ-loop
-mul-hex-line c = omega arith
-
-shared-slice-read-hex-line : tie.Need-shared-slice-read-hex-line Inv-loop μ-loop
-shared-slice-read-hex-line c = omega arith
-
-hex-line-requires : tie.Need-hex-line-requires Inv-loop μ-loop
-hex-line-requires c κs = omega arith
-
-add-i : tie.Need-add-i Inv-loop μ-loop
-add-i c = omega arith
-
-loop-less : tie.Need-loop-less Inv-loop μ-loop
-loop-less c = omega arith
-
 loop-again : tie.Need-loop-again Inv-loop μ-loop
 loop-again c =
     let head = c .before .before .before .before .before .before in
     let words = head .before .before .before .args .words .now in
     let line = c .before .before .hex-line .ensures in
     (omega arith, (omega (arith, line .ends, length-hex-line (getD words (head .loop .i) 0)), line-more words (head .loop .i) (omega arith) (head .loop .inv .1 .1) line))
-
-same-length : tie.Need-same-length Inv-loop μ-loop
-same-length c = omega arith
 
 returns : tie.Need-returns Inv-loop μ-loop
 returns c =
@@ -55,11 +37,11 @@ lines-spec =
     Inv-loop
     μ-loop
     loop-holds
-    mul-hex-line
-    shared-slice-read-hex-line
-    hex-line-requires
-    add-i
-    loop-less
+    (λ c. omega arith)
+    (λ c. omega arith)
+    (λ c κs. omega arith)
+    (λ c. omega arith)
+    (λ c. omega arith)
     loop-again
-    same-length
+    (λ c. omega arith)
     returns)

@@ -24,19 +24,10 @@ fits c =
     let len : length (c .fill-facts .last .1 .1 .1 .1 .0) ≡ 4096 = ap length (c .fill-facts .ensures .1) ∙ simp length-sets in
     omega (arith, c .fill-facts .ensures .0)
 
-judge-requires : tie.Need-judge-requires
-judge-requires c κs = search needs
-
-answer-of-requires : tie.Need-answer-of-requires
-answer-of-requires c κs = search needs
-
 returns : tie.Need-returns
 unfolding checkAnswer checkRefusal
 returns c = let e = c .before .before .before .before .judge .ensures .refusal in
     c .answer-of .ensures ∙ ap (λ r. answerOf r 0 0) (e ∙ or-refused _ _ (λ z. c .before .if1 .taken (ap (λ (r : Refusal). r .number) e ∙ z)))
-
-slice-aggregate-fill-facts : tie.Need-slice-aggregate-fill-facts
-slice-aggregate-fill-facts c = search needs
 
 fill-facts-requires : tie.Need-fill-facts-requires
 fill-facts-requires c κs = let j = c .before .before .before .before .before .before .before .before .judge .ensures in
@@ -48,12 +39,6 @@ array-share-prefix-wanted c = fits (c .before)
 
 slice-aggregate-compare-facts : tie.Need-slice-aggregate-compare-facts
 slice-aggregate-compare-facts c = sym (length-take-le _ _ (fits (c .before .before)))
-
-compare-facts-requires : tie.Need-compare-facts-requires
-compare-facts-requires c κs = search needs
-
-answer-of-requires-2 : tie.Need-answer-of-requires-2
-answer-of-requires-2 c κs = search needs
 
 returns-2 : tie.Need-returns-2
 unfolding checkAnswer checkRefusal
@@ -71,13 +56,13 @@ pub check-plan-spec : {M : Type 1} → statement M
 check-plan-spec =
     tie.close
     (tie.spec
-    judge-requires
-    answer-of-requires
+    (λ c κs. search needs)
+    (λ c κs. search needs)
     returns
-    slice-aggregate-fill-facts
+    (λ c. search needs)
     fill-facts-requires
     array-share-prefix-wanted
     slice-aggregate-compare-facts
-    compare-facts-requires
-    answer-of-requires-2
+    (λ c κs. search needs)
+    (λ c κs. search needs)
     returns-2)

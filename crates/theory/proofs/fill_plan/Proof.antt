@@ -13,18 +13,9 @@ use native.Mathlib.Omega.{arith}
 use Rattle.theory.proofs.fill_plan.Statement.{statement}
 use Rattle.theory.proofs.fill_plan.Tie as tie
 
-answer-of-requires : tie.Need-answer-of-requires
-answer-of-requires c κs = search needs
-
 returns : tie.Need-returns
 unfolding fillAnswer fillRefusal
 returns c = (c .answer-of .ensures ∙ rw (lt-ltb _ _ (c .before .if1 .taken)), rw (c .answer-of .ensures))
-
-judge-requires : tie.Need-judge-requires
-judge-requires c κs = search needs
-
-answer-of-requires-2 : tie.Need-answer-of-requires-2
-answer-of-requires-2 c κs = search needs
 
 returns-2 : tie.Need-returns-2
 unfolding fillAnswer fillRefusal
@@ -37,9 +28,6 @@ fill-facts-requires : tie.Need-fill-facts-requires
 fill-facts-requires c κs = let j = c .before .before .before .before .before .before .before .before .judge .ensures in
     let ok = c .before .before .before .before .before .if2 .left in
     (j .formed ok, j .durations ok, j .effects ok, j .named ok, c .before .before .before .before .before .before .before .before .before .if1 .left)
-
-answer-of-requires-3 : tie.Need-answer-of-requires-3
-answer-of-requires-3 c κs = search needs
 
 same-length : tie.Need-same-length
 same-length c = ap length (c .before .before .before .fill-facts .ensures .1) ∙ simp length-sets
@@ -60,12 +48,12 @@ pub fill-plan-spec : {M : Type 1} → statement M
 fill-plan-spec =
     tie.close
     (tie.spec
-    answer-of-requires
+    (λ c κs. search needs)
     returns
-    judge-requires
-    answer-of-requires-2
+    (λ c κs. search needs)
+    (λ c κs. search needs)
     returns-2
     fill-facts-requires
-    answer-of-requires-3
+    (λ c κs. search needs)
     same-length
     returns-3)

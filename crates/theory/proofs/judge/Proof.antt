@@ -12,9 +12,6 @@ use borrow.Author.Needs.{needs}
 use Rattle.theory.proofs.judge.Statement.{statement}
 use Rattle.theory.proofs.judge.Tie as tie
 
-check-job-requires : tie.Need-check-job-requires
-check-job-requires c κs = search needs
-
 returns : tie.Need-returns
 unfolding planRefusal
 returns c = let is = checked-refusal _ _ (c .before .before .before .check-job .ensures) in
@@ -53,7 +50,7 @@ pub judge-spec : {M : Type 1} → statement M
 judge-spec =
     tie.close
     (tie.spec
-    check-job-requires
+    (λ c κs. search needs)
     returns
     durations-requires
     effects-requires

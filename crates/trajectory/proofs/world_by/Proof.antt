@@ -7,16 +7,10 @@ use Rattle.trajectory.proofs.world_by.Tie as tie
 shared-slice-read-last-of : tie.Need-shared-slice-read-last-of
 shared-slice-read-last-of c = omega (arith, c .before .before .before .pre .0 .0 .some)
 
-last-of-requires : tie.Need-last-of-requires
-last-of-requires c κs = search needs
-
 standard-values-requires : tie.Need-standard-values-requires
 standard-values-requires c κs =
     let s = c .before .before .before .before .before .before in
     (s .pre .0 .0, s .pre .0 .1, s .pre .1 .0, s .pre .1 .1, s .pre .1 .2)
-
-start-moments-requires : tie.Need-start-moments-requires
-start-moments-requires c κs = search needs
 
 member-counts-requires : tie.Need-member-counts-requires
 member-counts-requires c κs =
@@ -47,9 +41,9 @@ world-by-spec =
     tie.close
     (tie.spec
     shared-slice-read-last-of
-    last-of-requires
+    (λ c κs. search needs)
     standard-values-requires
-    start-moments-requires
+    (λ c κs. search needs)
     member-counts-requires
     condition-counts-requires
     returns)

@@ -4,9 +4,6 @@ use Rattle.trajectory.proofs.Passed.{plan-formed, plan-named, actions-p
 use Rattle.trajectory.proofs.world_of.Statement.{statement}
 use Rattle.trajectory.proofs.world_of.Tie as tie
 
-check-job-requires : tie.Need-check-job-requires
-check-job-requires c κs = search needs
-
 durations-requires : tie.Need-durations-requires
 durations-requires c κs =
     let s = c .before .before .before .before .before .before .before .before .before in
@@ -29,4 +26,4 @@ returns : tie.Need-returns
 returns c = c .world-by .ensures
 
 pub world-of-spec : {M : Type 1} → statement M
-world-of-spec = tie.close (tie.spec check-job-requires durations-requires effects-requires world-by-requires returns)
+world-of-spec = tie.close (tie.spec (λ c κs. search needs) durations-requires effects-requires world-by-requires returns)

@@ -21,38 +21,17 @@ abbrev μ-loop : tie.MeasureT-loop
 loop-holds : tie.Need-loop-holds Inv-loop μ-loop
 loop-holds c = (omega arith, omega arith, refl)
 
-mul-kind-of : tie.Need-mul-kind-of Inv-loop μ-loop
-mul-kind-of c = search needs
-
-shared-slice-read-kind-of : tie.Need-shared-slice-read-kind-of Inv-loop μ-loop
-shared-slice-read-kind-of c = search needs
-
-kind-of-requires : tie.Need-kind-of-requires Inv-loop μ-loop
-kind-of-requires c κs = search needs
-
-sub-result : tie.Need-sub-result Inv-loop μ-loop
-sub-result c = search needs
-
 returns : tie.Need-returns Inv-loop μ-loop
 returns c =
     let l = lead-miss (ofKind (c .before .before .before .before .before .before .args .k)) (c .before .before .before .before .before .before .args .ws .now) (c .before .before .before .before .loop .i) (c .before .before .before .loop-test .taken)
     (ne-eqb _ _ (λ e. c .if1 .taken (c .before .kind-of .ensures .0 ∙ e))) in
     omega (arith, l)
 
-add-i : tie.Need-add-i Inv-loop μ-loop
-add-i c = search needs
-
-loop-less : tie.Need-loop-less Inv-loop μ-loop
-loop-less c = search needs
-
 loop-again : tie.Need-loop-again Inv-loop μ-loop
 loop-again c =
     let l = lead-hit (ofKind (c .before .before .before .before .before .before .args .k)) (c .before .before .before .before .before .before .args .ws .now) (c .before .before .before .before .loop .i) (c .before .before .before .loop-test .taken)
     (eq-eqb _ _ (sym (c .before .kind-of .ensures .0) ∙ c .if1 .left)) in
     (omega arith, omega arith, omega (arith, l))
-
-sub-result-2 : tie.Need-sub-result-2 Inv-loop μ-loop
-sub-result-2 c = search needs
 
 returns-2 : tie.Need-returns-2 Inv-loop μ-loop
 returns-2 c =
@@ -66,13 +45,13 @@ run-length-spec =
     Inv-loop
     μ-loop
     loop-holds
-    mul-kind-of
-    shared-slice-read-kind-of
-    kind-of-requires
-    sub-result
+    (λ c. search needs)
+    (λ c. search needs)
+    (λ c κs. search needs)
+    (λ c. search needs)
     returns
-    add-i
-    loop-less
+    (λ c. search needs)
+    (λ c. search needs)
     loop-again
-    sub-result-2
+    (λ c. search needs)
     returns-2)

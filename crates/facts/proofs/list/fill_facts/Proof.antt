@@ -21,12 +21,6 @@ abbrev μ-loop : tie.MeasureT-loop
 shared-slice-read-head : tie.Need-shared-slice-read-head Inv-loop μ-loop
 shared-slice-read-head c = c .before .before .before .before .pre .0 .some
 
-fluents-of-requires : tie.Need-fluents-of-requires Inv-loop μ-loop
-fluents-of-requires c κs = search needs
-
-last-of-requires : tie.Need-last-of-requires Inv-loop μ-loop
-last-of-requires c κs = search needs
-
 initial-state-requires : tie.Need-initial-state-requires Inv-loop μ-loop
 initial-state-requires c κs = c .before .before .before .before .before .before .pre .0
 
@@ -48,9 +42,6 @@ step-requires c κs =
 
 add-t : tie.Need-add-t Inv-loop μ-loop
 add-t c = omega (arith, c .before .before .before .before .before .before .before .before .before .before .before .before .before .before .before .before .pre .0 .few-moments, c .before .before .before .before .before .before .before .before .before .before .last-of .ensures .0)
-
-loop-less : tie.Need-loop-less Inv-loop μ-loop
-loop-less c = omega arith
 
 loop-again : tie.Need-loop-again Inv-loop μ-loop
 loop-again c =
@@ -90,14 +81,14 @@ fill-facts-spec =
     Inv-loop
     μ-loop
     shared-slice-read-head
-    fluents-of-requires
-    last-of-requires
+    (λ c κs. search needs)
+    (λ c κs. search needs)
     initial-state-requires
     loop-holds
     write-facts-requires
     step-requires
     add-t
-    loop-less
+    (λ c. omega arith)
     loop-again
     write-facts-requires-2
     same-length

@@ -19,20 +19,11 @@ abbrev μ-loop : tie.MeasureT-loop
 loop-holds : tie.Need-loop-holds Inv-loop μ-loop
 loop-holds c = (omega arith, simp state-facts-none written-none)
 
-element-copy-out-write-fact : tie.Need-element-copy-out-write-fact Inv-loop μ-loop
-element-copy-out-write-fact c = search needs
-
 write-fact-requires : tie.Need-write-fact-requires Inv-loop μ-loop
 write-fact-requires c κs =
     let a = c .before .before .before .before .before .args in
     let w = c .before .before .before .loop .inv .1 in
     omega (arith, w .next, w .size, state-facts-most (a .head) (a .t) (a .state .now) (c .before .before .before .loop .f))
-
-add-f : tie.Need-add-f Inv-loop μ-loop
-add-f c = search needs
-
-loop-less : tie.Need-loop-less Inv-loop μ-loop
-loop-less c = search needs
 
 loop-again : tie.Need-loop-again Inv-loop μ-loop
 loop-again c =
@@ -57,10 +48,10 @@ write-facts-spec =
     Inv-loop
     μ-loop
     loop-holds
-    element-copy-out-write-fact
+    (λ c. search needs)
     write-fact-requires
-    add-f
-    loop-less
+    (λ c. search needs)
+    (λ c. search needs)
     loop-again
     same-length
     returns)

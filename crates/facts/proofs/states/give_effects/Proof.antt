@@ -17,30 +17,6 @@ abbrev μ-loop : tie.MeasureT-loop
 loop-holds : tie.Need-loop-holds Inv-loop μ-loop
 loop-holds c = (omega arith, mapped-none)
 
-mul-given : tie.Need-mul-given Inv-loop μ-loop
-mul-given c = search needs
-
-add-given : tie.Need-add-given Inv-loop μ-loop
-add-given c = search needs
-
-element-copy-out-given : tie.Need-element-copy-out-given Inv-loop μ-loop
-element-copy-out-given c = search needs
-
-element-copy-out-given-2 : tie.Need-element-copy-out-given-2 Inv-loop μ-loop
-element-copy-out-given-2 c = search needs
-
-given-requires : tie.Need-given-requires Inv-loop μ-loop
-given-requires c κs = search needs
-
-element-write-state : tie.Need-element-write-state Inv-loop μ-loop
-element-write-state c = search needs
-
-add-f : tie.Need-add-f Inv-loop μ-loop
-add-f c = search needs
-
-loop-less : tie.Need-loop-less Inv-loop μ-loop
-loop-less c = search needs
-
 loop-again : tie.Need-loop-again Inv-loop μ-loop
 loop-again c = (omega arith, mapped-more _ (omega (arith, c .before .before .before .before .loop .inv .1 .size)) (c .before .before .before .before .loop .inv .1) (c .given .ensures))
 
@@ -54,13 +30,13 @@ give-effects-spec =
     Inv-loop
     μ-loop
     loop-holds
-    mul-given
-    add-given
-    element-copy-out-given
-    element-copy-out-given-2
-    given-requires
-    element-write-state
-    add-f
-    loop-less
+    (λ c. search needs)
+    (λ c. search needs)
+    (λ c. search needs)
+    (λ c. search needs)
+    (λ c κs. search needs)
+    (λ c. search needs)
+    (λ c. search needs)
+    (λ c. search needs)
     loop-again
     returns)

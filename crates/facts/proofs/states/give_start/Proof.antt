@@ -10,26 +10,11 @@ use borrow.Author.Needs.{needs}
 use Rattle.facts.proofs.states.give_start.Statement.{statement}
 use Rattle.facts.proofs.states.give_start.Tie as tie
 
-start-action-requires : tie.Need-start-action-requires
-start-action-requires c κs = search needs
-
-start-moment-requires : tie.Need-start-moment-requires
-start-moment-requires c κs = search needs
-
-mul-if1 : tie.Need-mul-if1
-mul-if1 c = search needs
-
-element-copy-out-if1 : tie.Need-element-copy-out-if1
-element-copy-out-if1 c = search needs
-
 add-if1 : tie.Need-add-if1
 add-if1 c = omega (arith, c .before .before .before .before .pre .1 .small (c .before .before .start-action .result), c .before .start-moment .ensures .1)
 
 shared-slice-read-fluents-of : tie.Need-shared-slice-read-fluents-of
 shared-slice-read-fluents-of c = c .before .before .before .before .before .before .pre .0 .some
-
-fluents-of-requires : tie.Need-fluents-of-requires
-fluents-of-requires c κs = search needs
 
 give-effects-requires : tie.Need-give-effects-requires
 give-effects-requires c κs = (c .before .before .before .before .before .before .start-action .ensures .1, rw (c .before .fluents-of .ensures .0) (c .before .before .before .before .before .before .before .before .pre .0 .few-fluents), rw (c .before .fluents-of .ensures .0) (c .before .before .before .before .before .before .before .before .pre .4))
@@ -51,13 +36,13 @@ pub give-start-spec : {M : Type 1} → statement M
 give-start-spec =
     tie.close
     (tie.spec
-    start-action-requires
-    start-moment-requires
-    mul-if1
-    element-copy-out-if1
+    (λ c κs. search needs)
+    (λ c κs. search needs)
+    (λ c. search needs)
+    (λ c. search needs)
     add-if1
     shared-slice-read-fluents-of
-    fluents-of-requires
+    (λ c κs. search needs)
     give-effects-requires
     returns
     returns-2)

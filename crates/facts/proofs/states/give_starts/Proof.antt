@@ -20,22 +20,10 @@ abbrev μ-loop : tie.MeasureT-loop
 loop-holds : tie.Need-loop-holds Inv-loop μ-loop
 loop-holds c = (omega arith, overlaid-none (c .before .before .args .starts .now))
 
-sub-i : tie.Need-sub-i Inv-loop μ-loop
-sub-i c = search needs
-
-mul-give-start : tie.Need-mul-give-start Inv-loop μ-loop
-mul-give-start c = search needs
-
-shared-slice-read-give-start : tie.Need-shared-slice-read-give-start Inv-loop μ-loop
-shared-slice-read-give-start c = search needs
-
 give-start-requires : tie.Need-give-start-requires Inv-loop μ-loop
 give-start-requires c κs =
     let p = c .before .before .before .before .before .before .pre in
     (p .0, p .1, p .2, p .3 .action _ (omega arith), rw (c .before .before .before .loop .inv .1 .size) (p .4))
-
-loop-less : tie.Need-loop-less Inv-loop μ-loop
-loop-less c = search needs
 
 loop-again : tie.Need-loop-again Inv-loop μ-loop
 loop-again c = (omega arith, overlaid-back _ _ (c .before .before .before .loop-test .taken) (c .before .before .before .before .loop .inv .0) (c .before .before .before .before .loop .inv .1) (c .give-start .ensures))
@@ -50,10 +38,10 @@ give-starts-spec =
     Inv-loop
     μ-loop
     loop-holds
-    sub-i
-    mul-give-start
-    shared-slice-read-give-start
+    (λ c. search needs)
+    (λ c. search needs)
+    (λ c. search needs)
     give-start-requires
-    loop-less
+    (λ c. search needs)
     loop-again
     returns)

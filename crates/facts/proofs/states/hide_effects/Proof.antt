@@ -17,30 +17,6 @@ abbrev μ-loop : tie.MeasureT-loop
 loop-holds : tie.Need-loop-holds Inv-loop μ-loop
 loop-holds c = (omega arith, mapped-none)
 
-mul-hidden : tie.Need-mul-hidden Inv-loop μ-loop
-mul-hidden c = search needs
-
-add-hidden : tie.Need-add-hidden Inv-loop μ-loop
-add-hidden c = search needs
-
-element-copy-out-hidden : tie.Need-element-copy-out-hidden Inv-loop μ-loop
-element-copy-out-hidden c = search needs
-
-element-copy-out-hidden-2 : tie.Need-element-copy-out-hidden-2 Inv-loop μ-loop
-element-copy-out-hidden-2 c = search needs
-
-hidden-requires : tie.Need-hidden-requires Inv-loop μ-loop
-hidden-requires c κs = search needs
-
-element-write-state : tie.Need-element-write-state Inv-loop μ-loop
-element-write-state c = search needs
-
-add-f : tie.Need-add-f Inv-loop μ-loop
-add-f c = search needs
-
-loop-less : tie.Need-loop-less Inv-loop μ-loop
-loop-less c = search needs
-
 loop-again : tie.Need-loop-again Inv-loop μ-loop
 loop-again c = (omega arith, mapped-more _ (omega (arith, c .before .before .before .before .loop .inv .1 .size)) (c .before .before .before .before .loop .inv .1) (c .hidden .ensures))
 
@@ -54,13 +30,13 @@ hide-effects-spec =
     Inv-loop
     μ-loop
     loop-holds
-    mul-hidden
-    add-hidden
-    element-copy-out-hidden
-    element-copy-out-hidden-2
-    hidden-requires
-    element-write-state
-    add-f
-    loop-less
+    (λ c. search needs)
+    (λ c. search needs)
+    (λ c. search needs)
+    (λ c. search needs)
+    (λ c κs. search needs)
+    (λ c. search needs)
+    (λ c. search needs)
+    (λ c. search needs)
     loop-again
     returns)

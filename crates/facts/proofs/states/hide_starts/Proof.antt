@@ -21,22 +21,10 @@ abbrev μ-loop : tie.MeasureT-loop
 loop-holds : tie.Need-loop-holds Inv-loop μ-loop
 loop-holds c = (omega arith, overlaid-none (c .before .before .args .starts .now))
 
-sub-i : tie.Need-sub-i Inv-loop μ-loop
-sub-i c = search needs
-
-mul-hide-start : tie.Need-mul-hide-start Inv-loop μ-loop
-mul-hide-start c = search needs
-
-shared-slice-read-hide-start : tie.Need-shared-slice-read-hide-start Inv-loop μ-loop
-shared-slice-read-hide-start c = search needs
-
 hide-start-requires : tie.Need-hide-start-requires Inv-loop μ-loop
 hide-start-requires c κs =
     let p = c .before .before .before .before .before .before .pre in
     (p .0, p .1, p .2, p .3 .action _ (omega arith), rw (c .before .before .before .loop .inv .1 .size) (p .4))
-
-loop-less : tie.Need-loop-less Inv-loop μ-loop
-loop-less c = search needs
 
 loop-again : tie.Need-loop-again Inv-loop μ-loop
 loop-again c = (omega arith, overlaid-back _ _ (c .before .before .before .loop-test .taken) (c .before .before .before .before .loop .inv .0) (c .before .before .before .before .loop .inv .1) (c .hide-start .ensures))
@@ -51,10 +39,10 @@ hide-starts-spec =
     Inv-loop
     μ-loop
     loop-holds
-    sub-i
-    mul-hide-start
-    shared-slice-read-hide-start
+    (λ c. search needs)
+    (λ c. search needs)
+    (λ c. search needs)
     hide-start-requires
-    loop-less
+    (λ c. search needs)
     loop-again
     returns)

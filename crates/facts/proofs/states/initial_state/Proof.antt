@@ -18,26 +18,11 @@ Inv-loop job head state₀ i₀ state i = (i ≤ length job) × (length state �
 abbrev μ-loop : tie.MeasureT-loop
 μ-loop job head state₀ i₀ state i = i
 
-shared-slice-read-head : tie.Need-shared-slice-read-head Inv-loop μ-loop
-shared-slice-read-head c = search needs
-
 loop-holds : tie.Need-loop-holds Inv-loop μ-loop
 loop-holds c = (omega arith, refl, overlaid-none (c .before .before .args .job .now))
 
-sub-i : tie.Need-sub-i Inv-loop μ-loop
-sub-i c = search needs
-
-mul-store-known : tie.Need-mul-store-known Inv-loop μ-loop
-mul-store-known c = search needs
-
-shared-slice-read-store-known : tie.Need-shared-slice-read-store-known Inv-loop μ-loop
-shared-slice-read-store-known c = search needs
-
 store-known-requires : tie.Need-store-known-requires Inv-loop μ-loop
 store-known-requires c κs = c .before .before .before .loop .inv .1
-
-loop-less : tie.Need-loop-less Inv-loop μ-loop
-loop-less c = search needs
 
 loop-again : tie.Need-loop-again Inv-loop μ-loop
 loop-again c = (omega arith, c .store-known .ensures .size ∙ c .before .before .before .before .loop .inv .1, overlaid-back _ _ (c .before .before .before .loop-test .taken) (c .before .before .before .before .loop .inv .0) (c .before .before .before .before .loop .inv .2) (c .store-known .ensures))
@@ -59,12 +44,12 @@ initial-state-spec =
     (tie.spec
     Inv-loop
     μ-loop
-    shared-slice-read-head
+    (λ c. search needs)
     loop-holds
-    sub-i
-    mul-store-known
-    shared-slice-read-store-known
+    (λ c. search needs)
+    (λ c. search needs)
+    (λ c. search needs)
     store-known-requires
-    loop-less
+    (λ c. search needs)
     loop-again
     returns)

@@ -4,14 +4,8 @@ use borrow.Author.Needs.{needs}
 use Rattle.facts.proofs.states.step.Statement.{statement}
 use Rattle.facts.proofs.states.step.Tie as tie
 
-add-give-starts : tie.Need-add-give-starts
-add-give-starts c = search needs
-
 give-starts-requires : tie.Need-give-starts-requires
 give-starts-requires c κs = let p = c .before .before .before .pre in (p .0, p .1, p .2, p .3, p .5 .room)
-
-add-hide-starts : tie.Need-add-hide-starts
-add-hide-starts c = search needs
 
 hide-starts-requires : tie.Need-hide-starts-requires
 hide-starts-requires c κs = let p = c .before .before .before .before .before .pre in (p .0, p .1, p .2, p .3, rw (c .before .give-starts .ensures .size) (p .5 .room))
@@ -22,4 +16,4 @@ returns c = state-next (c .before .before .before .before .before .before .args 
 pub step-spec : {M : Type 1} → statement M
 step-spec =
     tie.close
-    (tie.spec add-give-starts give-starts-requires add-hide-starts hide-starts-requires returns)
+    (tie.spec (λ c. search needs) give-starts-requires (λ c. search needs) hide-starts-requires returns)

@@ -9,18 +9,6 @@ use borrow.Author.Needs.{needs}
 use Rattle.facts.proofs.states.store_known.Statement.{statement}
 use Rattle.facts.proofs.states.store_known.Tie as tie
 
-kind-of-requires : tie.Need-kind-of-requires
-kind-of-requires c κs = search needs
-
-known-value-requires : tie.Need-known-value-requires
-known-value-requires c κs = search needs
-
-fluent-of-requires : tie.Need-fluent-of-requires
-fluent-of-requires c κs = search needs
-
-element-write-state : tie.Need-element-write-state
-element-write-state c = search needs
-
 returns : tie.Need-returns
 returns c =
     let head = c .before .before .before .before .args .head in
@@ -39,9 +27,9 @@ pub store-known-spec : {M : Type 1} → statement M
 store-known-spec =
     tie.close
     (tie.spec
-    kind-of-requires
-    known-value-requires
-    fluent-of-requires
-    element-write-state
+    (λ c κs. search needs)
+    (λ c κs. search needs)
+    (λ c κs. search needs)
+    (λ c. search needs)
     returns
     returns-2)

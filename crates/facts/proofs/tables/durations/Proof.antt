@@ -19,9 +19,6 @@ abbrev μ-loop : tie.MeasureT-loop
 shared-slice-read-actions-of : tie.Need-shared-slice-read-actions-of Inv-loop μ-loop
 shared-slice-read-actions-of c = c .before .before .pre .0 .some
 
-actions-of-requires : tie.Need-actions-of-requires Inv-loop μ-loop
-actions-of-requires c κs = search needs
-
 loop-holds : tie.Need-loop-holds Inv-loop μ-loop
 loop-holds c = (omega arith, refl, λ k l. absurd (omega arith), replicate-all (λ (v : ℕ). v < 64) 64 0 (omega arith) (omega arith))
 
@@ -37,20 +34,11 @@ mul-duration-of c = omega (arith, c .before .before .before .before .before .bef
 shared-slice-read-duration-of : tie.Need-shared-slice-read-duration-of Inv-loop μ-loop
 shared-slice-read-duration-of c = c .before .before .before .before .before .before .before .pre .1 .inside (c .before .before .before .loop .a) (action-counted (c .before .before .before .before .before .before .before .pre .0) (rw (c .before .before .before .before .actions-of .ensures .0) at (c .before .before .loop-test .taken)))
 
-duration-of-requires : tie.Need-duration-of-requires Inv-loop μ-loop
-duration-of-requires c κs = search needs
-
 mul-table : tie.Need-mul-table Inv-loop μ-loop
 mul-table c = omega (arith, c .before .before .before .before .before .before .before .before .pre .0 .few-actions, c .before .before .before .before .before .actions-of .ensures .0)
 
 array-write-table : tie.Need-array-write-table Inv-loop μ-loop
 array-write-table c = omega (arith, c .before .before .before .before .before .before .before .before .pre .0 .few-actions, c .before .before .before .before .before .actions-of .ensures .0)
-
-add-a : tie.Need-add-a Inv-loop μ-loop
-add-a c = omega arith
-
-loop-less : tie.Need-loop-less Inv-loop μ-loop
-loop-less c = omega arith
 
 loop-again : tie.Need-loop-again Inv-loop μ-loop
 loop-again c =
@@ -76,16 +64,16 @@ durations-spec =
     Inv-loop
     μ-loop
     shared-slice-read-actions-of
-    actions-of-requires
+    (λ c κs. search needs)
     loop-holds
     mul-at
     element-copy-out-at
     mul-duration-of
     shared-slice-read-duration-of
-    duration-of-requires
+    (λ c κs. search needs)
     mul-table
     array-write-table
-    add-a
-    loop-less
+    (λ c. omega arith)
+    (λ c. omega arith)
     loop-again
     returns)

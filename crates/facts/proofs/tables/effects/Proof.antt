@@ -18,26 +18,14 @@ abbrev μ-loop : tie.MeasureT-loop
 shared-slice-read-head : tie.Need-shared-slice-read-head Inv-loop μ-loop
 shared-slice-read-head c = c .before .before .pre .0 .some
 
-actions-of-requires : tie.Need-actions-of-requires Inv-loop μ-loop
-actions-of-requires c κs = search needs
-
 loop-holds : tie.Need-loop-holds Inv-loop μ-loop
 loop-holds c = (omega arith, length-replicate {A = ℕ} 4096 1, λ b f l m. absurd (omega arith))
 
 laws-of-requires : tie.Need-laws-of-requires Inv-loop μ-loop
 laws-of-requires c κs = (c .before .before .before .before .before .pre .0, c .before .before .before .before .before .pre .1, rw (c .before .before .actions-of .ensures .0) at (c .loop-test .taken))
 
-effects-row-requires : tie.Need-effects-row-requires Inv-loop μ-loop
-effects-row-requires c κs = search needs
-
 store-row-requires : tie.Need-store-row-requires Inv-loop μ-loop
 store-row-requires c κs = (omega (arith, c .before .before .before .before .before .before .before .before .before .pre .0 .few-actions, c .before .before .before .before .before .before .actions-of .ensures .0), c .before .before .before .before .before .loop .inv .1)
-
-add-a : tie.Need-add-a Inv-loop μ-loop
-add-a c = omega arith
-
-loop-less : tie.Need-loop-less Inv-loop μ-loop
-loop-less c = omega arith
 
 loop-again : tie.Need-loop-again Inv-loop μ-loop
 loop-again c = (omega arith, c .store-row .ensures .size ∙ c .before .before .before .before .before .before .loop .inv .1, effects-more _ (c .before .before .before .before .before .before .loop .a) (c .before .before .before .before .before .before .loop .inv .2) (rw (c .before .before .before .before .laws-of .ensures) at (c .before .before .before .effects-row .ensures)) (c .store-row .ensures))
@@ -52,12 +40,12 @@ effects-spec =
     Inv-loop
     μ-loop
     shared-slice-read-head
-    actions-of-requires
+    (λ c κs. search needs)
     loop-holds
     laws-of-requires
-    effects-row-requires
+    (λ c κs. search needs)
     store-row-requires
-    add-a
-    loop-less
+    (λ c. omega arith)
+    (λ c. omega arith)
     loop-again
     returns)

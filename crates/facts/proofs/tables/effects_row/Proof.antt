@@ -20,20 +20,8 @@ abbrev μ-loop : tie.MeasureT-loop
 loop-holds : tie.Need-loop-holds Inv-loop μ-loop
 loop-holds c = (omega arith, refl, overlaid-none (c .before .args .laws .now))
 
-sub-i : tie.Need-sub-i Inv-loop μ-loop
-sub-i c = search needs
-
-mul-store-law : tie.Need-mul-store-law Inv-loop μ-loop
-mul-store-law c = search needs
-
-shared-slice-read-store-law : tie.Need-shared-slice-read-store-law Inv-loop μ-loop
-shared-slice-read-store-law c = search needs
-
 store-law-requires : tie.Need-store-law-requires Inv-loop μ-loop
 store-law-requires c κs = c .before .before .before .loop .inv .1
-
-loop-less : tie.Need-loop-less Inv-loop μ-loop
-loop-less c = search needs
 
 loop-again : tie.Need-loop-again Inv-loop μ-loop
 loop-again c = (omega arith, c .store-law .ensures .size ∙ c .before .before .before .before .loop .inv .1, overlaid-back _ _ (c .before .before .before .loop-test .taken) (c .before .before .before .before .loop .inv .0) (c .before .before .before .before .loop .inv .2) (c .store-law .ensures))
@@ -48,10 +36,10 @@ effects-row-spec =
     Inv-loop
     μ-loop
     loop-holds
-    sub-i
-    mul-store-law
-    shared-slice-read-store-law
+    (λ c. search needs)
+    (λ c. search needs)
+    (λ c. search needs)
     store-law-requires
-    loop-less
+    (λ c. search needs)
     loop-again
     returns)

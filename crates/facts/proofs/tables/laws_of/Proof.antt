@@ -45,12 +45,6 @@ add-end c = let pre = c .before .before .before .pre in omega (arith, pre .0 .sh
 mul-result : tie.Need-mul-result
 mul-result c = let pre = c .before .before .before .pre in omega (arith, pre .0 .short, c .run-length .ensures, run-fits (pre .0) (pre .1) (pre .2))
 
-sub-result : tie.Need-sub-result
-sub-result c = search needs
-
-part-result-start : tie.Need-part-result-start
-part-result-start c = search needs
-
 part-result-end : tie.Need-part-result-end
 part-result-end c = let pre = c .before .before .before .pre in omega (arith, c .run-length .ensures, run-fits (pre .0) (pre .1) (pre .2))
 
@@ -67,7 +61,7 @@ laws-of-spec =
     run-length-requires
     add-end
     mul-result
-    sub-result
-    part-result-start
+    (λ c. search needs)
+    (λ c. search needs)
     part-result-end
     returns)

@@ -9,21 +9,6 @@ use borrow.Author.Needs.{needs}
 use Rattle.facts.proofs.tables.store_law.Statement.{statement}
 use Rattle.facts.proofs.tables.store_law.Tie as tie
 
-role-of-requires : tie.Need-role-of-requires
-role-of-requires c κs = search needs
-
-makes-value-requires : tie.Need-makes-value-requires
-makes-value-requires c κs = search needs
-
-made-value-requires : tie.Need-made-value-requires
-made-value-requires c κs = search needs
-
-fluent-of-requires : tie.Need-fluent-of-requires
-fluent-of-requires c κs = search needs
-
-element-write-row : tie.Need-element-write-row
-element-write-row c = search needs
-
 returns : tie.Need-returns
 returns c =
     let head = c .before .before .before .before .before .args .head in
@@ -44,10 +29,10 @@ pub store-law-spec : {M : Type 1} → statement M
 store-law-spec =
     tie.close
     (tie.spec
-    role-of-requires
-    makes-value-requires
-    made-value-requires
-    fluent-of-requires
-    element-write-row
+    (λ c κs. search needs)
+    (λ c κs. search needs)
+    (λ c κs. search needs)
+    (λ c κs. search needs)
+    (λ c. search needs)
     returns
     returns-2)

@@ -22,12 +22,6 @@ abbrev μ-loop : tie.MeasureT-loop
 loop-holds : tie.Need-loop-holds Inv-loop μ-loop
 loop-holds c = (omega arith, marked-none _ _)
 
-mul-if1 : tie.Need-mul-if1 Inv-loop μ-loop
-mul-if1 c = search needs
-
-shared-slice-read-if1 : tie.Need-shared-slice-read-if1 Inv-loop μ-loop
-shared-slice-read-if1 c = search needs
-
 mul-position : tie.Need-mul-position Inv-loop μ-loop
 mul-position c = omega (arith, room (c .before .before .before .loop .inv .1) _ (c .before .before .loop-test .taken) (c .if1 .taken) (c .before .before .before .before .pre .1))
 
@@ -36,12 +30,6 @@ array-write-position c = room (c .before .before .before .loop .inv .1) _ (c .be
 
 add-total : tie.Need-add-total Inv-loop μ-loop
 add-total c = omega (arith, room (c .before .before .before .loop .inv .1) _ (c .before .before .loop-test .taken) (c .if1 .taken) (c .before .before .before .before .pre .1))
-
-add-i : tie.Need-add-i Inv-loop μ-loop
-add-i c = search needs
-
-loop-less : tie.Need-loop-less Inv-loop μ-loop
-loop-less c = search needs
 
 loop-again : tie.Need-loop-again Inv-loop μ-loop
 loop-again c = (
@@ -66,12 +54,12 @@ place-words-spec =
     Inv-loop
     μ-loop
     loop-holds
-    mul-if1
-    shared-slice-read-if1
+    (λ c. search needs)
+    (λ c. search needs)
     mul-position
     array-write-position
     add-total
-    add-i
-    loop-less
+    (λ c. search needs)
+    (λ c. search needs)
     loop-again
     returns)

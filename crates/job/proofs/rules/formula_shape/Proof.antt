@@ -3,11 +3,8 @@ use borrow.Author.Needs.{needs}
 use Rattle.job.proofs.rules.formula_shape.Statement.{statement}
 use Rattle.job.proofs.rules.formula_shape.Tie as tie
 
-atom-spare-requires : tie.Need-atom-spare-requires
-atom-spare-requires c κs = search needs
-
 returns : tie.Need-returns
 returns c = rw (c .atom-spare .ensures)
 
 pub formula-shape-spec : {M : Type 1} → statement M
-formula-shape-spec = tie.close (tie.spec atom-spare-requires returns)
+formula-shape-spec = tie.close (tie.spec (λ c κs. search needs) returns)

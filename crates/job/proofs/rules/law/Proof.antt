@@ -3,18 +3,6 @@ use borrow.Author.Needs.{needs}
 use Rattle.job.proofs.rules.law.Statement.{statement}
 use Rattle.job.proofs.rules.law.Tie as tie
 
-law-spare-requires : tie.Need-law-spare-requires
-law-spare-requires c κs = search needs
-
-fluent-of-requires : tie.Need-fluent-of-requires
-fluent-of-requires c κs = search needs
-
-fluents-of-requires : tie.Need-fluents-of-requires
-fluents-of-requires c κs = search needs
-
-grade-of-requires : tie.Need-grade-of-requires
-grade-of-requires c κs = search needs
-
 returns : tie.Need-returns
 returns c =
     rw (← (c .before .fluents-of .ensures .0), ← (c .before .before .fluent-of .ensures .0), ← (c .before .before .before .law-spare .ensures)) (c .grade-of .ensures)
@@ -22,4 +10,4 @@ returns c =
 pub law-spec : {M : Type 1} → statement M
 law-spec =
     tie.close
-    (tie.spec law-spare-requires fluent-of-requires fluents-of-requires grade-of-requires returns)
+    (tie.spec (λ c κs. search needs) (λ c κs. search needs) (λ c κs. search needs) (λ c κs. search needs) returns)

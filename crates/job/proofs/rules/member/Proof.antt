@@ -3,17 +3,8 @@ use borrow.Author.Needs.{needs}
 use Rattle.job.proofs.rules.member.Statement.{statement}
 use Rattle.job.proofs.rules.member.Tie as tie
 
-member-node-requires : tie.Need-member-node-requires
-member-node-requires c κs = search needs
-
-add-range : tie.Need-add-range
-add-range c = search needs
-
-limited-to-requires : tie.Need-limited-to-requires
-limited-to-requires c κs = search needs
-
 returns : tie.Need-returns
 returns c = rw (c .before .member-node .ensures .0) at (c .limited-to .ensures)
 
 pub member-spec : {M : Type 1} → statement M
-member-spec = tie.close (tie.spec member-node-requires add-range limited-to-requires returns)
+member-spec = tie.close (tie.spec (λ c κs. search needs) (λ c. search needs) (λ c κs. search needs) returns)

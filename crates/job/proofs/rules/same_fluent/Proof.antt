@@ -3,18 +3,6 @@ use borrow.Author.Needs.{needs}
 use Rattle.job.proofs.rules.same_fluent.Statement.{statement}
 use Rattle.job.proofs.rules.same_fluent.Tie as tie
 
-role-of-requires : tie.Need-role-of-requires
-role-of-requires c κs = search needs
-
-role-of-requires-2 : tie.Need-role-of-requires-2
-role-of-requires-2 c κs = search needs
-
-fluent-of-requires : tie.Need-fluent-of-requires
-fluent-of-requires c κs = search needs
-
-fluent-of-requires-2 : tie.Need-fluent-of-requires-2
-fluent-of-requires-2 c κs = search needs
-
 returns : tie.Need-returns
 returns c =
     rw (
@@ -27,4 +15,4 @@ returns c =
 pub same-fluent-spec : {M : Type 1} → statement M
 same-fluent-spec =
     tie.close
-    (tie.spec role-of-requires role-of-requires-2 fluent-of-requires fluent-of-requires-2 returns)
+    (tie.spec (λ c κs. search needs) (λ c κs. search needs) (λ c κs. search needs) (λ c κs. search needs) returns)

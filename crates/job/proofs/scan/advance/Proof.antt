@@ -5,50 +5,20 @@ use borrow.Author.Needs.{needs}
 use Rattle.job.proofs.scan.advance.Statement.{statement}
 use Rattle.job.proofs.scan.advance.Tie as tie
 
-mul-w : tie.Need-mul-w
-mul-w c = search needs
-
-shared-slice-read-w : tie.Need-shared-slice-read-w
-shared-slice-read-w c = search needs
-
-one-if-requires : tie.Need-one-if-requires
-one-if-requires c κs = search needs
-
 add-actions : tie.Need-add-actions
 add-actions c = omega (arith, count-before 3 (c .before .before .before .before .args .job .now) (c .before .before .before .before .args .i))
-
-one-if-requires-2 : tie.Need-one-if-requires-2
-one-if-requires-2 c κs = search needs
 
 add-formulas : tie.Need-add-formulas
 add-formulas c = omega (arith, count-before 5 (c .before .before .before .before .before .before .args .job .now) (c .before .before .before .before .before .before .args .i))
 
-one-if-requires-3 : tie.Need-one-if-requires-3
-one-if-requires-3 c κs = search needs
-
 add-nodes : tie.Need-add-nodes
 add-nodes c = omega (arith, count-before 6 (c .before .before .before .before .before .before .before .before .args .job .now) (c .before .before .before .before .before .before .before .before .args .i))
-
-one-if-requires-4 : tie.Need-one-if-requires-4
-one-if-requires-4 c κs = search needs
 
 add-pick-count : tie.Need-add-pick-count
 add-pick-count c = omega (arith, count-since 7 6 (c .before .before .before .before .before .before .before .before .before .before .args .job .now) (c .before .before .before .before .before .before .before .before .before .before .args .i))
 
-pick-count-requires : tie.Need-pick-count-requires
-pick-count-requires c κs = search needs
-
-one-if-requires-5 : tie.Need-one-if-requires-5
-one-if-requires-5 c κs = search needs
-
 add-pick-count-2 : tie.Need-add-pick-count-2
 add-pick-count-2 c = omega (arith, count-since 8 6 (c .before .before .before .before .before .before .before .before .before .before .before .before .before .args .job .now) (c .before .before .before .before .before .before .before .before .before .before .before .before .before .args .i))
-
-pick-count-requires-2 : tie.Need-pick-count-requires-2
-pick-count-requires-2 c κs = search needs
-
-pick-word-requires : tie.Need-pick-word-requires
-pick-word-requires c κs = search needs
 
 returns : tie.Need-returns
 returns c =
@@ -70,19 +40,19 @@ pub advance-spec : {M : Type 1} → statement M
 advance-spec =
     tie.close
     (tie.spec
-    mul-w
-    shared-slice-read-w
-    one-if-requires
+    (λ c. search needs)
+    (λ c. search needs)
+    (λ c κs. search needs)
     add-actions
-    one-if-requires-2
+    (λ c κs. search needs)
     add-formulas
-    one-if-requires-3
+    (λ c κs. search needs)
     add-nodes
-    one-if-requires-4
+    (λ c κs. search needs)
     add-pick-count
-    pick-count-requires
-    one-if-requires-5
+    (λ c κs. search needs)
+    (λ c κs. search needs)
     add-pick-count-2
-    pick-count-requires-2
-    pick-word-requires
+    (λ c κs. search needs)
+    (λ c κs. search needs)
     returns)

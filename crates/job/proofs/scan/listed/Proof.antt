@@ -22,22 +22,10 @@ abbrev μ-loop : tie.MeasureT-loop
 loop-holds : tie.Need-loop-holds Inv-loop μ-loop
 loop-holds c = (search needs, refl)
 
-sub-v : tie.Need-sub-v Inv-loop μ-loop
-sub-v c = omega arith
-
-mul-v : tie.Need-mul-v Inv-loop μ-loop
-mul-v c = omega arith
-
-shared-slice-read-v : tie.Need-shared-slice-read-v Inv-loop μ-loop
-shared-slice-read-v c = omega arith
-
 returns : tie.Need-returns Inv-loop μ-loop
 returns c =
     rw
     (c .before .before .before .loop .inv .1, since-any, c .before .before .loop-test .taken, eq-eqb _ _ (c .if1 .taken))
-
-same-fluent-requires : tie.Need-same-fluent-requires Inv-loop μ-loop
-same-fluent-requires c κs = search needs
 
 returns-2 : tie.Need-returns-2 Inv-loop μ-loop
 returns-2 c =
@@ -48,12 +36,6 @@ returns-2 c =
       ne-eqb _ _ (c .before .before .if1 .left),
       sym (c .before .same-fluent .ensures) ∙ c .if2 .taken,
     )
-
-sub-j : tie.Need-sub-j Inv-loop μ-loop
-sub-j c = omega arith
-
-loop-less : tie.Need-loop-less Inv-loop μ-loop
-loop-less c = omega arith
 
 loop-again : tie.Need-loop-again Inv-loop μ-loop
 loop-again c = (
@@ -79,13 +61,13 @@ listed-spec =
     Inv-loop
     μ-loop
     loop-holds
-    sub-v
-    mul-v
-    shared-slice-read-v
+    (λ c. omega arith)
+    (λ c. omega arith)
+    (λ c. omega arith)
     returns
-    same-fluent-requires
+    (λ c κs. search needs)
     returns-2
-    sub-j
-    loop-less
+    (λ c. omega arith)
+    (λ c. omega arith)
     loop-again
     returns-3)

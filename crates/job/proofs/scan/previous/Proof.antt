@@ -7,15 +7,6 @@ use native.Mathlib.Omega.{arith}
 use Rattle.job.proofs.scan.previous.Statement.{statement}
 use Rattle.job.proofs.scan.previous.Tie as tie
 
-sub-result : tie.Need-sub-result
-sub-result c = search needs
-
-mul-result : tie.Need-mul-result
-mul-result c = search needs
-
-shared-slice-read-result : tie.Need-shared-slice-read-result
-shared-slice-read-result c = search needs
-
 returns : tie.Need-returns
 unfolding before last
 returns c = rw (c .if1 .taken)
@@ -28,4 +19,4 @@ returns-2 c =
 
 pub previous-spec : {M : Type 1} → statement M
 previous-spec =
-    tie.close (tie.spec sub-result mul-result shared-slice-read-result returns returns-2)
+    tie.close (tie.spec (λ c. search needs) (λ c. search needs) (λ c. search needs) returns returns-2)

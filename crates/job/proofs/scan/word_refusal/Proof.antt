@@ -8,66 +8,6 @@ use borrow.Author.Needs.{needs}
 use Rattle.job.proofs.scan.word_refusal.Statement.{statement}
 use Rattle.job.proofs.scan.word_refusal.Tie as tie
 
-mul-w : tie.Need-mul-w
-mul-w c = search needs
-
-shared-slice-read-w : tie.Need-shared-slice-read-w
-shared-slice-read-w c = search needs
-
-previous-requires : tie.Need-previous-requires
-previous-requires c κs = search needs
-
-shared-slice-read-head : tie.Need-shared-slice-read-head
-shared-slice-read-head c = omega arith
-
-head-requires : tie.Need-head-requires
-head-requires c κs = search needs
-
-listed-requires : tie.Need-listed-requires
-listed-requires c κs = search needs
-
-known-requires : tie.Need-known-requires
-known-requires c κs = search needs
-
-action-requires : tie.Need-action-requires
-action-requires c κs = search needs
-
-listed-requires-2 : tie.Need-listed-requires-2
-listed-requires-2 c κs = search needs
-
-law-requires : tie.Need-law-requires
-law-requires c κs = search needs
-
-formula-shape-requires : tie.Need-formula-shape-requires
-formula-shape-requires c κs = search needs
-
-formula-range-requires : tie.Need-formula-range-requires
-formula-range-requires c κs = search needs
-
-formula-requires : tie.Need-formula-requires
-formula-requires c κs = search needs
-
-node-shape-requires : tie.Need-node-shape-requires
-node-shape-requires c κs = search needs
-
-node-range-requires : tie.Need-node-range-requires
-node-range-requires c κs = search needs
-
-node-requires : tie.Need-node-requires
-node-requires c κs = search needs
-
-member-requires : tie.Need-member-requires
-member-requires c κs = search needs
-
-condition-shape-requires : tie.Need-condition-shape-requires
-condition-shape-requires c κs = search needs
-
-condition-range-requires : tie.Need-condition-range-requires
-condition-range-requires c κs = search needs
-
-condition-requires : tie.Need-condition-requires
-condition-requires c κs = search needs
-
 returns : tie.Need-returns
 returns c =
     let s = c .before .before .before .before .before .before in
@@ -127,26 +67,26 @@ pub word-refusal-spec : {M : Type 1} → statement M
 word-refusal-spec =
     tie.close
     (tie.spec
-    mul-w
-    shared-slice-read-w
-    previous-requires
-    shared-slice-read-head
-    head-requires
-    listed-requires
-    known-requires
-    action-requires
-    listed-requires-2
-    law-requires
-    formula-shape-requires
-    formula-range-requires
-    formula-requires
-    node-shape-requires
-    node-range-requires
-    node-requires
-    member-requires
-    condition-shape-requires
-    condition-range-requires
-    condition-requires
+    (λ c. search needs)
+    (λ c. search needs)
+    (λ c κs. search needs)
+    (λ c. omega arith)
+    (λ c κs. search needs)
+    (λ c κs. search needs)
+    (λ c κs. search needs)
+    (λ c κs. search needs)
+    (λ c κs. search needs)
+    (λ c κs. search needs)
+    (λ c κs. search needs)
+    (λ c κs. search needs)
+    (λ c κs. search needs)
+    (λ c κs. search needs)
+    (λ c κs. search needs)
+    (λ c κs. search needs)
+    (λ c κs. search needs)
+    (λ c κs. search needs)
+    (λ c κs. search needs)
+    (λ c κs. search needs)
     returns
     returns-2
     returns-3

@@ -24,21 +24,12 @@ abbrev μ-loop : tie.MeasureT-loop
 loop-holds : tie.Need-loop-holds Inv-loop μ-loop
 loop-holds c = (omega arith, first-start _)
 
-times-named-requires : tie.Need-times-named-requires Inv-loop μ-loop
-times-named-requires c κs = search needs
-
 returns : tie.Need-returns Inv-loop μ-loop
 returns c =
     let five = not-once _ _ (λ e. c .if1 .taken (c .before .times-named .ensures ∙ e)) in
     sym
     (rw five at
     (first-found _ _ _ (c .before .before .before .loop .inv .1) (λ z. five-ne (sym five ∙ z)) (c .before .before .loop-test .taken)))
-
-add-v : tie.Need-add-v Inv-loop μ-loop
-add-v c = omega arith
-
-loop-less : tie.Need-loop-less Inv-loop μ-loop
-loop-less c = omega arith
 
 loop-again : tie.Need-loop-again Inv-loop μ-loop
 loop-again c =
@@ -56,9 +47,9 @@ name-refusal-spec =
     Inv-loop
     μ-loop
     loop-holds
-    times-named-requires
+    (λ c κs. search needs)
     returns
-    add-v
-    loop-less
+    (λ c. omega arith)
+    (λ c. omega arith)
     loop-again
     returns-2)

@@ -19,24 +19,6 @@ abbrev μ-loop : tie.MeasureT-loop
 loop-holds : tie.Need-loop-holds Inv-loop μ-loop
 loop-holds c = omega (arith, named-none (c .before .args .job .now) (c .before .args .v))
 
-mul-names-of : tie.Need-mul-names-of Inv-loop μ-loop
-mul-names-of c = search needs
-
-shared-slice-read-names-of : tie.Need-shared-slice-read-names-of Inv-loop μ-loop
-shared-slice-read-names-of c = search needs
-
-names-of-requires : tie.Need-names-of-requires Inv-loop μ-loop
-names-of-requires c κs = search needs
-
-add-n : tie.Need-add-n Inv-loop μ-loop
-add-n c = omega arith
-
-add-i : tie.Need-add-i Inv-loop μ-loop
-add-i c = omega arith
-
-loop-less : tie.Need-loop-less Inv-loop μ-loop
-loop-less c = omega arith
-
 loop-again : tie.Need-loop-again Inv-loop μ-loop
 loop-again c =
     omega (
@@ -56,11 +38,11 @@ times-named-spec =
     Inv-loop
     μ-loop
     loop-holds
-    mul-names-of
-    shared-slice-read-names-of
-    names-of-requires
-    add-n
-    add-i
-    loop-less
+    (λ c. search needs)
+    (λ c. search needs)
+    (λ c κs. search needs)
+    (λ c. omega arith)
+    (λ c. omega arith)
+    (λ c. omega arith)
     loop-again
     returns)

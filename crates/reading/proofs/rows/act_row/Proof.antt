@@ -7,26 +7,8 @@ use borrow.Author.Needs.{needs}
 use Rattle.reading.proofs.rows.act_row.Statement.{statement}
 use Rattle.reading.proofs.rows.act_row.Tie as tie
 
-sub-if1 : tie.Need-sub-if1
-sub-if1 c = search needs
-
 returns : tie.Need-returns
 returns c = in-none (λ e h. omega (arith, h .1, h .2))
-
-cast-has : tie.Need-cast-has
-cast-has c = search needs
-
-has-requires : tie.Need-has-requires
-has-requires c κs = search needs
-
-add-single : tie.Need-add-single
-add-single c = search needs
-
-cast-single : tie.Need-cast-single
-cast-single c = search needs
-
-single-requires : tie.Need-single-requires
-single-requires c κs = search needs
 
 returns-2 : tie.Need-returns-2
 returns-2 c = λ e. let s = in-single (c .single .ensures) e in (λ t. let q = s .0 t in (sym (c .before .before .has .ensures) ∙ c .before .if2 .taken, q, omega arith), λ h. s .1 (h .1))
@@ -38,12 +20,12 @@ pub act-row-spec : {M : Type 1} → statement M
 act-row-spec =
     tie.close
     (tie.spec
-    sub-if1
+    (λ c. search needs)
     returns
-    cast-has
-    has-requires
-    add-single
-    cast-single
-    single-requires
+    (λ c. search needs)
+    (λ c κs. search needs)
+    (λ c. search needs)
+    (λ c. search needs)
+    (λ c κs. search needs)
     returns-2
     returns-3)

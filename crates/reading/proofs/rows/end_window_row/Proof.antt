@@ -4,27 +4,6 @@ use borrow.Author.Needs.{needs}
 use Rattle.reading.proofs.rows.end_window_row.Statement.{statement}
 use Rattle.reading.proofs.rows.end_window_row.Tie as tie
 
-mul-windows : tie.Need-mul-windows
-mul-windows c = search needs
-
-add-windows : tie.Need-add-windows
-add-windows c = search needs
-
-mul-windows-2 : tie.Need-mul-windows-2
-mul-windows-2 c = search needs
-
-shared-slice-read-windows : tie.Need-shared-slice-read-windows
-shared-slice-read-windows c = search needs
-
-windows-requires : tie.Need-windows-requires
-windows-requires c κs = search needs
-
-mul-join-rows : tie.Need-mul-join-rows
-mul-join-rows c = search needs
-
-join-rows-requires : tie.Need-join-rows-requires
-join-rows-requires c κs = search needs
-
 returns : tie.Need-returns
 returns c = λ e.
     let j = in-joined (c .join-rows .ensures) e in
@@ -41,11 +20,11 @@ pub end-window-row-spec : {M : Type 1} → statement M
 end-window-row-spec =
     tie.close
     (tie.spec
-    mul-windows
-    add-windows
-    mul-windows-2
-    shared-slice-read-windows
-    windows-requires
-    mul-join-rows
-    join-rows-requires
+    (λ c. search needs)
+    (λ c. search needs)
+    (λ c. search needs)
+    (λ c. search needs)
+    (λ c κs. search needs)
+    (λ c. search needs)
+    (λ c κs. search needs)
     returns)

@@ -8,42 +8,6 @@ use borrow.Author.Needs.{needs}
 use Rattle.reading.proofs.rows.row.Statement.{statement}
 use Rattle.reading.proofs.rows.row.Tie as tie
 
-node-x-requires : tie.Need-node-x-requires
-node-x-requires c κs = search needs
-
-form-of-requires : tie.Need-form-of-requires
-form-of-requires c κs = search needs
-
-mul-act-row : tie.Need-mul-act-row
-mul-act-row c = search needs
-
-element-copy-out-act-row : tie.Need-element-copy-out-act-row
-element-copy-out-act-row c = search needs
-
-mul-act-row-2 : tie.Need-mul-act-row-2
-mul-act-row-2 c = search needs
-
-element-copy-out-act-row-2 : tie.Need-element-copy-out-act-row-2
-element-copy-out-act-row-2 c = search needs
-
-act-row-requires : tie.Need-act-row-requires
-act-row-requires c κs = search needs
-
-mul-test-row : tie.Need-mul-test-row
-mul-test-row c = search needs
-
-add-test-row : tie.Need-add-test-row
-add-test-row c = search needs
-
-element-copy-out-test-row : tie.Need-element-copy-out-test-row
-element-copy-out-test-row c = search needs
-
-test-row-requires : tie.Need-test-row-requires
-test-row-requires c κs = search needs
-
-node-y-requires : tie.Need-node-y-requires
-node-y-requires c κs = search needs
-
 sequence-row-requires : tie.Need-sequence-row-requires
 sequence-row-requires c κs =
     let s = c .before .before .before .before .before .pre in
@@ -52,9 +16,6 @@ sequence-row-requires c κs =
     let y = c .node-y .ensures .0 in
     (omega arith, omega arith, omega arith, s .inside _ (omega arith))
 
-node-y-requires-2 : tie.Need-node-y-requires-2
-node-y-requires-2 c κs = search needs
-
 choice-row-requires : tie.Need-choice-row-requires
 choice-row-requires c κs =
     let s = c .before .before .before .before .before .pre in
@@ -62,21 +23,6 @@ choice-row-requires c κs =
     let x = c .before .before .before .node-x .ensures .0 in
     let y = c .node-y2 .ensures .0 in
     (omega arith, omega arith, omega arith)
-
-mul-if-row : tie.Need-mul-if-row
-mul-if-row c = search needs
-
-add-if-row : tie.Need-add-if-row
-add-if-row c = search needs
-
-element-copy-out-if-row : tie.Need-element-copy-out-if-row
-element-copy-out-if-row c = search needs
-
-node-y-requires-3 : tie.Need-node-y-requires-3
-node-y-requires-3 c κs = search needs
-
-node-m-requires : tie.Need-node-m-requires
-node-m-requires c κs = search needs
 
 if-row-requires : tie.Need-if-row-requires
 if-row-requires c κs =
@@ -87,18 +33,6 @@ if-row-requires c κs =
     let y = c .before .node-y3 .ensures .0 in
     (omega arith, omega arith, omega arith)
 
-mul-while-row : tie.Need-mul-while-row
-mul-while-row c = search needs
-
-add-while-row : tie.Need-add-while-row
-add-while-row c = search needs
-
-element-copy-out-while-row : tie.Need-element-copy-out-while-row
-element-copy-out-while-row c = search needs
-
-node-y-requires-4 : tie.Need-node-y-requires-4
-node-y-requires-4 c κs = search needs
-
 while-row-requires : tie.Need-while-row-requires
 while-row-requires c κs =
     let s = c .before .before .before .before .before .before .pre in
@@ -106,15 +40,6 @@ while-row-requires c κs =
     let x = c .before .before .before .before .node-x .ensures .0 in
     let y = c .node-y4 .ensures .0 in
     (omega arith, omega arith, omega arith, omega arith)
-
-node-y-requires-5 : tie.Need-node-y-requires-5
-node-y-requires-5 c κs = search needs
-
-node-m-requires-2 : tie.Need-node-m-requires-2
-node-m-requires-2 c κs = search needs
-
-node-n-requires : tie.Need-node-n-requires
-node-n-requires c κs = search needs
 
 start-window-row-requires : tie.Need-start-window-row-requires
 start-window-row-requires c κs =
@@ -125,15 +50,6 @@ start-window-row-requires c κs =
     let m = c .before .node-m2 .ensures .0 in
     let y = c .before .before .node-y5 .ensures .0 in
     (omega arith, omega arith, omega arith, omega arith, omega arith, omega arith)
-
-node-y-requires-6 : tie.Need-node-y-requires-6
-node-y-requires-6 c κs = search needs
-
-node-m-requires-3 : tie.Need-node-m-requires-3
-node-m-requires-3 c κs = search needs
-
-node-n-requires-2 : tie.Need-node-n-requires-2
-node-n-requires-2 c κs = search needs
 
 end-window-row-requires : tie.Need-end-window-row-requires
 end-window-row-requires c κs =
@@ -185,39 +101,39 @@ pub row-spec : {M : Type 1} → statement M
 row-spec =
     tie.close
     (tie.spec
-    node-x-requires
-    form-of-requires
-    mul-act-row
-    element-copy-out-act-row
-    mul-act-row-2
-    element-copy-out-act-row-2
-    act-row-requires
-    mul-test-row
-    add-test-row
-    element-copy-out-test-row
-    test-row-requires
-    node-y-requires
+    (λ c κs. search needs)
+    (λ c κs. search needs)
+    (λ c. search needs)
+    (λ c. search needs)
+    (λ c. search needs)
+    (λ c. search needs)
+    (λ c κs. search needs)
+    (λ c. search needs)
+    (λ c. search needs)
+    (λ c. search needs)
+    (λ c κs. search needs)
+    (λ c κs. search needs)
     sequence-row-requires
-    node-y-requires-2
+    (λ c κs. search needs)
     choice-row-requires
-    mul-if-row
-    add-if-row
-    element-copy-out-if-row
-    node-y-requires-3
-    node-m-requires
+    (λ c. search needs)
+    (λ c. search needs)
+    (λ c. search needs)
+    (λ c κs. search needs)
+    (λ c κs. search needs)
     if-row-requires
-    mul-while-row
-    add-while-row
-    element-copy-out-while-row
-    node-y-requires-4
+    (λ c. search needs)
+    (λ c. search needs)
+    (λ c. search needs)
+    (λ c κs. search needs)
     while-row-requires
-    node-y-requires-5
-    node-m-requires-2
-    node-n-requires
+    (λ c κs. search needs)
+    (λ c κs. search needs)
+    (λ c κs. search needs)
     start-window-row-requires
-    node-y-requires-6
-    node-m-requires-3
-    node-n-requires-2
+    (λ c κs. search needs)
+    (λ c κs. search needs)
+    (λ c κs. search needs)
     end-window-row-requires
     returns
     returns-2

@@ -5,36 +5,6 @@ use borrow.Author.Needs.{needs}
 use Rattle.reading.proofs.rows.start_window_row.Statement.{statement}
 use Rattle.reading.proofs.rows.start_window_row.Tie as tie
 
-add-window : tie.Need-add-window
-add-window c = search needs
-
-add-window-2 : tie.Need-add-window-2
-add-window-2 c = search needs
-
-window-requires : tie.Need-window-requires
-window-requires c κs = search needs
-
-mul-max-of : tie.Need-mul-max-of
-mul-max-of c = search needs
-
-add-max-of : tie.Need-add-max-of
-add-max-of c = search needs
-
-mul-max-of-2 : tie.Need-mul-max-of-2
-mul-max-of-2 c = search needs
-
-shared-slice-read-max-of : tie.Need-shared-slice-read-max-of
-shared-slice-read-max-of c = search needs
-
-mul-join-rows : tie.Need-mul-join-rows
-mul-join-rows c = search needs
-
-join-rows-requires : tie.Need-join-rows-requires
-join-rows-requires c κs = search needs
-
-max-of-requires : tie.Need-max-of-requires
-max-of-requires c κs = search needs
-
 returns : tie.Need-returns
 returns c = λ e.
     let x = in-max (c .max-of .ensures) e in
@@ -48,14 +18,14 @@ pub start-window-row-spec : {M : Type 1} → statement M
 start-window-row-spec =
     tie.close
     (tie.spec
-    add-window
-    add-window-2
-    window-requires
-    mul-max-of
-    add-max-of
-    mul-max-of-2
-    shared-slice-read-max-of
-    mul-join-rows
-    join-rows-requires
-    max-of-requires
+    (λ c. search needs)
+    (λ c. search needs)
+    (λ c κs. search needs)
+    (λ c. search needs)
+    (λ c. search needs)
+    (λ c. search needs)
+    (λ c. search needs)
+    (λ c. search needs)
+    (λ c κs. search needs)
+    (λ c κs. search needs)
     returns)

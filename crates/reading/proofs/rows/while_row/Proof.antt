@@ -7,44 +7,11 @@ use borrow.Author.Needs.{needs}
 use Rattle.reading.proofs.rows.while_row.Statement.{statement}
 use Rattle.reading.proofs.rows.while_row.Tie as tie
 
-cast-single : tie.Need-cast-single
-cast-single c = search needs
-
-single-requires : tie.Need-single-requires
-single-requires c κs = search needs
-
 returns : tie.Need-returns
 returns c = λ e. let s = in-single (c .single .ensures) e in let v = c .before .if1 .taken in (
   λ t. inl (v, s .0 t),
   ⊎-elim (λ h. s .1 (h .1)) (λ h. absurd (omega (arith, h .0))),
 )
-
-mul-inter : tie.Need-mul-inter
-mul-inter c = search needs
-
-add-inter : tie.Need-add-inter
-add-inter c = search needs
-
-mul-inter-2 : tie.Need-mul-inter-2
-mul-inter-2 c = search needs
-
-shared-slice-read-inter : tie.Need-shared-slice-read-inter
-shared-slice-read-inter c = search needs
-
-add-window : tie.Need-add-window
-add-window c = search needs
-
-window-requires : tie.Need-window-requires
-window-requires c κs = search needs
-
-inter-requires : tie.Need-inter-requires
-inter-requires c κs = search needs
-
-mul-join-rows : tie.Need-mul-join-rows
-mul-join-rows c = search needs
-
-join-rows-requires : tie.Need-join-rows-requires
-join-rows-requires c κs = search needs
 
 returns-2 : tie.Need-returns-2
 returns-2 c = λ e.
@@ -63,17 +30,17 @@ pub while-row-spec : {M : Type 1} → statement M
 while-row-spec =
     tie.close
     (tie.spec
-    cast-single
-    single-requires
+    (λ c. search needs)
+    (λ c κs. search needs)
     returns
-    mul-inter
-    add-inter
-    mul-inter-2
-    shared-slice-read-inter
-    add-window
-    window-requires
-    inter-requires
-    mul-join-rows
-    join-rows-requires
+    (λ c. search needs)
+    (λ c. search needs)
+    (λ c. search needs)
+    (λ c. search needs)
+    (λ c. search needs)
+    (λ c κs. search needs)
+    (λ c κs. search needs)
+    (λ c. search needs)
+    (λ c κs. search needs)
     returns-2
     returns-3)

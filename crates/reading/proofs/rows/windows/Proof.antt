@@ -15,27 +15,6 @@ abbrev μ-loop : tie.MeasureT-loop
 loop-holds : tie.Need-loop-holds Inv-loop μ-loop
 loop-holds c = split-start
 
-lowest-requires : tie.Need-lowest-requires Inv-loop μ-loop
-lowest-requires c κs = search needs
-
-cast-k : tie.Need-cast-k Inv-loop μ-loop
-cast-k c = search needs
-
-add-window : tie.Need-add-window Inv-loop μ-loop
-add-window c = search needs
-
-add-window-2 : tie.Need-add-window-2 Inv-loop μ-loop
-add-window-2 c = search needs
-
-window-requires : tie.Need-window-requires Inv-loop μ-loop
-window-requires c κs = search needs
-
-union-requires : tie.Need-union-requires Inv-loop μ-loop
-union-requires c κs = search needs
-
-drop-lowest-requires : tie.Need-drop-lowest-requires Inv-loop μ-loop
-drop-lowest-requires c κs = search needs
-
 loop-less : tie.Need-loop-less Inv-loop μ-loop
 loop-less c = omega (arith, c .drop-lowest .ensures .fewer)
 
@@ -52,13 +31,13 @@ windows-spec =
     Inv-loop
     μ-loop
     loop-holds
-    lowest-requires
-    cast-k
-    add-window
-    add-window-2
-    window-requires
-    union-requires
-    drop-lowest-requires
+    (λ c κs. search needs)
+    (λ c. search needs)
+    (λ c. search needs)
+    (λ c. search needs)
+    (λ c κs. search needs)
+    (λ c κs. search needs)
+    (λ c κs. search needs)
     loop-less
     loop-again
     returns)

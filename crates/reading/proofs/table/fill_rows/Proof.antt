@@ -13,32 +13,14 @@ Inv-loop word starts durations values p n table₀ b₀ table b = (b ≤ n + 1) 
 abbrev μ-loop : tie.MeasureT-loop
 μ-loop word starts durations values p n table₀ b₀ table b = b
 
-add-b : tie.Need-add-b Inv-loop μ-loop
-add-b c = search needs
-
 loop-holds : tie.Need-loop-holds Inv-loop μ-loop
 loop-holds c = (omega arith, rows-start)
-
-sub-b : tie.Need-sub-b Inv-loop μ-loop
-sub-b c = search needs
 
 row-requires : tie.Need-row-requires Inv-loop μ-loop
 row-requires c κs = let s = c .before .before .before .before .pre in row-ready (s .0) (omega arith) (omega arith) (c .before .before .loop .inv .1) (s .1)
 
-mul-table : tie.Need-mul-table Inv-loop μ-loop
-mul-table c = search needs
-
-add-table : tie.Need-add-table Inv-loop μ-loop
-add-table c = search needs
-
-mul-table-2 : tie.Need-mul-table-2 Inv-loop μ-loop
-mul-table-2 c = search needs
-
 slice-write-table : tie.Need-slice-write-table Inv-loop μ-loop
 slice-write-table c = let s = c .before .before .before .before .before .pre .0 in omega (arith, s .room, s .moments, c .before .before .before .loop .inv .1 .size)
-
-loop-less : tie.Need-loop-less Inv-loop μ-loop
-loop-less c = search needs
 
 loop-again : tie.Need-loop-again Inv-loop μ-loop
 loop-again c = let s = c .before .before .before .before .before .pre in (omega arith, rows-more (s .0) (omega arith) (omega arith) (c .before .before .before .loop .inv .1) (c .row .ensures))
@@ -55,15 +37,15 @@ fill-rows-spec =
     (tie.spec
     Inv-loop
     μ-loop
-    add-b
+    (λ c. search needs)
     loop-holds
-    sub-b
+    (λ c. search needs)
     row-requires
-    mul-table
-    add-table
-    mul-table-2
+    (λ c. search needs)
+    (λ c. search needs)
+    (λ c. search needs)
     slice-write-table
-    loop-less
+    (λ c. search needs)
     loop-again
     same-length
     returns)

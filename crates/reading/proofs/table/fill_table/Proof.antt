@@ -26,12 +26,6 @@ fill-node-requires c κs =
     let v = c .before .before .loop in
     (omega (arith, g .few), g .inside (v .p) (omega arith), same-ready (procedureAt (s .args .count) (now (s .args .words)) (now (s .args .places)) (now (s .args .sizes)) (now (s .args .limits))) (procedureAt 64 (now (s .args .words)) (now (s .args .places)) (now (s .args .sizes)) (now (s .args .limits))) (trajectoryAt (s .args .n) (now (s .args .starts)) (now (s .args .durations)) (now (s .args .values))) (v .p) refl (λ f. (refl, refl)) (built-ready g (omega arith) (v .inv .1)))
 
-add-p : tie.Need-add-p Inv-loop μ-loop
-add-p c = search needs
-
-loop-less : tie.Need-loop-less Inv-loop μ-loop
-loop-less c = search needs
-
 loop-again : tie.Need-loop-again Inv-loop μ-loop
 loop-again c =
     let s = c .before .before .before .before .before .before .before .before in
@@ -53,8 +47,8 @@ fill-table-spec =
     μ-loop
     loop-holds
     fill-node-requires
-    add-p
-    loop-less
+    (λ c. search needs)
+    (λ c. search needs)
     loop-again
     same-length
     returns)

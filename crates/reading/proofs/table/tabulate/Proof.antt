@@ -4,15 +4,6 @@ use borrow.Author.Needs.{needs}
 use Rattle.reading.proofs.table.tabulate.Statement.{statement}
 use Rattle.reading.proofs.table.tabulate.Tie as tie
 
-fill-table-requires : tie.Need-fill-table-requires
-fill-table-requires c κs = search needs
-
-count-all-requires : tie.Need-count-all-requires
-count-all-requires c κs = search needs
-
-same-length : tie.Need-same-length
-same-length c = search needs
-
 returns : tie.Need-returns
 returns c =
     let s = c .before .before .before .before .before .before .before .before in
@@ -24,4 +15,4 @@ returns c =
     }
 
 pub tabulate-spec : {M : Type 1} → statement M
-tabulate-spec = tie.close (tie.spec fill-table-requires count-all-requires same-length returns)
+tabulate-spec = tie.close (tie.spec (λ c κs. search needs) (λ c κs. search needs) (λ c. search needs) returns)

@@ -12,26 +12,8 @@ Inv-loop count ends i₀ i = i ≤ count
 abbrev μ-loop : tie.MeasureT-loop
 μ-loop count ends i₀ i = count - i
 
-loop-holds : tie.Need-loop-holds Inv-loop μ-loop
-loop-holds c = omega arith
-
-mul-if1 : tie.Need-mul-if1 Inv-loop μ-loop
-mul-if1 c = search needs
-
-array-read-if1 : tie.Need-array-read-if1 Inv-loop μ-loop
-array-read-if1 c = search needs
-
 returns : tie.Need-returns Inv-loop μ-loop
 returns c = λ z. record { at = _; below = c .before .loop-test .taken; is = c .if1 .taken }
-
-add-i : tie.Need-add-i Inv-loop μ-loop
-add-i c = search needs
-
-loop-less : tie.Need-loop-less Inv-loop μ-loop
-loop-less c = search needs
-
-loop-again : tie.Need-loop-again Inv-loop μ-loop
-loop-again c = omega arith
 
 returns-2 : tie.Need-returns-2 Inv-loop μ-loop
 returns-2 c = λ z. absurd (false≢true z)
@@ -42,11 +24,11 @@ any-empty-spec =
     (tie.spec
     Inv-loop
     μ-loop
-    loop-holds
-    mul-if1
-    array-read-if1
+    (λ c. omega arith)
+    (λ c. search needs)
+    (λ c. search needs)
     returns
-    add-i
-    loop-less
-    loop-again
+    (λ c. search needs)
+    (λ c. search needs)
+    (λ c. omega arith)
     returns-2)

@@ -4,24 +4,6 @@ use borrow.Author.Needs.{needs}
 use Rattle.sets.proofs.begins.ends_at.Statement.{statement}
 use Rattle.sets.proofs.begins.ends_at.Tie as tie
 
-mul-inter : tie.Need-mul-inter
-mul-inter c = search needs
-
-add-inter : tie.Need-add-inter
-add-inter c = search needs
-
-mul-inter-2 : tie.Need-mul-inter-2
-mul-inter-2 c = search needs
-
-shared-slice-read-inter : tie.Need-shared-slice-read-inter
-shared-slice-read-inter c = search needs
-
-between-requires : tie.Need-between-requires
-between-requires c κs = search needs
-
-inter-requires : tie.Need-inter-requires
-inter-requires c κs = search needs
-
 returns : tie.Need-returns
 returns c = λ e. let b = in-both (c .inter .ensures) e in let w = in-between (c .before .between .ensures) e in (
   λ t. let p = b .0 t in let q = w .0 (p .1) in (p .0, q .0, q .1),
@@ -32,10 +14,10 @@ pub ends-at-spec : {M : Type 1} → statement M
 ends-at-spec =
     tie.close
     (tie.spec
-    mul-inter
-    add-inter
-    mul-inter-2
-    shared-slice-read-inter
-    between-requires
-    inter-requires
+    (λ c. search needs)
+    (λ c. search needs)
+    (λ c. search needs)
+    (λ c. search needs)
+    (λ c κs. search needs)
+    (λ c κs. search needs)
     returns)

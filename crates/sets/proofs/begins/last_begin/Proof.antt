@@ -28,9 +28,6 @@ next c =
 node : (c : tie.After-member-node) → let a = c .before .before .before .before .before .before .before .before .before .before .args in c .member-node .result ≡ getD (map memberNode (a .members .now)) (a .k + 1) 0
 node c = let a = c .before .before .before .before .before .before .before .before .before .before .args in c .member-node .ensures .0 ∙ sym (List·getD-map memberNode (a .members .now) (a .k + 1) 0)
 
-add-if1 : tie.Need-add-if1
-add-if1 c = search needs
-
 returns : tie.Need-returns
 returns c = let s = c .before .before .before .before .before in let g = s .pre .0 in record { from = g .from; within = le-refl _; latest = λ e h. in-time (g .sets) (left s) h refl }
 
@@ -39,9 +36,6 @@ spans-requires c κs = let g = c .before .before .before .before .before .pre .0
 
 first-outside-requires : tie.Need-first-outside-requires
 first-outside-requires c κs = let g = c .before .before .before .before .before .before .pre .0 in (g .from, g .formed .moments)
-
-add-if2 : tie.Need-add-if2
-add-if2 c = search needs
 
 returns-2 : tie.Need-returns-2
 returns-2 c =
@@ -59,9 +53,6 @@ mul-member-node c = omega (arith, next c .1)
 
 shared-slice-read-member-node : tie.Need-shared-slice-read-member-node
 shared-slice-read-member-node c = omega (arith, next (c .before) .1)
-
-member-node-requires : tie.Need-member-node-requires
-member-node-requires c κs = search needs
 
 next-gap-requires : tie.Need-next-gap-requires
 next-gap-requires c κs =
@@ -87,15 +78,15 @@ pub last-begin-spec : {M : Type 1} → statement M
 last-begin-spec =
     tie.close
     (tie.spec
-    add-if1
+    (λ c. search needs)
     returns
     spans-requires
     first-outside-requires
-    add-if2
+    (λ c. search needs)
     returns-2
     add-member-node
     mul-member-node
     shared-slice-read-member-node
-    member-node-requires
+    (λ c κs. search needs)
     next-gap-requires
     returns-3)

@@ -27,29 +27,11 @@ abbrev μ-loop : tie.MeasureT-loop
 loop-holds : tie.Need-loop-holds Inv-loop μ-loop
 loop-holds c = (omega arith, refl, λ j l. absurd (omega arith), none-small)
 
-mul-member-node : tie.Need-mul-member-node Inv-loop μ-loop
-mul-member-node c = search needs
-
-shared-slice-read-member-node : tie.Need-shared-slice-read-member-node Inv-loop μ-loop
-shared-slice-read-member-node c = search needs
-
-member-node-requires : tie.Need-member-node-requires Inv-loop μ-loop
-member-node-requires c κs = search needs
-
 ends-from-requires : tie.Need-ends-from-requires Inv-loop μ-loop
 ends-from-requires c κs = let s = c .before .before .before .before .before .before in omega (arith, c .member-node .ensures .0, s .pre .1 (c .before .before .before .loop .i) (c .before .before .loop-test .taken), s .pre)
 
-mul-ends : tie.Need-mul-ends Inv-loop μ-loop
-mul-ends c = search needs
-
 array-write-ends : tie.Need-array-write-ends Inv-loop μ-loop
 array-write-ends c = omega (arith, c .before .before .before .before .before .before .before .pre .0, c .before .before .before .loop-test .taken)
-
-add-i : tie.Need-add-i Inv-loop μ-loop
-add-i c = search needs
-
-loop-less : tie.Need-loop-less Inv-loop μ-loop
-loop-less c = search needs
 
 loop-again : tie.Need-loop-again Inv-loop μ-loop
 loop-again c =
@@ -75,13 +57,13 @@ later-ends-spec =
     Inv-loop
     μ-loop
     loop-holds
-    mul-member-node
-    shared-slice-read-member-node
-    member-node-requires
+    (λ c. search needs)
+    (λ c. search needs)
+    (λ c κs. search needs)
     ends-from-requires
-    mul-ends
+    (λ c. search needs)
     array-write-ends
-    add-i
-    loop-less
+    (λ c. search needs)
+    (λ c. search needs)
     loop-again
     returns)

@@ -5,18 +5,6 @@ use borrow.Author.Needs.{needs}
 use Rattle.sets.proofs.begins.next_gap.Statement.{statement}
 use Rattle.sets.proofs.begins.next_gap.Tie as tie
 
-ends-from-requires : tie.Need-ends-from-requires
-ends-from-requires c κs = search needs
-
-span-requires : tie.Need-span-requires
-span-requires c κs = search needs
-
-union-requires : tie.Need-union-requires
-union-requires c κs = search needs
-
-first-outside-requires : tie.Need-first-outside-requires
-first-outside-requires c κs = search needs
-
 returns : tie.Need-returns
 returns c = let f = c .first-outside .ensures in let r = c .first-outside .result in let u = in-union (c .before .union .ensures) r in (
   f .0,
@@ -27,4 +15,4 @@ returns c = let f = c .first-outside .ensures in let r = c .first-outside .resul
 pub next-gap-spec : {M : Type 1} → statement M
 next-gap-spec =
     tie.close
-    (tie.spec ends-from-requires span-requires union-requires first-outside-requires returns)
+    (tie.spec (λ c κs. search needs) (λ c κs. search needs) (λ c κs. search needs) (λ c κs. search needs) returns)

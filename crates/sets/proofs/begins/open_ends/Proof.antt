@@ -23,21 +23,9 @@ left s = let q = length-map (s .args .members .now) memberNode in
 node : (c : tie.After-member-node) → let a = c .before .before .before .before .before .before .args in c .member-node .result ≡ getD (map memberNode (a .members .now)) (a .k) 0
 node c = let a = c .before .before .before .before .before .before .args in c .member-node .ensures .0 ∙ sym (List·getD-map memberNode (a .members .now) (a .k) 0)
 
-mul-member-node : tie.Need-mul-member-node
-mul-member-node c = search needs
-
-shared-slice-read-member-node : tie.Need-shared-slice-read-member-node
-shared-slice-read-member-node c = search needs
-
-member-node-requires : tie.Need-member-node-requires
-member-node-requires c κs = search needs
-
 ends-from-requires : tie.Need-ends-from-requires
 ends-from-requires c κs = let s = c .before .before .before .before .before .before in let g = s .pre .0 in
     omega (arith, node c, g .rows (s .args .k) (left s .0), s .pre .2, s .pre .3, g .formed .moments)
-
-mul-open : tie.Need-mul-open
-mul-open c = search needs
 
 array-write-open : tie.Need-array-write-open
 array-write-open c = left (c .before .before .before .before .before .before .before) .1
@@ -61,11 +49,11 @@ pub open-ends-spec : {M : Type 1} → statement M
 open-ends-spec =
     tie.close
     (tie.spec
-    mul-member-node
-    shared-slice-read-member-node
-    member-node-requires
+    (λ c. search needs)
+    (λ c. search needs)
+    (λ c κs. search needs)
     ends-from-requires
-    mul-open
+    (λ c. search needs)
     array-write-open
     attained-requires
     returns)

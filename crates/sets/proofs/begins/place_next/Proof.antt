@@ -28,27 +28,12 @@ new-small : (c : tie.After-ends-at) → let a = c .before .before .before .befor
 new-small c = let s = c .before .before .before .before .before .before .before in let g = s .pre .0 in
     small-set (s .args .ends) (s .args .k) (c .ends-at .result) (omega (arith, left s)) (λ e t. omega (arith, c .ends-at .ensures e .0 t, g .formed .moments)) (g .small)
 
-mul-member-node : tie.Need-mul-member-node
-mul-member-node c = search needs
-
-shared-slice-read-member-node : tie.Need-shared-slice-read-member-node
-shared-slice-read-member-node c = search needs
-
-member-node-requires : tie.Need-member-node-requires
-member-node-requires c κs = search needs
-
-mul-ends-at : tie.Need-mul-ends-at
-mul-ends-at c = search needs
-
 array-read-ends-at : tie.Need-array-read-ends-at
 array-read-ends-at c = left (c .before .before .before .before .before .before) .1
 
 ends-at-requires : tie.Need-ends-at-requires
 ends-at-requires c κs = let s = c .before .before .before .before .before .before in let g = s .pre .0 in
     omega (arith, node c, g .rows (s .args .k) (left s .0), g .moments (s .args .k), g .formed .moments)
-
-mul-sets : tie.Need-mul-sets
-mul-sets c = search needs
 
 array-write-sets : tie.Need-array-write-sets
 array-write-sets c = left (c .before .before .before .before .before .before .before) .1
@@ -73,13 +58,13 @@ pub place-next-spec : {M : Type 1} → statement M
 place-next-spec =
     tie.close
     (tie.spec
-    mul-member-node
-    shared-slice-read-member-node
-    member-node-requires
-    mul-ends-at
+    (λ c. search needs)
+    (λ c. search needs)
+    (λ c κs. search needs)
+    (λ c. search needs)
     array-read-ends-at
     ends-at-requires
-    mul-sets
+    (λ c. search needs)
     array-write-sets
     narrow-requires
     returns)

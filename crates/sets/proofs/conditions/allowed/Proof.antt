@@ -29,24 +29,6 @@ abbrev μ-loop : tie.MeasureT-loop
 loop-holds : tie.Need-loop-holds Inv-loop μ-loop
 loop-holds c = (omega arith, in-none (λ z h. let l = h .0 in omega arith))
 
-met-requires : tie.Need-met-requires Inv-loop μ-loop
-met-requires c κs = search needs
-
-cast-single : tie.Need-cast-single Inv-loop μ-loop
-cast-single c = search needs
-
-single-requires : tie.Need-single-requires Inv-loop μ-loop
-single-requires c κs = search needs
-
-union-requires : tie.Need-union-requires Inv-loop μ-loop
-union-requires c κs = search needs
-
-add-y : tie.Need-add-y Inv-loop μ-loop
-add-y c = search needs
-
-loop-less : tie.Need-loop-less Inv-loop μ-loop
-loop-less c = search needs
-
 loop-again : tie.Need-loop-again Inv-loop μ-loop
 loop-again c = let a = c .before .before .before .before .args in (
   omega arith,
@@ -69,11 +51,11 @@ allowed-spec =
     Inv-loop
     μ-loop
     loop-holds
-    met-requires
-    cast-single
-    single-requires
-    union-requires
-    add-y
-    loop-less
+    (λ c κs. search needs)
+    (λ c. search needs)
+    (λ c κs. search needs)
+    (λ c κs. search needs)
+    (λ c. search needs)
+    (λ c. search needs)
     loop-again
     returns)

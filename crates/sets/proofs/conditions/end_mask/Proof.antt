@@ -18,18 +18,6 @@ end-asked (suc (suc (suc f))) x e g h = refl
 in-same : {r e a x : ℕ} → has r e ≡ has a x → In r e ↔ In a x
 in-same q = (λ t. record { yes = sym q ∙ t .yes }, λ t. record { yes = q ∙ t .yes })
 
-has-requires : tie.Need-has-requires
-has-requires c κs = search needs
-
-whole-requires : tie.Need-whole-requires
-whole-requires c κs = search needs
-
-has-requires-2 : tie.Need-has-requires-2
-has-requires-2 c κs = search needs
-
-whole-requires-2 : tie.Need-whole-requires-2
-whole-requires-2 c κs = search needs
-
 returns : tie.Need-returns
 returns c = λ e l. rw (c .before .before .match .keys1) (in-same (c .whole .ensures e l ∙ c .before .has .ensures))
 
@@ -43,10 +31,10 @@ pub end-mask-spec : {M : Type 1} → statement M
 end-mask-spec =
     tie.close
     (tie.spec
-    has-requires
-    whole-requires
-    has-requires-2
-    whole-requires-2
+    (λ c κs. search needs)
+    (λ c κs. search needs)
+    (λ c κs. search needs)
+    (λ c κs. search needs)
     returns
     returns-2
     returns-3)

@@ -34,35 +34,11 @@ abbrev μ-loop : tie.MeasureT-loop
 loop-holds : tie.Need-loop-holds Inv-loop μ-loop
 loop-holds c = (omega arith, refl, record { mask = λ i l. absurd (omega arith) })
 
-mul-loop : tie.Need-mul-loop Inv-loop μ-loop
-mul-loop c = search needs
-
-mul-allowed : tie.Need-mul-allowed Inv-loop μ-loop
-mul-allowed c = search needs
-
-shared-slice-read-allowed : tie.Need-shared-slice-read-allowed Inv-loop μ-loop
-shared-slice-read-allowed c = search needs
-
 allowed-requires : tie.Need-allowed-requires Inv-loop μ-loop
 allowed-requires c κs = (omega arith, omega arith)
 
-mul-allow : tie.Need-mul-allow Inv-loop μ-loop
-mul-allow c = search needs
-
-slice-write-allow : tie.Need-slice-write-allow Inv-loop μ-loop
-slice-write-allow c = search needs
-
-add-c : tie.Need-add-c Inv-loop μ-loop
-add-c c = search needs
-
-loop-less : tie.Need-loop-less Inv-loop μ-loop
-loop-less c = search needs
-
 loop-again : tie.Need-loop-again Inv-loop μ-loop
 loop-again c = (omega arith, simp length-set (c .before .before .before .loop .inv .1), more _ _ (omega arith) (c .before .before .before .loop .inv .2) (c .allowed .ensures))
-
-same-length : tie.Need-same-length Inv-loop μ-loop
-same-length c = search needs
 
 returns : tie.Need-returns Inv-loop μ-loop
 returns c = record { mask = λ i l. c .before .loop .inv .2 .mask i (omega arith) }
@@ -74,14 +50,14 @@ fill-allowed-spec =
     Inv-loop
     μ-loop
     loop-holds
-    mul-loop
-    mul-allowed
-    shared-slice-read-allowed
+    (λ c. search needs)
+    (λ c. search needs)
+    (λ c. search needs)
     allowed-requires
-    mul-allow
-    slice-write-allow
-    add-c
-    loop-less
+    (λ c. search needs)
+    (λ c. search needs)
+    (λ c. search needs)
+    (λ c. search needs)
     loop-again
-    same-length
+    (λ c. search needs)
     returns)

@@ -16,45 +16,6 @@ beyond (suc (suc (suc zero))) a b c d e = absurd (d refl)
 beyond (suc (suc (suc (suc zero)))) a b c d e = absurd (e refl)
 beyond (suc (suc (suc (suc (suc f))))) a b c d e = (f, refl)
 
-add-ordered : tie.Need-add-ordered
-add-ordered c = search needs
-
-add-ordered-2 : tie.Need-add-ordered-2
-add-ordered-2 c = search needs
-
-ordered-requires : tie.Need-ordered-requires
-ordered-requires c κs = search needs
-
-add-ordered-3 : tie.Need-add-ordered-3
-add-ordered-3 c = search needs
-
-add-ordered-4 : tie.Need-add-ordered-4
-add-ordered-4 c = search needs
-
-ordered-requires-2 : tie.Need-ordered-requires-2
-ordered-requires-2 c κs = search needs
-
-holds-through-requires : tie.Need-holds-through-requires
-holds-through-requires c κs = search needs
-
-add-if2 : tie.Need-add-if2
-add-if2 c = search needs
-
-add-holds-through : tie.Need-add-holds-through
-add-holds-through c = search needs
-
-add-holds-through-2 : tie.Need-add-holds-through-2
-add-holds-through-2 c = search needs
-
-holds-through-requires-2 : tie.Need-holds-through-requires-2
-holds-through-requires-2 c κs = search needs
-
-add-holds-through-3 : tie.Need-add-holds-through-3
-add-holds-through-3 c = search needs
-
-holds-through-requires-3 : tie.Need-holds-through-requires-3
-holds-through-requires-3 c κs = search needs
-
 returns : tie.Need-returns
 returns c = rw (c .before .match .keys1) (c .ordered .ensures)
 
@@ -89,19 +50,19 @@ pub met-as-spec : {M : Type 1} → statement M
 met-as-spec =
     tie.close
     (tie.spec
-    add-ordered
-    add-ordered-2
-    ordered-requires
-    add-ordered-3
-    add-ordered-4
-    ordered-requires-2
-    holds-through-requires
-    add-if2
-    add-holds-through
-    add-holds-through-2
-    holds-through-requires-2
-    add-holds-through-3
-    holds-through-requires-3
+    (λ c. search needs)
+    (λ c. search needs)
+    (λ c κs. search needs)
+    (λ c. search needs)
+    (λ c. search needs)
+    (λ c κs. search needs)
+    (λ c κs. search needs)
+    (λ c. search needs)
+    (λ c. search needs)
+    (λ c. search needs)
+    (λ c κs. search needs)
+    (λ c. search needs)
+    (λ c κs. search needs)
     returns
     returns-2
     returns-3

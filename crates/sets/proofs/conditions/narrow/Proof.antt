@@ -31,35 +31,8 @@ facts c = let l = c .before .before .before in let s = l .before .before .before
 loop-holds : tie.Need-loop-holds Inv-loop μ-loop
 loop-holds c = (omega arith, omega arith, record { mask = λ i e. (λ t. (t, λ d l. absurd (omega arith)), λ t. t .0) })
 
-mul-w : tie.Need-mul-w Inv-loop μ-loop
-mul-w c = search needs
-
-shared-slice-read-w : tie.Need-shared-slice-read-w Inv-loop μ-loop
-shared-slice-read-w c = search needs
-
-condition-i-requires : tie.Need-condition-i-requires Inv-loop μ-loop
-condition-i-requires c κs = search needs
-
-condition-j-requires : tie.Need-condition-j-requires Inv-loop μ-loop
-condition-j-requires c κs = search needs
-
-is-later-requires : tie.Need-is-later-requires Inv-loop μ-loop
-is-later-requires c κs = search needs
-
-form-of-requires : tie.Need-form-of-requires Inv-loop μ-loop
-form-of-requires c κs = search needs
-
-mul-end-mask : tie.Need-mul-end-mask Inv-loop μ-loop
-mul-end-mask c = search needs
-
-mul-end-mask-2 : tie.Need-mul-end-mask-2 Inv-loop μ-loop
-mul-end-mask-2 c = search needs
-
 array-read-end-mask : tie.Need-array-read-end-mask Inv-loop μ-loop
 array-read-end-mask c = omega (arith, facts (c .before .before .before))
-
-cast-end-mask : tie.Need-cast-end-mask Inv-loop μ-loop
-cast-end-mask c = search needs
 
 add-end-mask : tie.Need-add-end-mask Inv-loop μ-loop
 add-end-mask c = omega (arith, facts (c .before .before .before))
@@ -70,35 +43,17 @@ mul-end-mask-3 c = omega (arith, facts (c .before .before .before))
 shared-slice-read-end-mask : tie.Need-shared-slice-read-end-mask Inv-loop μ-loop
 shared-slice-read-end-mask c = omega (arith, facts (c .before .before .before .before))
 
-mul-end-mask-4 : tie.Need-mul-end-mask-4 Inv-loop μ-loop
-mul-end-mask-4 c = search needs
-
 array-read-end-mask-2 : tie.Need-array-read-end-mask-2 Inv-loop μ-loop
 array-read-end-mask-2 c = omega (arith, facts (c .before .before .before .before))
 
 end-mask-requires : tie.Need-end-mask-requires Inv-loop μ-loop
 end-mask-requires c κs = omega (arith, facts (c .before .before .before .before))
 
-mul-inter : tie.Need-mul-inter Inv-loop μ-loop
-mul-inter c = search needs
-
 array-read-inter : tie.Need-array-read-inter Inv-loop μ-loop
 array-read-inter c = omega (arith, facts (c .before .before .before .before .before))
 
-inter-requires : tie.Need-inter-requires Inv-loop μ-loop
-inter-requires c κs = search needs
-
-mul-next : tie.Need-mul-next Inv-loop μ-loop
-mul-next c = search needs
-
 array-write-next : tie.Need-array-write-next Inv-loop μ-loop
 array-write-next c = omega (arith, facts (c .before .before .before .before .before .before))
-
-add-c : tie.Need-add-c Inv-loop μ-loop
-add-c c = search needs
-
-loop-less : tie.Need-loop-less Inv-loop μ-loop
-loop-less c = search needs
 
 loop-again : tie.Need-loop-again Inv-loop μ-loop
 loop-again c =
@@ -133,28 +88,28 @@ narrow-spec =
     Inv-loop
     μ-loop
     loop-holds
-    mul-w
-    shared-slice-read-w
-    condition-i-requires
-    condition-j-requires
-    is-later-requires
-    form-of-requires
-    mul-end-mask
-    mul-end-mask-2
+    (λ c. search needs)
+    (λ c. search needs)
+    (λ c κs. search needs)
+    (λ c κs. search needs)
+    (λ c κs. search needs)
+    (λ c κs. search needs)
+    (λ c. search needs)
+    (λ c. search needs)
     array-read-end-mask
-    cast-end-mask
+    (λ c. search needs)
     add-end-mask
     mul-end-mask-3
     shared-slice-read-end-mask
-    mul-end-mask-4
+    (λ c. search needs)
     array-read-end-mask-2
     end-mask-requires
-    mul-inter
+    (λ c. search needs)
     array-read-inter
-    inter-requires
-    mul-next
+    (λ c κs. search needs)
+    (λ c. search needs)
     array-write-next
-    add-c
-    loop-less
+    (λ c. search needs)
+    (λ c. search needs)
     loop-again
     returns)

@@ -5,33 +5,6 @@ use borrow.Author.Needs.{needs}
 use Rattle.sets.proofs.conditions.own_mask.Statement.{statement}
 use Rattle.sets.proofs.conditions.own_mask.Tie as tie
 
-form-of-requires : tie.Need-form-of-requires
-form-of-requires c κs = search needs
-
-some-allowed-requires : tie.Need-some-allowed-requires
-some-allowed-requires c κs = search needs
-
-condition-j-requires : tie.Need-condition-j-requires
-condition-j-requires c κs = search needs
-
-mul-end-mask : tie.Need-mul-end-mask
-mul-end-mask c = search needs
-
-add-end-mask : tie.Need-add-end-mask
-add-end-mask c = search needs
-
-mul-end-mask-2 : tie.Need-mul-end-mask-2
-mul-end-mask-2 c = search needs
-
-shared-slice-read-end-mask : tie.Need-shared-slice-read-end-mask
-shared-slice-read-end-mask c = search needs
-
-end-mask-requires : tie.Need-end-mask-requires
-end-mask-requires c κs = search needs
-
-inter-requires : tie.Need-inter-requires
-inter-requires c κs = search needs
-
 returns : tie.Need-returns
 returns c = λ e l.
     let f = c .before .before .before .before .before .before .form-of in
@@ -52,14 +25,14 @@ pub own-mask-spec : {M : Type 1} → statement M
 own-mask-spec =
     tie.close
     (tie.spec
-    form-of-requires
-    some-allowed-requires
-    condition-j-requires
-    mul-end-mask
-    add-end-mask
-    mul-end-mask-2
-    shared-slice-read-end-mask
-    end-mask-requires
-    inter-requires
+    (λ c κs. search needs)
+    (λ c κs. search needs)
+    (λ c κs. search needs)
+    (λ c. search needs)
+    (λ c. search needs)
+    (λ c. search needs)
+    (λ c. search needs)
+    (λ c κs. search needs)
+    (λ c κs. search needs)
     returns
     returns-2)

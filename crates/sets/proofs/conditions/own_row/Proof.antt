@@ -21,26 +21,8 @@ abbrev μ-loop : tie.MeasureT-loop
 loop-holds : tie.Need-loop-holds Inv-loop μ-loop
 loop-holds c = (omega arith, λ e. (λ t. (t, λ d l. absurd (omega arith)), λ o. o .0))
 
-mul-w : tie.Need-mul-w Inv-loop μ-loop
-mul-w c = search needs
-
-shared-slice-read-w : tie.Need-shared-slice-read-w Inv-loop μ-loop
-shared-slice-read-w c = search needs
-
-condition-i-requires : tie.Need-condition-i-requires Inv-loop μ-loop
-condition-i-requires c κs = search needs
-
 own-mask-requires : tie.Need-own-mask-requires Inv-loop μ-loop
 own-mask-requires c κs = let s = c .before .before .before .before .before .before .before in omega (arith, c .before .before .before .loop-test .taken, s .pre)
-
-inter-requires : tie.Need-inter-requires Inv-loop μ-loop
-inter-requires c κs = search needs
-
-add-c : tie.Need-add-c Inv-loop μ-loop
-add-c c = search needs
-
-loop-less : tie.Need-loop-less Inv-loop μ-loop
-loop-less c = search needs
 
 loop-again : tie.Need-loop-again Inv-loop μ-loop
 loop-again c =
@@ -68,12 +50,12 @@ own-row-spec =
     Inv-loop
     μ-loop
     loop-holds
-    mul-w
-    shared-slice-read-w
-    condition-i-requires
+    (λ c. search needs)
+    (λ c. search needs)
+    (λ c κs. search needs)
     own-mask-requires
-    inter-requires
-    add-c
-    loop-less
+    (λ c κs. search needs)
+    (λ c. search needs)
+    (λ c. search needs)
     loop-again
     returns)

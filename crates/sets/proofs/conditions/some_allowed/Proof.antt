@@ -20,33 +20,6 @@ abbrev μ-loop : tie.MeasureT-loop
 loop-holds : tie.Need-loop-holds Inv-loop μ-loop
 loop-holds c = let a = c .before .args in (omega arith, λ e l. in-none {P = λ z. SomeBegin (a .allow .now) 0 (a .form) (a .c) (a .x) z} (λ z. begin-none) e)
 
-mul-end-mask : tie.Need-mul-end-mask Inv-loop μ-loop
-mul-end-mask c = search needs
-
-cast-end-mask : tie.Need-cast-end-mask Inv-loop μ-loop
-cast-end-mask c = search needs
-
-add-end-mask : tie.Need-add-end-mask Inv-loop μ-loop
-add-end-mask c = search needs
-
-mul-end-mask-2 : tie.Need-mul-end-mask-2 Inv-loop μ-loop
-mul-end-mask-2 c = search needs
-
-shared-slice-read-end-mask : tie.Need-shared-slice-read-end-mask Inv-loop μ-loop
-shared-slice-read-end-mask c = search needs
-
-end-mask-requires : tie.Need-end-mask-requires Inv-loop μ-loop
-end-mask-requires c κs = search needs
-
-union-requires : tie.Need-union-requires Inv-loop μ-loop
-union-requires c κs = search needs
-
-add-y : tie.Need-add-y Inv-loop μ-loop
-add-y c = search needs
-
-loop-less : tie.Need-loop-less Inv-loop μ-loop
-loop-less c = search needs
-
 loop-again : tie.Need-loop-again Inv-loop μ-loop
 loop-again c = let k = c .before .before .before .before .loop in (
   omega arith,
@@ -67,14 +40,14 @@ some-allowed-spec =
     Inv-loop
     μ-loop
     loop-holds
-    mul-end-mask
-    cast-end-mask
-    add-end-mask
-    mul-end-mask-2
-    shared-slice-read-end-mask
-    end-mask-requires
-    union-requires
-    add-y
-    loop-less
+    (λ c. search needs)
+    (λ c. search needs)
+    (λ c. search needs)
+    (λ c. search needs)
+    (λ c. search needs)
+    (λ c κs. search needs)
+    (λ c κs. search needs)
+    (λ c. search needs)
+    (λ c. search needs)
     loop-again
     returns)

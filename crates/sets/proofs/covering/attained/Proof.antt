@@ -21,36 +21,12 @@ abbrev μ-loop : tie.MeasureT-loop
 loop-holds : tie.Need-loop-holds Inv-loop μ-loop
 loop-holds c = (omega arith, omega arith, λ e l. (λ h j k. absurd (omega arith), λ h. omega arith), in-none (λ e. some-none))
 
-mul-least-from : tie.Need-mul-least-from Inv-loop μ-loop
-mul-least-from c = search needs
-
-array-read-least-from : tie.Need-array-read-least-from Inv-loop μ-loop
-array-read-least-from c = search needs
-
-least-from-requires : tie.Need-least-from-requires Inv-loop μ-loop
-least-from-requires c κs = search needs
-
 returns : tie.Need-returns Inv-loop μ-loop
 returns c = let s = c .before .before .before .before in
     in-none (λ e h. let k = h .last in
     let l = s .pre .1 (k .at) e (k .is) in
     let g = reaches (c .before .least-from .ensures e l) .1 (h .each (c .before .before .before .loop .i) (omega arith)) in
     omega (arith, c .if1 .taken))
-
-mul-union : tie.Need-mul-union Inv-loop μ-loop
-mul-union c = search needs
-
-array-read-union : tie.Need-array-read-union Inv-loop μ-loop
-array-read-union c = search needs
-
-union-requires : tie.Need-union-requires Inv-loop μ-loop
-union-requires c κs = search needs
-
-add-i : tie.Need-add-i Inv-loop μ-loop
-add-i c = search needs
-
-loop-less : tie.Need-loop-less Inv-loop μ-loop
-loop-less c = search needs
 
 loop-again : tie.Need-loop-again Inv-loop μ-loop
 loop-again c = let k = c .before .before .before .before .before .loop in let n = c .before .before .before .least-from in (
@@ -59,12 +35,6 @@ loop-again c = let k = c .before .before .before .before .before .loop in let n 
   λ e l. all-more (k .inv .2 e l) (reaches (n .ensures e l)) (⊎-elim (λ w. (λ h. (omega arith, omega arith), λ h. let u = h .1 in omega arith)) (λ w. (λ h. (omega arith, omega arith), λ h. let u = h .0 in omega arith)) (c .before .if2 .came)),
   in-more (λ e. in-union (c .union .ensures) e) (λ e. some-more _) (k .inv .3),
 )
-
-from-requires : tie.Need-from-requires Inv-loop μ-loop
-from-requires c κs = search needs
-
-inter-requires : tie.Need-inter-requires Inv-loop μ-loop
-inter-requires c κs = search needs
 
 returns-2 : tie.Need-returns-2 Inv-loop μ-loop
 returns-2 c = λ e.
@@ -86,16 +56,16 @@ attained-spec =
     Inv-loop
     μ-loop
     loop-holds
-    mul-least-from
-    array-read-least-from
-    least-from-requires
+    (λ c. search needs)
+    (λ c. search needs)
+    (λ c κs. search needs)
     returns
-    mul-union
-    array-read-union
-    union-requires
-    add-i
-    loop-less
+    (λ c. search needs)
+    (λ c. search needs)
+    (λ c κs. search needs)
+    (λ c. search needs)
+    (λ c. search needs)
     loop-again
-    from-requires
-    inter-requires
+    (λ c κs. search needs)
+    (λ c κs. search needs)
     returns-2)

@@ -19,9 +19,6 @@ Inv-loop begins ends count b least₀ i₀ least i =
 abbrev μ-loop : tie.MeasureT-loop
 μ-loop begins ends count b least₀ i₀ least i = count - i
 
-begins-at-requires : tie.Need-begins-at-requires Inv-loop μ-loop
-begins-at-requires c κs = search needs
-
 returns : tie.Need-returns Inv-loop μ-loop
 returns c = in-none (λ e h. not-both (c .before .begins-at .ensures .1 (h .first)) (not-true _ (c .if1 .taken)))
 
@@ -35,27 +32,12 @@ returns-2 : tie.Need-returns-2 Inv-loop μ-loop
 returns-2 c = let s = c .before .before .before .before .before .before in
     in-none (λ e h. let k = h .last in let l = c .before .need .ensures e (s .pre .2 (k .at) e (k .below) (k .is)) .1 (h .needs (c .before .before .before .loop .i) (omega arith)) in omega (arith, s .pre .2 (k .at) e (k .below) (k .is), c .if2 .taken))
 
-add-i : tie.Need-add-i Inv-loop μ-loop
-add-i c = search needs
-
-loop-less : tie.Need-loop-less Inv-loop μ-loop
-loop-less c = search needs
-
 loop-again : tie.Need-loop-again Inv-loop μ-loop
 loop-again c = let k = c .before .before .before .before .loop in let n = c .before .before .need in (
   omega arith,
   ⊎-elim (λ w. omega arith) (λ w. omega arith) (c .if3 .came),
   λ e l. all-more (k .inv .2 e l) (n .ensures e l) (⊎-elim (λ w. (λ h. (omega arith, omega arith), λ h. let u = h .1 in omega arith)) (λ w. (λ h. (omega arith, omega arith), λ h. let u = h .0 in omega arith)) (c .if3 .came)),
 )
-
-ends-before-requires : tie.Need-ends-before-requires Inv-loop μ-loop
-ends-before-requires c κs = search needs
-
-from-requires : tie.Need-from-requires Inv-loop μ-loop
-from-requires c κs = search needs
-
-inter-requires : tie.Need-inter-requires Inv-loop μ-loop
-inter-requires c κs = search needs
 
 returns-3 : tie.Need-returns-3 Inv-loop μ-loop
 returns-3 c = λ e.
@@ -79,15 +61,15 @@ covered-spec =
     (tie.spec
     Inv-loop
     μ-loop
-    begins-at-requires
+    (λ c κs. search needs)
     returns
     loop-holds
     need-requires
     returns-2
-    add-i
-    loop-less
+    (λ c. search needs)
+    (λ c. search needs)
     loop-again
-    ends-before-requires
-    from-requires
-    inter-requires
+    (λ c κs. search needs)
+    (λ c κs. search needs)
+    (λ c κs. search needs)
     returns-3)

@@ -20,17 +20,8 @@ abbrev μ-loop : tie.MeasureT-loop
 loop-holds : tie.Need-loop-holds Inv-loop μ-loop
 loop-holds c = (omega arith, omega arith, λ y l g. absurd (omega arith))
 
-has-requires : tie.Need-has-requires Inv-loop μ-loop
-has-requires c κs = search needs
-
 returns : tie.Need-returns Inv-loop μ-loop
 returns c = let v = c .before .before .before .loop .inv in (v .0, v .1, v .2, inr (λ u. not-both (c .before .has .ensures ∙ u .yes) (not-true _ (c .if1 .taken))))
-
-add-t : tie.Need-add-t Inv-loop μ-loop
-add-t c = search needs
-
-loop-less : tie.Need-loop-less Inv-loop μ-loop
-loop-less c = search needs
 
 loop-again : tie.Need-loop-again Inv-loop μ-loop
 loop-again c = let l = c .before .before .before .loop in (
@@ -47,4 +38,4 @@ returns-2 c = let v = c .before .loop .inv in (v .0, v .1, v .2, inl (omega arit
 pub first-outside-spec : {M : Type 1} → statement M
 first-outside-spec =
     tie.close
-    (tie.spec Inv-loop μ-loop loop-holds has-requires returns add-t loop-less loop-again returns-2)
+    (tie.spec Inv-loop μ-loop loop-holds (λ c κs. search needs) returns (λ c. search needs) (λ c. search needs) loop-again returns-2)

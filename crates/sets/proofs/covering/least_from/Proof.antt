@@ -18,20 +18,11 @@ late c y = (
   λ t. in-both (c .inter .ensures) y .1 (t .0, in-from (c .before .from .ensures) y .1 (t .1, in-below (c .before .before .fits .x .fits) (t .0))),
 )
 
-from-requires : tie.Need-from-requires
-from-requires c κs = search needs
-
-inter-requires : tie.Need-inter-requires
-inter-requires c κs = search needs
-
 returns : tie.Need-returns
 returns c = λ e l. (
   λ h. absurd (omega arith),
   λ s. let t = late (c .before) (s .0) .1 (s .1, s .2) in not-both (t .yes) (ap (λ (x : ℕ). has x (s .0)) (c .if1 .taken) ∙ has-zero (s .0)),
 )
-
-lowest-requires : tie.Need-lowest-requires
-lowest-requires c κs = search needs
 
 returns-2 : tie.Need-returns-2
 returns-2 c = λ e l. let m = c .lowest .ensures in (
@@ -41,4 +32,4 @@ returns-2 c = λ e l. let m = c .lowest .ensures in (
 
 pub least-from-spec : {M : Type 1} → statement M
 least-from-spec =
-    tie.close (tie.spec from-requires inter-requires returns lowest-requires returns-2)
+    tie.close (tie.spec (λ c κs. search needs) (λ c κs. search needs) returns (λ c κs. search needs) returns-2)

@@ -6,30 +6,6 @@ use borrow.Author.Needs.{needs}
 use Rattle.sets.proofs.covering.need.Statement.{statement}
 use Rattle.sets.proofs.covering.need.Tie as tie
 
-mul-least-from : tie.Need-mul-least-from
-mul-least-from c = search needs
-
-array-read-least-from : tie.Need-array-read-least-from
-array-read-least-from c = search needs
-
-least-from-requires : tie.Need-least-from-requires
-least-from-requires c κs = search needs
-
-mul-x : tie.Need-mul-x
-mul-x c = search needs
-
-array-read-x : tie.Need-array-read-x
-array-read-x c = search needs
-
-ends-before-requires : tie.Need-ends-before-requires
-ends-before-requires c κs = search needs
-
-sub-least-from : tie.Need-sub-least-from
-sub-least-from c = search needs
-
-least-from-requires-2 : tie.Need-least-from-requires-2
-least-from-requires-2 c κs = search needs
-
 returns : tie.Need-returns
 returns c = λ e l. let o = c .before .before .before .before in let m = c .before .before .ends-before in
     needed-both (c .before .before .before .if1 .taken) (reaches (o .least-from .ensures e l)) (bridges (m .result) (m .ensures) (c .before .least-from2 .ensures e l))
@@ -47,14 +23,14 @@ pub need-spec : {M : Type 1} → statement M
 need-spec =
     tie.close
     (tie.spec
-    mul-least-from
-    array-read-least-from
-    least-from-requires
-    mul-x
-    array-read-x
-    ends-before-requires
-    sub-least-from
-    least-from-requires-2
+    (λ c. search needs)
+    (λ c. search needs)
+    (λ c κs. search needs)
+    (λ c. search needs)
+    (λ c. search needs)
+    (λ c κs. search needs)
+    (λ c. search needs)
+    (λ c κs. search needs)
     returns
     returns-2
     returns-3)

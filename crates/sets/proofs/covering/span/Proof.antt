@@ -16,17 +16,8 @@ use Rattle.sets.proofs.covering.span.Tie as tie
 top : (c : tie.After-m) → Highest (c .before .before .before .args .ends) 63 (c .m .given .0 .0)
 top c = subst (HighestUpto _ _) (c .m .given .1) (c .before .before .highest-upto .ensures)
 
-highest-upto-requires : tie.Need-highest-upto-requires
-highest-upto-requires c κs = search needs
-
-enum-known-m : tie.Need-enum-known-m
-enum-known-m c = search needs
-
 between-requires : tie.Need-between-requires
 between-requires c κs = let h = top (c .before) in omega (arith, h .upto)
-
-enum-told : tie.Need-enum-told
-enum-told c = search needs
 
 returns : tie.Need-returns
 returns c = λ t.
@@ -50,4 +41,4 @@ returns-2 c =
 pub span-spec : {M : Type 1} → statement M
 span-spec =
     tie.close
-    (tie.spec highest-upto-requires enum-known-m between-requires enum-told returns returns-2)
+    (tie.spec (λ c κs. search needs) (λ c. search needs) between-requires (λ c. search needs) returns returns-2)

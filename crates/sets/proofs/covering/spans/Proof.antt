@@ -19,29 +19,8 @@ abbrev μ-loop : tie.MeasureT-loop
 loop-holds : tie.Need-loop-holds Inv-loop μ-loop
 loop-holds c = (omega arith, in-none (λ t. some-none))
 
-mul-span : tie.Need-mul-span Inv-loop μ-loop
-mul-span c = search needs
-
-array-read-span : tie.Need-array-read-span Inv-loop μ-loop
-array-read-span c = search needs
-
-mul-span-2 : tie.Need-mul-span-2 Inv-loop μ-loop
-mul-span-2 c = search needs
-
-array-read-span-2 : tie.Need-array-read-span-2 Inv-loop μ-loop
-array-read-span-2 c = search needs
-
 span-requires : tie.Need-span-requires Inv-loop μ-loop
 span-requires c κs = c .before .before .pre .1 (c .before .loop .i)
-
-union-requires : tie.Need-union-requires Inv-loop μ-loop
-union-requires c κs = search needs
-
-add-i : tie.Need-add-i Inv-loop μ-loop
-add-i c = search needs
-
-loop-less : tie.Need-loop-less Inv-loop μ-loop
-loop-less c = search needs
 
 loop-again : tie.Need-loop-again Inv-loop μ-loop
 loop-again c = (omega arith, in-more (λ t. gain (c .before .span .result) (c .union .ensures) (c .before .span .ensures t)) (λ t. some-more _) (c .before .before .before .loop .inv .1))
@@ -59,13 +38,13 @@ spans-spec =
     Inv-loop
     μ-loop
     loop-holds
-    mul-span
-    array-read-span
-    mul-span-2
-    array-read-span-2
+    (λ c. search needs)
+    (λ c. search needs)
+    (λ c. search needs)
+    (λ c. search needs)
     span-requires
-    union-requires
-    add-i
-    loop-less
+    (λ c κs. search needs)
+    (λ c. search needs)
+    (λ c. search needs)
     loop-again
     returns)

@@ -8,12 +8,6 @@ use borrow.Author.Needs.{needs}
 use Rattle.sets.proofs.covering.with_covered.Statement.{statement}
 use Rattle.sets.proofs.covering.with_covered.Tie as tie
 
-ends-before-requires : tie.Need-ends-before-requires
-ends-before-requires c κs = search needs
-
-union-requires : tie.Need-union-requires
-union-requires c κs = search needs
-
 returns : tie.Need-returns
 returns c = let s = c .before .before .before in λ e. (
   inl,
@@ -22,12 +16,6 @@ returns c = let s = c .before .before .before in λ e. (
       subst (λ (x : ℕ). In x e) (c .if1 .taken) (in-union (c .before .union .ensures) e .1 (inr t))),
 )
 
-covered-requires : tie.Need-covered-requires
-covered-requires c κs = search needs
-
-union-requires-2 : tie.Need-union-requires-2
-union-requires-2 c κs = search needs
-
 returns-2 : tie.Need-returns-2
 returns-2 c = λ e. gain (c .before .covered .result) (c .union2 .ensures) (c .before .covered .ensures e)
 
@@ -35,9 +23,9 @@ pub with-covered-spec : {M : Type 1} → statement M
 with-covered-spec =
     tie.close
     (tie.spec
-    ends-before-requires
-    union-requires
+    (λ c κs. search needs)
+    (λ c κs. search needs)
     returns
-    covered-requires
-    union-requires-2
+    (λ c κs. search needs)
+    (λ c κs. search needs)
     returns-2)

@@ -20,26 +20,8 @@ abbrev μ-loop : tie.MeasureT-loop
 loop-holds : tie.Need-loop-holds Inv-loop μ-loop
 loop-holds c = (omega arith, refl, λ j l. absurd (omega arith))
 
-mul-greatest-upto : tie.Need-mul-greatest-upto Inv-loop μ-loop
-mul-greatest-upto c = search needs
-
-array-read-greatest-upto : tie.Need-array-read-greatest-upto Inv-loop μ-loop
-array-read-greatest-upto c = search needs
-
 greatest-upto-requires : tie.Need-greatest-upto-requires Inv-loop μ-loop
 greatest-upto-requires c κs = let s = c .before .before in (s .pre .0, s .pre .2 (c .before .loop .i) (c .loop-test .taken))
-
-mul-ends : tie.Need-mul-ends Inv-loop μ-loop
-mul-ends c = search needs
-
-array-write-ends : tie.Need-array-write-ends Inv-loop μ-loop
-array-write-ends c = search needs
-
-add-i : tie.Need-add-i Inv-loop μ-loop
-add-i c = search needs
-
-loop-less : tie.Need-loop-less Inv-loop μ-loop
-loop-less c = search needs
 
 loop-again : tie.Need-loop-again Inv-loop μ-loop
 loop-again c =
@@ -62,12 +44,12 @@ greatest-ends-spec =
     Inv-loop
     μ-loop
     loop-holds
-    mul-greatest-upto
-    array-read-greatest-upto
+    (λ c. search needs)
+    (λ c. search needs)
     greatest-upto-requires
-    mul-ends
-    array-write-ends
-    add-i
-    loop-less
+    (λ c. search needs)
+    (λ c. search needs)
+    (λ c. search needs)
+    (λ c. search needs)
     loop-again
     returns)

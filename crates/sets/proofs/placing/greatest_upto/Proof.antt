@@ -8,15 +8,6 @@ use borrow.Author.Needs.{needs}
 use Rattle.sets.proofs.placing.greatest_upto.Statement.{statement}
 use Rattle.sets.proofs.placing.greatest_upto.Tie as tie
 
-highest-upto-requires : tie.Need-highest-upto-requires
-highest-upto-requires c κs = search needs
-
-enum-known-m : tie.Need-enum-known-m
-enum-known-m c = search needs
-
-enum-told : tie.Need-enum-told
-enum-told c = search needs
-
 returns : tie.Need-returns
 returns c = subst (HighestUpto _ _) (c .before .m .given .1) (c .before .before .before .highest-upto .ensures)
 
@@ -29,4 +20,4 @@ returns-2 c =
 
 pub greatest-upto-spec : {M : Type 1} → statement M
 greatest-upto-spec =
-    tie.close (tie.spec highest-upto-requires enum-known-m enum-told returns returns-2)
+    tie.close (tie.spec (λ c κs. search needs) (λ c. search needs) (λ c. search needs) returns returns-2)

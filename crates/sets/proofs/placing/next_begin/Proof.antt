@@ -69,9 +69,6 @@ returns c =
 add-x : tie.Need-add-x Inv-loop μ-loop
 add-x c = omega (arith, facts (c .before .before .before .before .before))
 
-loop-less : tie.Need-loop-less Inv-loop μ-loop
-loop-less c = search needs
-
 loop-again : tie.Need-loop-again Inv-loop μ-loop
 loop-again c =
     let l = c .before .before .before .before .before in
@@ -107,6 +104,6 @@ next-begin-spec =
     has-requires
     returns
     add-x
-    loop-less
+    (λ c. search needs)
     loop-again
     returns-2)

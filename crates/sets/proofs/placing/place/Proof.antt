@@ -14,17 +14,8 @@ use Rattle.sets.proofs.placing.place.Tie as tie
 few : (s : tie.Start) → length (s .args .members .now) ≤ 4
 few s = omega (arith, s .pre .formed .few, length-map (s .args .members .now) memberNode)
 
-slice-aggregate-fill-allowed : tie.Need-slice-aggregate-fill-allowed
-slice-aggregate-fill-allowed c = search needs
-
 fill-allowed-requires : tie.Need-fill-allowed-requires
 fill-allowed-requires c κs = let g = c .before .before .before .before .pre in (g .formed .moments, omega (arith, g .formed .conditions))
-
-slice-aggregate-fill-own : tie.Need-slice-aggregate-fill-own
-slice-aggregate-fill-own c = search needs
-
-slice-aggregate-fill-own-2 : tie.Need-slice-aggregate-fill-own-2
-slice-aggregate-fill-own-2 c = search needs
 
 fill-own-requires : tie.Need-fill-own-requires
 fill-own-requires c κs = let s = c .before .before .before .before .before .before .before .before in let g = s .pre in
@@ -35,12 +26,6 @@ array-share-prefix-places c = few (c .before .before .before .before .before .be
 
 slice-aggregate-place-from : tie.Need-slice-aggregate-place-from
 slice-aggregate-place-from c = sym (length-take-le _ _ (few (c .before .before .before .before .before .before .before .before .before .before .before)))
-
-slice-aggregate-place-from-2 : tie.Need-slice-aggregate-place-from-2
-slice-aggregate-place-from-2 c = search needs
-
-slice-aggregate-place-from-3 : tie.Need-slice-aggregate-place-from-3
-slice-aggregate-place-from-3 c = search needs
 
 place-from-requires : tie.Need-place-from-requires
 place-from-requires c κs =
@@ -62,14 +47,14 @@ pub place-spec : {M : Type 1} → statement M
 place-spec =
     tie.close
     (tie.spec
-    slice-aggregate-fill-allowed
+    (λ c. search needs)
     fill-allowed-requires
-    slice-aggregate-fill-own
-    slice-aggregate-fill-own-2
+    (λ c. search needs)
+    (λ c. search needs)
     fill-own-requires
     array-share-prefix-places
     slice-aggregate-place-from
-    slice-aggregate-place-from-2
-    slice-aggregate-place-from-3
+    (λ c. search needs)
+    (λ c. search needs)
     place-from-requires
     returns)

@@ -50,23 +50,11 @@ loop-holds c =
     let h = c .later-ends .ensures in
     (omega arith, refl, search-start (s .pre .0) (later-start (s .args .members .now) (h .0)) (h .1), nothing-placed .1 (s .pre .1))
 
-next-begin-requires : tie.Need-next-begin-requires Inv-loop μ-loop
-next-begin-requires c κs = search needs
-
-mul-begins : tie.Need-mul-begins Inv-loop μ-loop
-mul-begins c = search needs
-
 array-write-begins : tie.Need-array-write-begins Inv-loop μ-loop
 array-write-begins c = omega (arith, long c, c .before .before .loop .inv .1)
 
 place-next-requires : tie.Need-place-next-requires Inv-loop μ-loop
 place-next-requires c κs = (placing c, c .before .loop-test .taken)
-
-add-k : tie.Need-add-k Inv-loop μ-loop
-add-k c = search needs
-
-loop-less : tie.Need-loop-less Inv-loop μ-loop
-loop-less c = search needs
 
 loop-again : tie.Need-loop-again Inv-loop μ-loop
 loop-again c =
@@ -99,12 +87,12 @@ place-from-spec =
     μ-loop
     later-ends-requires
     loop-holds
-    next-begin-requires
-    mul-begins
+    (λ c κs. search needs)
+    (λ c. search needs)
     array-write-begins
     place-next-requires
-    add-k
-    loop-less
+    (λ c. search needs)
+    (λ c. search needs)
     loop-again
     greatest-ends-requires
     returns)

@@ -19,38 +19,14 @@ abbrev μ-loop : tie.MeasureT-loop
 loop-holds : tie.Need-loop-holds Inv-loop μ-loop
 loop-holds c = (omega arith, refl, record { row = λ i l. absurd (omega arith) })
 
-mul-loop : tie.Need-mul-loop Inv-loop μ-loop
-mul-loop c = search needs
-
-cast-x : tie.Need-cast-x Inv-loop μ-loop
-cast-x c = search needs
-
-mul-member-node : tie.Need-mul-member-node Inv-loop μ-loop
-mul-member-node c = search needs
-
-shared-slice-read-member-node : tie.Need-shared-slice-read-member-node Inv-loop μ-loop
-shared-slice-read-member-node c = search needs
-
-member-node-requires : tie.Need-member-node-requires Inv-loop μ-loop
-member-node-requires c κs = search needs
-
 ends-at-requires : tie.Need-ends-at-requires Inv-loop μ-loop
 ends-at-requires c κs = let s = c .before .before .before .before .before .before .before .before .before in omega (arith, c .member-node .ensures .0, s .pre .1 (c .before .before .before .loop .c / 64) (omega (arith, c .before .before .loop-test .taken)), s .pre .2)
 
 own-row-requires : tie.Need-own-row-requires Inv-loop μ-loop
 own-row-requires c κs = let s = c .before .before .before .before .before .before .before .before .before .before in (s .pre .3, omega arith, s .pre .2)
 
-mul-own : tie.Need-mul-own Inv-loop μ-loop
-mul-own c = search needs
-
 slice-write-own : tie.Need-slice-write-own Inv-loop μ-loop
 slice-write-own c = let s = c .before .before .before .before .before .before .before .before .before .before .before in omega (arith, s .pre .4, c .before .before .before .before .before .loop .inv .1, c .before .before .before .before .loop-test .taken)
-
-add-c : tie.Need-add-c Inv-loop μ-loop
-add-c c = search needs
-
-loop-less : tie.Need-loop-less Inv-loop μ-loop
-loop-less c = search needs
 
 loop-again : tie.Need-loop-again Inv-loop μ-loop
 loop-again c =
@@ -80,17 +56,17 @@ fill-own-spec =
     Inv-loop
     μ-loop
     loop-holds
-    mul-loop
-    cast-x
-    mul-member-node
-    shared-slice-read-member-node
-    member-node-requires
+    (λ c. search needs)
+    (λ c. search needs)
+    (λ c. search needs)
+    (λ c. search needs)
+    (λ c κs. search needs)
     ends-at-requires
     own-row-requires
-    mul-own
+    (λ c. search needs)
     slice-write-own
-    add-c
-    loop-less
+    (λ c. search needs)
+    (λ c. search needs)
     loop-again
     same-length
     returns)

@@ -25,17 +25,8 @@ abbrev μ-loop : tie.MeasureT-loop
 few : (s : tie.Start Inv-loop μ-loop) → length (s .args .members .now) ≤ 4
 few s = omega (arith, s .pre .formed .few, length-map (s .args .members .now) memberNode)
 
-slice-aggregate-fill-allowed : tie.Need-slice-aggregate-fill-allowed Inv-loop μ-loop
-slice-aggregate-fill-allowed c = search needs
-
 fill-allowed-requires : tie.Need-fill-allowed-requires Inv-loop μ-loop
 fill-allowed-requires c κs = let g = c .before .before .before .before .pre in (g .formed .moments, omega (arith, g .formed .conditions))
-
-slice-aggregate-fill-own : tie.Need-slice-aggregate-fill-own Inv-loop μ-loop
-slice-aggregate-fill-own c = search needs
-
-slice-aggregate-fill-own-2 : tie.Need-slice-aggregate-fill-own-2 Inv-loop μ-loop
-slice-aggregate-fill-own-2 c = search needs
 
 fill-own-requires : tie.Need-fill-own-requires Inv-loop μ-loop
 fill-own-requires c κs = let s = c .before .before .before .before .before .before .before .before .before in let g = s .pre in (
@@ -55,12 +46,6 @@ array-share-prefix-places c = few (c .before .before .before .before .before .be
 slice-aggregate-set-row : tie.Need-slice-aggregate-set-row Inv-loop μ-loop
 slice-aggregate-set-row c = sym (length-take-le _ _ (few (c .before .before .before .before .before .before .before .before .before .before .before .before .before .before)))
 
-slice-aggregate-set-row-2 : tie.Need-slice-aggregate-set-row-2 Inv-loop μ-loop
-slice-aggregate-set-row-2 c = search needs
-
-slice-aggregate-set-row-3 : tie.Need-slice-aggregate-set-row-3 Inv-loop μ-loop
-slice-aggregate-set-row-3 c = search needs
-
 set-row-requires : tie.Need-set-row-requires Inv-loop μ-loop
 set-row-requires c κs =
     let s = c .before .before .before .before .before .before .before .before .before .before .before .before .before .before .before .before in
@@ -68,26 +53,8 @@ set-row-requires c κs =
     let v = c .before .before .before .before .loop .inv in
     own-ready (s .args .values .now) (g .formed) (v .3) (v .4) (omega (arith, v .1, g .formed .conditions)) (omega (arith, v .2, few s)) (omega (arith, c .before .before .before .loop-test .taken))
 
-mul-table : tie.Need-mul-table Inv-loop μ-loop
-mul-table c = search needs
-
-cast-table : tie.Need-cast-table Inv-loop μ-loop
-cast-table c = search needs
-
-add-table : tie.Need-add-table Inv-loop μ-loop
-add-table c = search needs
-
-mul-table-2 : tie.Need-mul-table-2 Inv-loop μ-loop
-mul-table-2 c = search needs
-
 slice-write-table : tie.Need-slice-write-table Inv-loop μ-loop
 slice-write-table c = let s = c .before .before .before .before .before .before .before .before .before .before .before .before .before .before .before .before .before in omega (arith, s .pre .room, c .before .before .before .before .before .loop .inv .5 .long, c .before .before .before .before .loop-test .taken, s .pre .formed .moments)
-
-add-b : tie.Need-add-b Inv-loop μ-loop
-add-b c = search needs
-
-loop-less : tie.Need-loop-less Inv-loop μ-loop
-loop-less c = search needs
 
 loop-again : tie.Need-loop-again Inv-loop μ-loop
 loop-again c =
@@ -118,24 +85,24 @@ set-rows-spec =
     (tie.spec
     Inv-loop
     μ-loop
-    slice-aggregate-fill-allowed
+    (λ c. search needs)
     fill-allowed-requires
-    slice-aggregate-fill-own
-    slice-aggregate-fill-own-2
+    (λ c. search needs)
+    (λ c. search needs)
     fill-own-requires
     loop-holds
     array-share-prefix-places
     slice-aggregate-set-row
-    slice-aggregate-set-row-2
-    slice-aggregate-set-row-3
+    (λ c. search needs)
+    (λ c. search needs)
     set-row-requires
-    mul-table
-    cast-table
-    add-table
-    mul-table-2
+    (λ c. search needs)
+    (λ c. search needs)
+    (λ c. search needs)
+    (λ c. search needs)
     slice-write-table
-    add-b
-    loop-less
+    (λ c. search needs)
+    (λ c. search needs)
     loop-again
     same-length
     returns)

@@ -8,9 +8,6 @@ use Rattle.starts.proofs.clashes.clash_entry.Tie as tie
 shared-slice-read-actions-of : tie.Need-shared-slice-read-actions-of
 shared-slice-read-actions-of c = c .before .before .pre .0 .some
 
-actions-of-requires : tie.Need-actions-of-requires
-actions-of-requires c κs = search needs
-
 returns : tie.Need-returns
 returns c = λ l m. absurd (omega (arith, c .before .actions-of .ensures .0))
 
@@ -31,7 +28,7 @@ clash-entry-spec =
     tie.close
     (tie.spec
     shared-slice-read-actions-of
-    actions-of-requires
+    (λ c κs. search needs)
     returns
     returns-2
     has-clash-requires

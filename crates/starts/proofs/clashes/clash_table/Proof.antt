@@ -21,12 +21,6 @@ clash-entry-requires c κs = c .before .before .before .pre
 array-write-table : tie.Need-array-write-table Inv-loop μ-loop
 array-write-table c = omega (arith, c .before .before .loop .inv .1 .size)
 
-add-k : tie.Need-add-k Inv-loop μ-loop
-add-k c = omega arith
-
-loop-less : tie.Need-loop-less Inv-loop μ-loop
-loop-less c = omega arith
-
 loop-again : tie.Need-loop-again Inv-loop μ-loop
 loop-again c = (omega arith, entered-more _ _ _ _ (c .before .before .loop .inv .1) (c .before .loop-test .taken) (c .clash-entry .ensures))
 
@@ -42,7 +36,7 @@ clash-table-spec =
     loop-holds
     clash-entry-requires
     array-write-table
-    add-k
-    loop-less
+    (λ c. omega arith)
+    (λ c. omega arith)
     loop-again
     returns)

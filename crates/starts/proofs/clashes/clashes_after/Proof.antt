@@ -28,9 +28,6 @@ is-one false = refl
 shared-slice-read-actions-of : tie.Need-shared-slice-read-actions-of Inv-loop μ-loop
 shared-slice-read-actions-of c = c .before .before .pre .0 .some
 
-actions-of-requires : tie.Need-actions-of-requires Inv-loop μ-loop
-actions-of-requires c κs = search needs
-
 loop-holds : tie.Need-loop-holds Inv-loop μ-loop
 loop-holds c = (omega arith, some-start _)
 
@@ -56,12 +53,6 @@ returns c = let args = c .before .before .before .before .before .before .before
     sym (some-hit (clashesAfter (args .job .now) (args .latest .now) (args .b) (args .u)) _ (c .before .before .before .before .loop .a) a
     (rw (← is-one (clash (args .job .now) (c .before .before .before .before .loop .a) (args .b)), ← pre .1 .entry (c .before .before .before .before .loop .a) (args .b) a (pre .2)) (c .if1 .taken)))
 
-add-a : tie.Need-add-a Inv-loop μ-loop
-add-a c = omega arith
-
-loop-less : tie.Need-loop-less Inv-loop μ-loop
-loop-less c = omega arith
-
 loop-again : tie.Need-loop-again Inv-loop μ-loop
 loop-again c = let args = c .before .before .before .before .before .before .before .before .args in let pre = c .before .before .before .before .before .before .before .before .pre in
     let n = c .before .before .before .before .before .actions-of .ensures .0 in
@@ -81,7 +72,7 @@ clashes-after-spec =
     Inv-loop
     μ-loop
     shared-slice-read-actions-of
-    actions-of-requires
+    (λ c κs. search needs)
     loop-holds
     mul-if1
     element-copy-out-if1
@@ -89,7 +80,7 @@ clashes-after-spec =
     add-if1
     element-copy-out-if1-2
     returns
-    add-a
-    loop-less
+    (λ c. omega arith)
+    (λ c. omega arith)
     loop-again
     returns-2)

@@ -27,18 +27,6 @@ clash-table-requires c κs = (c .before .before .pre .0, c .before .before .pre 
 loop-holds : tie.Need-loop-holds Inv-loop μ-loop
 loop-holds c = (omega arith, first-start _, latest-start _ _)
 
-mul-s : tie.Need-mul-s Inv-loop μ-loop
-mul-s c = omega arith
-
-shared-slice-read-s : tie.Need-shared-slice-read-s Inv-loop μ-loop
-shared-slice-read-s c = omega arith
-
-start-action-requires : tie.Need-start-action-requires Inv-loop μ-loop
-start-action-requires c κs = search needs
-
-start-moment-requires : tie.Need-start-moment-requires Inv-loop μ-loop
-start-moment-requires c κs = search needs
-
 clashes-after-requires : tie.Need-clashes-after-requires Inv-loop μ-loop
 clashes-after-requires c κs = (c .before .before .before .before .before .before .before .before .before .before .pre .0, c .before .before .before .before .before .before .before .clash-table .ensures, rw (c .before .before .before .start-action .ensures .0) (right-word (c .before .before .before .before .before .before .before .before .before .before .pre .3) _ (c .before .before .before .before .before .loop-test .taken) .action))
 
@@ -54,17 +42,8 @@ returns c = let args = c .before .before .before .before .before .before .before
 finish-of-requires : tie.Need-finish-of-requires Inv-loop μ-loop
 finish-of-requires c κs = c .before .before .before .before .before .before .before .before .before .before .before .before .pre .1 .small _
 
-mul-latest : tie.Need-mul-latest Inv-loop μ-loop
-mul-latest c = omega arith
-
 array-write-latest : tie.Need-array-write-latest Inv-loop μ-loop
 array-write-latest c = omega (arith, c .before .before .before .before .before .before .before .before .before .loop .inv .2 .size)
-
-add-i : tie.Need-add-i Inv-loop μ-loop
-add-i c = omega arith
-
-loop-less : tie.Need-loop-less Inv-loop μ-loop
-loop-less c = omega arith
 
 loop-again : tie.Need-loop-again Inv-loop μ-loop
 loop-again c = let args = c .before .before .before .before .before .before .before .before .before .before .before .before .before .args in
@@ -92,16 +71,16 @@ first-clash-spec =
     μ-loop
     clash-table-requires
     loop-holds
-    mul-s
-    shared-slice-read-s
-    start-action-requires
-    start-moment-requires
+    (λ c. omega arith)
+    (λ c. omega arith)
+    (λ c κs. search needs)
+    (λ c κs. search needs)
     clashes-after-requires
     returns
     finish-of-requires
-    mul-latest
+    (λ c. omega arith)
     array-write-latest
-    add-i
-    loop-less
+    (λ c. omega arith)
+    (λ c. omega arith)
     loop-again
     returns-2)

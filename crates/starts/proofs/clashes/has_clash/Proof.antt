@@ -20,9 +20,6 @@ abbrev μ-loop : tie.MeasureT-loop
 shared-slice-read-fluents-of : tie.Need-shared-slice-read-fluents-of Inv-loop μ-loop
 shared-slice-read-fluents-of c = c .before .before .pre .0 .some
 
-fluents-of-requires : tie.Need-fluents-of-requires Inv-loop μ-loop
-fluents-of-requires c κs = search needs
-
 loop-holds : tie.Need-loop-holds Inv-loop μ-loop
 loop-holds c = (omega arith, some-start _)
 
@@ -52,12 +49,6 @@ returns c = let args = c .before .before .before .before .before .before .before
     sym (some-hit (opposed (args .job .now) (args .a) (args .b)) _ (c .before .before .before .before .loop .f) f
     (rw (← pre .1 .entry (args .a) (c .before .before .before .before .loop .f) (pre .2) f, ← pre .1 .entry (args .b) (c .before .before .before .before .loop .f) (pre .3) f) (c .if1 .taken)))
 
-add-f : tie.Need-add-f Inv-loop μ-loop
-add-f c = omega arith
-
-loop-less : tie.Need-loop-less Inv-loop μ-loop
-loop-less c = omega arith
-
 loop-again : tie.Need-loop-again Inv-loop μ-loop
 loop-again c = let args = c .before .before .before .before .before .before .before .before .args in let pre = c .before .before .before .before .before .before .before .before .pre in
     let n = c .before .before .before .before .before .fluents-of .ensures .0 in
@@ -78,7 +69,7 @@ has-clash-spec =
     Inv-loop
     μ-loop
     shared-slice-read-fluents-of
-    fluents-of-requires
+    (λ c κs. search needs)
     loop-holds
     mul-x
     add-x
@@ -87,7 +78,7 @@ has-clash-spec =
     add-y
     element-copy-out-y
     returns
-    add-f
-    loop-less
+    (λ c. omega arith)
+    (λ c. omega arith)
     loop-again
     returns-2)

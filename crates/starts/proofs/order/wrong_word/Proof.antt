@@ -19,27 +19,12 @@ abbrev μ-loop : tie.MeasureT-loop
 loop-holds : tie.Need-loop-holds Inv-loop μ-loop
 loop-holds c = (omega arith, first-start _)
 
-mul-is-start : tie.Need-mul-is-start Inv-loop μ-loop
-mul-is-start c = omega arith
-
-shared-slice-read-is-start : tie.Need-shared-slice-read-is-start Inv-loop μ-loop
-shared-slice-read-is-start c = omega arith
-
 is-start-requires : tie.Need-is-start-requires Inv-loop μ-loop
 is-start-requires c κs = c .before .before .before .before .before .pre .some
-
-is-above-requires : tie.Need-is-above-requires Inv-loop μ-loop
-is-above-requires c κs = omega arith
 
 returns : tie.Need-returns Inv-loop μ-loop
 unfolding wrongWord
 returns c = let args = c .before .before .before .before .before .before .before .before .args in sym (row-found (wrongWord (args .job .now) (args .starts .now)) 6 _ _ (omega arith) (c .before .before .before .before .before .loop .inv .1) (rw (← c .before .before .is-start .ensures, ← c .before .is-above .ensures) (c .if1 .taken)) (omega arith))
-
-add-i : tie.Need-add-i Inv-loop μ-loop
-add-i c = omega arith
-
-loop-less : tie.Need-loop-less Inv-loop μ-loop
-loop-less c = omega arith
 
 loop-again : tie.Need-loop-again Inv-loop μ-loop
 unfolding wrongWord
@@ -55,12 +40,12 @@ wrong-word-spec =
     Inv-loop
     μ-loop
     loop-holds
-    mul-is-start
-    shared-slice-read-is-start
+    (λ c. omega arith)
+    (λ c. omega arith)
     is-start-requires
-    is-above-requires
+    (λ c κs. omega arith)
     returns
-    add-i
-    loop-less
+    (λ c. omega arith)
+    (λ c. omega arith)
     loop-again
     returns-2)

@@ -22,17 +22,8 @@ abbrev μ-loop : tie.MeasureT-loop
 shared-slice-read-last-of : tie.Need-shared-slice-read-last-of Inv-loop μ-loop
 shared-slice-read-last-of c = c .before .before .before .pre .0 .some
 
-last-of-requires : tie.Need-last-of-requires Inv-loop μ-loop
-last-of-requires c κs = search needs
-
 loop-holds : tie.Need-loop-holds Inv-loop μ-loop
 loop-holds c = (omega arith, first-start _)
-
-mul-finish-of : tie.Need-mul-finish-of Inv-loop μ-loop
-mul-finish-of c = omega arith
-
-shared-slice-read-finish-of : tie.Need-shared-slice-read-finish-of Inv-loop μ-loop
-shared-slice-read-finish-of c = omega arith
 
 finish-of-requires : tie.Need-finish-of-requires Inv-loop μ-loop
 finish-of-requires c κs = c .before .before .before .before .before .before .before .pre .1 .small _
@@ -40,12 +31,6 @@ finish-of-requires c κs = c .before .before .before .before .before .before .be
 returns : tie.Need-returns Inv-loop μ-loop
 unfolding endsLate
 returns c = let e = c .before .finish-of .ensures ∙ finish-is (c .before .before .before .before .before .before .before .before .before .pre .1) (c .before .before .before .before .before .before .before .before .before .pre .2) _ (c .before .before .before .loop-test .taken) in let args = c .before .before .before .before .before .before .before .before .before .args in sym (row-found (endsLate (args .job .now) (args .starts .now)) 7 _ _ (omega arith) (c .before .before .before .before .loop .inv .1) (rw (← c .before .before .before .before .before .last-of .ensures .0, ← e) (lt-ltb _ _ (c .if1 .taken))) (omega arith))
-
-add-i : tie.Need-add-i Inv-loop μ-loop
-add-i c = omega arith
-
-loop-less : tie.Need-loop-less Inv-loop μ-loop
-loop-less c = omega arith
 
 loop-again : tie.Need-loop-again Inv-loop μ-loop
 unfolding endsLate
@@ -61,13 +46,13 @@ late-end-spec =
     Inv-loop
     μ-loop
     shared-slice-read-last-of
-    last-of-requires
+    (λ c κs. search needs)
     loop-holds
-    mul-finish-of
-    shared-slice-read-finish-of
+    (λ c. omega arith)
+    (λ c. omega arith)
     finish-of-requires
     returns
-    add-i
-    loop-less
+    (λ c. omega arith)
+    (λ c. omega arith)
     loop-again
     returns-2)

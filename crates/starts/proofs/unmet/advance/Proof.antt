@@ -21,9 +21,6 @@ step-requires c κs = let pre = c .before .before .before .before .before .pre i
 add-t : tie.Need-add-t Inv-loop μ-loop
 add-t c = omega (arith, c .before .before .before .before .before .before .pre .5)
 
-loop-less : tie.Need-loop-less Inv-loop μ-loop
-loop-less c = omega arith
-
 loop-again : tie.Need-loop-again Inv-loop μ-loop
 loop-again c = (omega arith, c .step .ensures)
 
@@ -33,4 +30,4 @@ returns c = let e : c .before .loop .t ≡ c .before .before .before .before .ar
 pub advance-spec : {M : Type 1} → statement M
 advance-spec =
     tie.close
-    (tie.spec Inv-loop μ-loop loop-holds step-requires add-t loop-less loop-again returns)
+    (tie.spec Inv-loop μ-loop loop-holds step-requires add-t (λ c. omega arith) loop-again returns)

@@ -21,38 +21,14 @@ Inv-loop job at state head i₀ i = (i ≤ length job)
 abbrev μ-loop : tie.MeasureT-loop
 μ-loop job at state head i₀ i = length job - i
 
-shared-slice-read-head : tie.Need-shared-slice-read-head Inv-loop μ-loop
-shared-slice-read-head c = search needs
-
-add-i : tie.Need-add-i Inv-loop μ-loop
-add-i c = omega arith
-
 loop-holds : tie.Need-loop-holds Inv-loop μ-loop
 loop-holds c = (omega arith, rw drop-drop)
-
-mul-w : tie.Need-mul-w Inv-loop μ-loop
-mul-w c = omega arith
-
-shared-slice-read-w : tie.Need-shared-slice-read-w Inv-loop μ-loop
-shared-slice-read-w c = omega arith
-
-kind-of-requires : tie.Need-kind-of-requires Inv-loop μ-loop
-kind-of-requires c κs = search needs
 
 returns : tie.Need-returns Inv-loop μ-loop
 returns c = let k = ne-eqb _ 4 (c .if1 .taken) in sym (c .before .before .before .before .loop .inv .1 ∙ any-laws-stop _ _ _ _ (c .before .before .before .loop-test .taken) (rw (c .before .kind-of .ensures .0) at k))
 
-is-unmet-requires : tie.Need-is-unmet-requires Inv-loop μ-loop
-is-unmet-requires c κs = search needs
-
 returns-2 : tie.Need-returns-2 Inv-loop μ-loop
 returns-2 c = let k = eq-eqb _ 4 (c .before .before .if1 .left) in sym (c .before .before .before .before .before .before .loop .inv .1 ∙ any-laws-hit _ _ _ _ (c .before .before .before .before .before .loop-test .taken) (rw (c .before .before .before .kind-of .ensures .0) at k) (sym (c .before .is-unmet .ensures) ∙ c .if2 .taken))
-
-add-i-2 : tie.Need-add-i-2 Inv-loop μ-loop
-add-i-2 c = omega arith
-
-loop-less : tie.Need-loop-less Inv-loop μ-loop
-loop-less c = omega arith
 
 loop-again : tie.Need-loop-again Inv-loop μ-loop
 loop-again c = let k = eq-eqb _ 4 (c .before .before .if1 .left) in (omega arith, c .before .before .before .before .before .before .loop .inv .1 ∙ any-laws-miss _ _ _ _ (c .before .before .before .before .before .loop-test .taken) (rw (c .before .before .before .kind-of .ensures .0) at k) (sym (c .before .is-unmet .ensures) ∙ c .if2 .left))
@@ -66,16 +42,16 @@ has-unmet-spec =
     (tie.spec
     Inv-loop
     μ-loop
-    shared-slice-read-head
-    add-i
+    (λ c. search needs)
+    (λ c. omega arith)
     loop-holds
-    mul-w
-    shared-slice-read-w
-    kind-of-requires
+    (λ c. omega arith)
+    (λ c. omega arith)
+    (λ c κs. search needs)
     returns
-    is-unmet-requires
+    (λ c κs. search needs)
     returns-2
-    add-i-2
-    loop-less
+    (λ c. omega arith)
+    (λ c. omega arith)
     loop-again
     returns-3)

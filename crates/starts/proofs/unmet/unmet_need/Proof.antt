@@ -45,15 +45,6 @@ initial-state-requires c κs = c .before .before .pre .0
 loop-holds : tie.Need-loop-holds Inv-loop μ-loop
 loop-holds c = (omega arith, state-start _ _ (c .initial-state .ensures .0) (c .initial-state .ensures .1), λ l. omega arith, first-start _)
 
-mul-s : tie.Need-mul-s Inv-loop μ-loop
-mul-s c = omega arith
-
-shared-slice-read-s : tie.Need-shared-slice-read-s Inv-loop μ-loop
-shared-slice-read-s c = omega arith
-
-start-moment-requires : tie.Need-start-moment-requires Inv-loop μ-loop
-start-moment-requires c κs = search needs
-
 advance-requires : tie.Need-advance-requires Inv-loop μ-loop
 advance-requires c κs = let pre = c .before .before .before .before .before .before .before .before .pre in
     let moment = c .before .start-moment .ensures in (
@@ -66,15 +57,6 @@ advance-requires c κs = let pre = c .before .before .before .before .before .be
       c .before .before .before .before .loop .inv .1,
     )
 
-start-action-requires : tie.Need-start-action-requires Inv-loop μ-loop
-start-action-requires c κs = search needs
-
-mul-has-unmet : tie.Need-mul-has-unmet Inv-loop μ-loop
-mul-has-unmet c = omega arith
-
-element-copy-out-has-unmet : tie.Need-element-copy-out-has-unmet Inv-loop μ-loop
-element-copy-out-has-unmet c = omega arith
-
 has-unmet-requires : tie.Need-has-unmet-requires Inv-loop μ-loop
 has-unmet-requires c κs = let pre = c .before .before .before .before .before .before .before .before .before .before .before .before .pre in
     let inside = right-word (pre .4) _ (c .before .before .before .before .before .before .before .loop-test .taken) .action in
@@ -83,12 +65,6 @@ has-unmet-requires c κs = let pre = c .before .before .before .before .before .
 returns : tie.Need-returns Inv-loop μ-loop
 returns c = let args = c .before .before .before .before .before .before .before .before .before .before .before .before .before .before .args in
     sym (row-found (needsUnmet (args .job .now) (args .starts .now)) 10 _ _ (omega arith) (c .before .before .before .before .before .before .before .before .before .before .loop .inv .3) (sym (value (c .before)) ∙ c .if1 .taken) (c .before .before .before .before .before .before .before .before .before .loop-test .taken))
-
-add-i : tie.Need-add-i Inv-loop μ-loop
-add-i c = omega arith
-
-loop-less : tie.Need-loop-less Inv-loop μ-loop
-loop-less c = omega arith
 
 loop-again : tie.Need-loop-again Inv-loop μ-loop
 loop-again c = let args = c .before .before .before .before .before .before .before .before .before .before .before .before .before .before .args in
@@ -112,16 +88,16 @@ unmet-need-spec =
     μ-loop
     initial-state-requires
     loop-holds
-    mul-s
-    shared-slice-read-s
-    start-moment-requires
+    (λ c. omega arith)
+    (λ c. omega arith)
+    (λ c κs. search needs)
     advance-requires
-    start-action-requires
-    mul-has-unmet
-    element-copy-out-has-unmet
+    (λ c κs. search needs)
+    (λ c. omega arith)
+    (λ c. omega arith)
     has-unmet-requires
     returns
-    add-i
-    loop-less
+    (λ c. omega arith)
+    (λ c. omega arith)
     loop-again
     returns-2)

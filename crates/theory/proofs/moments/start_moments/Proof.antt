@@ -17,45 +17,6 @@ abbrev μ-loop : tie.MeasureT-loop
 loop-holds : tie.Need-loop-holds Inv-loop μ-loop
 loop-holds c = (omega arith, started-none _)
 
-sub-i : tie.Need-sub-i Inv-loop μ-loop
-sub-i c = search needs
-
-mul-s : tie.Need-mul-s Inv-loop μ-loop
-mul-s c = search needs
-
-shared-slice-read-s : tie.Need-shared-slice-read-s Inv-loop μ-loop
-shared-slice-read-s c = search needs
-
-start-action-requires : tie.Need-start-action-requires Inv-loop μ-loop
-start-action-requires c κs = search needs
-
-start-moment-requires : tie.Need-start-moment-requires Inv-loop μ-loop
-start-moment-requires c κs = search needs
-
-cast-single : tie.Need-cast-single Inv-loop μ-loop
-cast-single c = search needs
-
-single-requires : tie.Need-single-requires Inv-loop μ-loop
-single-requires c κs = search needs
-
-mul-union : tie.Need-mul-union Inv-loop μ-loop
-mul-union c = search needs
-
-array-read-union : tie.Need-array-read-union Inv-loop μ-loop
-array-read-union c = search needs
-
-union-requires : tie.Need-union-requires Inv-loop μ-loop
-union-requires c κs = search needs
-
-mul-moments : tie.Need-mul-moments Inv-loop μ-loop
-mul-moments c = search needs
-
-array-write-moments : tie.Need-array-write-moments Inv-loop μ-loop
-array-write-moments c = search needs
-
-loop-less : tie.Need-loop-less Inv-loop μ-loop
-loop-less c = search needs
-
 loop-again : tie.Need-loop-again Inv-loop μ-loop
 loop-again c =
     let l = c .before .before .before .before .before .loop-test .taken in (
@@ -80,18 +41,18 @@ start-moments-spec =
     Inv-loop
     μ-loop
     loop-holds
-    sub-i
-    mul-s
-    shared-slice-read-s
-    start-action-requires
-    start-moment-requires
-    cast-single
-    single-requires
-    mul-union
-    array-read-union
-    union-requires
-    mul-moments
-    array-write-moments
-    loop-less
+    (λ c. search needs)
+    (λ c. search needs)
+    (λ c. search needs)
+    (λ c κs. search needs)
+    (λ c κs. search needs)
+    (λ c. search needs)
+    (λ c κs. search needs)
+    (λ c. search needs)
+    (λ c. search needs)
+    (λ c κs. search needs)
+    (λ c. search needs)
+    (λ c. search needs)
+    (λ c. search needs)
     loop-again
     returns)

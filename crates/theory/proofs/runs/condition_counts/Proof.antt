@@ -45,12 +45,6 @@ mul-limits c = omega (arith, (c .before .before .before .before .before .before 
 array-write-limits : tie.Need-array-write-limits Inv-loop μ-loop
 array-write-limits c = omega (arith, (c .before .before .before .before .before .before .pre .0 .few-nodes))
 
-add-p : tie.Need-add-p Inv-loop μ-loop
-add-p c = search needs
-
-loop-less : tie.Need-loop-less Inv-loop μ-loop
-loop-less c = search needs
-
 loop-again : tie.Need-loop-again Inv-loop μ-loop
 loop-again c =
     let pre = c .before .before .before .before .before .before .pre in
@@ -81,7 +75,7 @@ condition-counts-spec =
     run-length-requires
     mul-limits
     array-write-limits
-    add-p
-    loop-less
+    (λ c. search needs)
+    (λ c. search needs)
     loop-again
     returns)

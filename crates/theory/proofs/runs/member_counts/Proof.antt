@@ -36,12 +36,6 @@ mul-sizes c = omega (arith, (c .before .before .before .before .before .pre .0 .
 array-write-sizes : tie.Need-array-write-sizes Inv-loop μ-loop
 array-write-sizes c = omega (arith, (c .before .before .before .before .before .pre .0 .few-nodes))
 
-add-p : tie.Need-add-p Inv-loop μ-loop
-add-p c = search needs
-
-loop-less : tie.Need-loop-less Inv-loop μ-loop
-loop-less c = search needs
-
 loop-again : tie.Need-loop-again Inv-loop μ-loop
 loop-again c =
     let pre = c .before .before .before .before .before .pre in
@@ -66,7 +60,7 @@ member-counts-spec =
     run-length-requires
     mul-sizes
     array-write-sizes
-    add-p
-    loop-less
+    (λ c. search needs)
+    (λ c. search needs)
     loop-again
     returns)
