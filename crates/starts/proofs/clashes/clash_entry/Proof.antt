@@ -5,6 +5,10 @@ use native.Mathlib.Omega.{arith}
 use Rattle.starts.proofs.clashes.clash_entry.Statement.{statement}
 use Rattle.starts.proofs.clashes.clash_entry.Tie as tie
 
+-- the places of the code that the proof speaks of
+abbrev entry : tie.Else2 → tie.Start
+entry c = c .before .before .before .before .before
+
 shared-slice-read-actions-of : tie.Need-shared-slice-read-actions-of
 shared-slice-read-actions-of c = c .before .before .pre .0 .some
 
@@ -15,7 +19,9 @@ returns-2 : tie.Need-returns-2
 returns-2 c = λ l m. absurd (omega (arith, c .before .before .actions-of .ensures .0))
 
 has-clash-requires : tie.Need-has-clash-requires
-has-clash-requires c κs = let n = c .before .before .actions-of .ensures .0 in (c .before .before .before .before .before .pre .0, c .before .before .before .before .before .pre .1, omega arith, omega arith)
+has-clash-requires c κs =
+    let start = entry c in
+    let n = c .before .before .actions-of .ensures .0 in (start .pre .0, start .pre .1, omega arith, omega arith)
 
 returns-3 : tie.Need-returns-3
 returns-3 c = λ l m. rw (sym (c .before .has-clash .ensures) ∙ c .if3 .taken)

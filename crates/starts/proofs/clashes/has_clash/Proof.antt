@@ -17,6 +17,19 @@ Inv-loop job effects a b n f₀ f = (f ≤ n) × (someBelow (opposed job a b) f 
 abbrev μ-loop : tie.MeasureT-loop
 μ-loop job effects a b n f₀ f = n - f
 
+-- the places of the code that the proof speaks of
+abbrev entry1 : tie.In-loop Inv-loop μ-loop → tie.Start Inv-loop μ-loop
+entry1 c = c .before .before .before .before .before
+
+abbrev entry2 : tie.After-loop Inv-loop μ-loop → tie.Start Inv-loop μ-loop
+entry2 c = c .before .before .before .before .before
+
+abbrev after-fluents-of : tie.After-y Inv-loop μ-loop → tie.After-fluents-of Inv-loop μ-loop
+after-fluents-of c = c .before .before .before .before
+
+abbrev turn : tie.After-y Inv-loop μ-loop → tie.At-loop Inv-loop μ-loop
+turn c = c .before .before .before
+
 shared-slice-read-fluents-of : tie.Need-shared-slice-read-fluents-of Inv-loop μ-loop
 shared-slice-read-fluents-of c = c .before .before .pre .0 .some
 
@@ -24,43 +37,61 @@ loop-holds : tie.Need-loop-holds Inv-loop μ-loop
 loop-holds c = (omega arith, some-start _)
 
 mul-x : tie.Need-mul-x Inv-loop μ-loop
-mul-x c = omega (arith, c .before .before .before .before .before .pre .0 .few-actions, c .before .before .before .before .before .pre .2)
+mul-x c =
+    let start = entry1 c in
+    omega (arith, start .pre .0 .few-actions, start .pre .2)
 
 add-x : tie.Need-add-x Inv-loop μ-loop
-add-x c = omega (arith, c .before .before .before .before .before .pre .0 .few-actions, c .before .before .before .before .before .pre .0 .few-fluents, c .before .before .before .before .before .pre .2, c .before .before .fluents-of .ensures .0)
+add-x c =
+    let start = entry1 c in
+    omega (arith, start .pre .0 .few-actions, start .pre .0 .few-fluents, start .pre .2, c .before .before .fluents-of .ensures .0)
 
 element-copy-out-x : tie.Need-element-copy-out-x Inv-loop μ-loop
-element-copy-out-x c = omega (arith, c .before .before .before .before .before .pre .0 .few-actions, c .before .before .before .before .before .pre .0 .few-fluents, c .before .before .before .before .before .pre .2, c .before .before .fluents-of .ensures .0)
+element-copy-out-x c =
+    let start = entry1 c in
+    omega (arith, start .pre .0 .few-actions, start .pre .0 .few-fluents, start .pre .2, c .before .before .fluents-of .ensures .0)
 
 mul-y : tie.Need-mul-y Inv-loop μ-loop
-mul-y c = omega (arith, c .before .before .before .before .before .before .pre .0 .few-actions, c .before .before .before .before .before .before .pre .3)
+mul-y c =
+    let start = entry1 (c .before) in
+    omega (arith, start .pre .0 .few-actions, start .pre .3)
 
 add-y : tie.Need-add-y Inv-loop μ-loop
-add-y c = omega (arith, c .before .before .before .before .before .before .pre .0 .few-actions, c .before .before .before .before .before .before .pre .0 .few-fluents, c .before .before .before .before .before .before .pre .3, c .before .before .before .fluents-of .ensures .0)
+add-y c =
+    let start = entry1 (c .before) in
+    omega (arith, start .pre .0 .few-actions, start .pre .0 .few-fluents, start .pre .3, c .before .before .before .fluents-of .ensures .0)
 
 element-copy-out-y : tie.Need-element-copy-out-y Inv-loop μ-loop
-element-copy-out-y c = omega (arith, c .before .before .before .before .before .before .pre .0 .few-actions, c .before .before .before .before .before .before .pre .0 .few-fluents, c .before .before .before .before .before .before .pre .3, c .before .before .before .fluents-of .ensures .0)
+element-copy-out-y c =
+    let start = entry1 (c .before) in
+    omega (arith, start .pre .0 .few-actions, start .pre .0 .few-fluents, start .pre .3, c .before .before .before .fluents-of .ensures .0)
 
 returns : tie.Need-returns Inv-loop μ-loop
 unfolding clash
-returns c = let args = c .before .before .before .before .before .before .before .before .args in let pre = c .before .before .before .before .before .before .before .before .pre in
-    let n = c .before .before .before .before .before .fluents-of .ensures .0 in
-    let f : c .before .before .before .before .loop .f < fluents (args .job .now) = omega arith in
-    sym (some-hit (opposed (args .job .now) (args .a) (args .b)) _ (c .before .before .before .before .loop .f) f
-    (rw (← pre .1 .entry (args .a) (c .before .before .before .before .loop .f) (pre .2) f, ← pre .1 .entry (args .b) (c .before .before .before .before .loop .f) (pre .3) f) (c .if1 .taken)))
+returns c =
+    let start = entry1 (c .before .before .before) in
+    let head = turn (c .before) in
+    let args = start .args in let pre = start .pre in
+    let n = after-fluents-of (c .before) .fluents-of .ensures .0 in
+    let f : head .loop .f < fluents (args .job .now) = omega arith in
+    sym (some-hit (opposed (args .job .now) (args .a) (args .b)) _ (head .loop .f) f
+    (rw (← pre .1 .entry (args .a) (head .loop .f) (pre .2) f, ← pre .1 .entry (args .b) (head .loop .f) (pre .3) f) (c .if1 .taken)))
 
 loop-again : tie.Need-loop-again Inv-loop μ-loop
-loop-again c = let args = c .before .before .before .before .before .before .before .before .args in let pre = c .before .before .before .before .before .before .before .before .pre in
-    let n = c .before .before .before .before .before .fluents-of .ensures .0 in
-    let f : c .before .before .before .before .loop .f < fluents (args .job .now) = omega arith in (
+loop-again c =
+    let start = entry1 (c .before .before .before) in
+    let head = turn (c .before) in
+    let args = start .args in let pre = start .pre in
+    let n = after-fluents-of (c .before) .fluents-of .ensures .0 in
+    let f : head .loop .f < fluents (args .job .now) = omega arith in (
       omega arith,
-      some-more (opposed (args .job .now) (args .a) (args .b)) _ (c .before .before .before .before .loop .inv .1)
-          (rw (← pre .1 .entry (args .a) (c .before .before .before .before .loop .f) (pre .2) f, ← pre .1 .entry (args .b) (c .before .before .before .before .loop .f) (pre .3) f) (c .if1 .left)),
+      some-more (opposed (args .job .now) (args .a) (args .b)) _ (head .loop .inv .1)
+          (rw (← pre .1 .entry (args .a) (head .loop .f) (pre .2) f, ← pre .1 .entry (args .b) (head .loop .f) (pre .3) f) (c .if1 .left)),
     )
 
 returns-2 : tie.Need-returns-2 Inv-loop μ-loop
 unfolding clash
-returns-2 c = let e : c .before .loop .f ≡ fluents (c .before .before .before .before .before .args .job .now) = omega (arith, c .before .before .fluents-of .ensures .0) in rw (← e) (sym (c .before .loop .inv .1))
+returns-2 c = let e : c .before .loop .f ≡ fluents (entry2 c .args .job .now) = omega (arith, c .before .before .fluents-of .ensures .0) in rw (← e) (sym (c .before .loop .inv .1))
 
 pub has-clash-spec : {M : Type 1} → statement M
 has-clash-spec =

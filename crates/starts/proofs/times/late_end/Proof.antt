@@ -19,6 +19,19 @@ Inv-loop job durations starts last i₀ i = (i ≤ length starts) × (firstOf (n
 abbrev μ-loop : tie.MeasureT-loop
 μ-loop job durations starts last i₀ i = length starts - i
 
+-- the places of the code that the proof speaks of
+abbrev entry1 : tie.After-loop Inv-loop μ-loop → tie.Start Inv-loop μ-loop
+entry1 c = c .before .before .before .before .before .before
+
+abbrev entry2 : tie.After-shared-slice-known4 Inv-loop μ-loop → tie.Start Inv-loop μ-loop
+entry2 c = c .before .before .before .before .before .before .before
+
+abbrev after-last-of : tie.After-finish-of Inv-loop μ-loop → tie.After-last-of Inv-loop μ-loop
+after-last-of c = c .before .before .before .before
+
+abbrev turn : tie.After-finish-of Inv-loop μ-loop → tie.At-loop Inv-loop μ-loop
+turn c = c .before .before .before
+
 shared-slice-read-last-of : tie.Need-shared-slice-read-last-of Inv-loop μ-loop
 shared-slice-read-last-of c = c .before .before .before .pre .0 .some
 
@@ -26,18 +39,22 @@ loop-holds : tie.Need-loop-holds Inv-loop μ-loop
 loop-holds c = (omega arith, first-start _)
 
 finish-of-requires : tie.Need-finish-of-requires Inv-loop μ-loop
-finish-of-requires c κs = c .before .before .before .before .before .before .before .pre .1 .small _
+finish-of-requires c κs = entry2 c .pre .1 .small _
 
 returns : tie.Need-returns Inv-loop μ-loop
 unfolding endsLate
-returns c = let e = c .before .finish-of .ensures ∙ finish-is (c .before .before .before .before .before .before .before .before .before .pre .1) (c .before .before .before .before .before .before .before .before .before .pre .2) _ (c .before .before .before .loop-test .taken) in let args = c .before .before .before .before .before .before .before .before .before .args in sym (row-found (endsLate (args .job .now) (args .starts .now)) 7 _ _ (omega arith) (c .before .before .before .before .loop .inv .1) (rw (← c .before .before .before .before .before .last-of .ensures .0, ← e) (lt-ltb _ _ (c .if1 .taken))) (omega arith))
+returns c =
+    let start = entry2 (c .before .before) in
+    let e = c .before .finish-of .ensures ∙ finish-is (start .pre .1) (start .pre .2) _ (c .before .before .before .loop-test .taken) in let args = start .args in sym (row-found (endsLate (args .job .now) (args .starts .now)) 7 _ _ (omega arith) (turn (c .before) .loop .inv .1) (rw (← after-last-of (c .before) .last-of .ensures .0, ← e) (lt-ltb _ _ (c .if1 .taken))) (omega arith))
 
 loop-again : tie.Need-loop-again Inv-loop μ-loop
 unfolding endsLate
-loop-again c = let e = c .before .finish-of .ensures ∙ finish-is (c .before .before .before .before .before .before .before .before .before .pre .1) (c .before .before .before .before .before .before .before .before .before .pre .2) _ (c .before .before .before .loop-test .taken) in let args = c .before .before .before .before .before .before .before .before .before .args in (omega arith, row-more (endsLate (args .job .now) (args .starts .now)) 7 _ (c .before .before .before .before .loop .inv .1) (rw (← c .before .before .before .before .before .last-of .ensures .0, ← e) (le-ltb _ _ (c .if1 .left))))
+loop-again c =
+    let start = entry2 (c .before .before) in
+    let e = c .before .finish-of .ensures ∙ finish-is (start .pre .1) (start .pre .2) _ (c .before .before .before .loop-test .taken) in let args = start .args in (omega arith, row-more (endsLate (args .job .now) (args .starts .now)) 7 _ (turn (c .before) .loop .inv .1) (rw (← after-last-of (c .before) .last-of .ensures .0, ← e) (le-ltb _ _ (c .if1 .left))))
 
 returns-2 : tie.Need-returns-2 Inv-loop μ-loop
-returns-2 c = let e : c .before .loop .i ≡ length (c .before .before .before .before .before .before .args .starts .now) = omega arith in rw (← e) (sym (c .before .loop .inv .1))
+returns-2 c = let e : c .before .loop .i ≡ length (entry1 c .args .starts .now) = omega arith in rw (← e) (sym (c .before .loop .inv .1))
 
 pub late-end-spec : {M : Type 1} → statement M
 late-end-spec =

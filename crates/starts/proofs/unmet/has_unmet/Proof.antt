@@ -21,17 +21,24 @@ Inv-loop job at state head i₀ i = (i ≤ length job)
 abbrev μ-loop : tie.MeasureT-loop
 μ-loop job at state head i₀ i = length job - i
 
+-- the places of the code that the proof speaks of
+abbrev turn : tie.After-kind-of Inv-loop μ-loop → tie.At-loop Inv-loop μ-loop
+turn c = c .before .before .before
+
+abbrev inside : tie.After-is-unmet Inv-loop μ-loop → tie.In-loop Inv-loop μ-loop
+inside c = c .before .before .before .before
+
 loop-holds : tie.Need-loop-holds Inv-loop μ-loop
 loop-holds c = (omega arith, rw drop-drop)
 
 returns : tie.Need-returns Inv-loop μ-loop
-returns c = let k = ne-eqb _ 4 (c .if1 .taken) in sym (c .before .before .before .before .loop .inv .1 ∙ any-laws-stop _ _ _ _ (c .before .before .before .loop-test .taken) (rw (c .before .kind-of .ensures .0) at k))
+returns c = let k = ne-eqb _ 4 (c .if1 .taken) in sym (turn (c .before) .loop .inv .1 ∙ any-laws-stop _ _ _ _ (c .before .before .before .loop-test .taken) (rw (c .before .kind-of .ensures .0) at k))
 
 returns-2 : tie.Need-returns-2 Inv-loop μ-loop
-returns-2 c = let k = eq-eqb _ 4 (c .before .before .if1 .left) in sym (c .before .before .before .before .before .before .loop .inv .1 ∙ any-laws-hit _ _ _ _ (c .before .before .before .before .before .loop-test .taken) (rw (c .before .before .before .kind-of .ensures .0) at k) (sym (c .before .is-unmet .ensures) ∙ c .if2 .taken))
+returns-2 c = let k = eq-eqb _ 4 (c .before .before .if1 .left) in sym (turn (c .before .before .before) .loop .inv .1 ∙ any-laws-hit _ _ _ _ (inside (c .before) .loop-test .taken) (rw (c .before .before .before .kind-of .ensures .0) at k) (sym (c .before .is-unmet .ensures) ∙ c .if2 .taken))
 
 loop-again : tie.Need-loop-again Inv-loop μ-loop
-loop-again c = let k = eq-eqb _ 4 (c .before .before .if1 .left) in (omega arith, c .before .before .before .before .before .before .loop .inv .1 ∙ any-laws-miss _ _ _ _ (c .before .before .before .before .before .loop-test .taken) (rw (c .before .before .before .kind-of .ensures .0) at k) (sym (c .before .is-unmet .ensures) ∙ c .if2 .left))
+loop-again c = let k = eq-eqb _ 4 (c .before .before .if1 .left) in (omega arith, turn (c .before .before .before) .loop .inv .1 ∙ any-laws-miss _ _ _ _ (inside (c .before) .loop-test .taken) (rw (c .before .before .before .kind-of .ensures .0) at k) (sym (c .before .is-unmet .ensures) ∙ c .if2 .left))
 
 returns-3 : tie.Need-returns-3 Inv-loop μ-loop
 returns-3 c = sym (c .before .loop .inv .1 ∙ any-laws-end _ _ _ _ (c .loop-test .left))
