@@ -1,10 +1,9 @@
 -- Refusals whose number and position are bounded fit the fields of an answer. Assumes nothing.
-use mathlib.Core.Bool.{Bool, true, false}
+use mathlib.Core.Bool.{Bool, true, false, cond}
 use mathlib.Core.Path.{_≡_}
 use Prim.Native.Nat.{ℕ, zero, suc, _^_, _≤_, _<_}
 use native.Mathlib.Omega.{arith}
 use lib.Dec.{eqb}
-use Rattle.words.specs.Tests.{pick}
 use Rattle.answers.specs.declared.Refusal.{Refusal}
 use Rattle.answers.specs.declared.Answer.{Answer}
 use Rattle.answers.specs.declared.Answer.the-variants.{Accepted, Refused}
@@ -16,7 +15,7 @@ pub record Fitting (r : Refusal) : Type 0 where
   pub number : r .number ≤ 13
   pub position : r .position ≤ 4096
 
-pub pick-fits : (t : Bool) {a b : Refusal} → Fitting a → Fitting b → Fitting (pick t a b)
+pub pick-fits : (t : Bool) {a b : Refusal} → Fitting a → Fitting b → Fitting (cond t a b)
 pick-fits true h l = h
 pick-fits false h l = l
 
@@ -42,6 +41,6 @@ first-fits f h (suc n) l =
 pub answer-fits : (r : Refusal) (l c : ℕ) → Fitting r → l < 2 ^ 16 → c < 2 ^ 24 → InRange (answerOf r l c)
 answer-fits r l c h m k = cases (eqb (r .number) 0)
   where
-    cases : (t : Bool) → InRange (pick t (Accepted l c) (Refused (r .number) (r .position) 0))
+    cases : (t : Bool) → InRange (cond t (Accepted l c) (Refused (r .number) (r .position) 0))
     cases true = omega (arith, h)
     cases false = omega (arith, h)

@@ -1,5 +1,5 @@
 -- Laws of rows: which of several fits first. Assumes nothing.
-use mathlib.Core.Bool.{Bool, true, false}
+use mathlib.Core.Bool.{Bool, true, false, cond}
 use mathlib.Core.Path.{_≡_, refl, sym, _∙_}
 use Prim.Native.Nat.{ℕ, zero, suc, _+_, _<_}
 use native.Mathlib.Decide.{le-ind, decLt}
@@ -7,14 +7,13 @@ use native.Mathlib.Numerals.{add-one}
 use native.Mathlib.Omega.{arith}
 use lib.Dec.{eqb}
 use borrow.Author.Tests.{ne-eqb, eqb-true, eqb-false}
-use Rattle.words.specs.Tests.{pick}
 use Rattle.answers.specs.Rows.{refusal, passed, row, orElse, refusalAt, firstOf}
 use Rattle.answers.specs.declared.Refusal.{Refusal}
 
 at-number : (i n : ℕ) → refusalAt i n .number ≡ n
 at-number i n = go (eqb n 0) refl
   where
-    go : (t : Bool) → eqb n 0 ≡ t → pick t passed (refusal n i) .number ≡ n
+    go : (t : Bool) → eqb n 0 ≡ t → cond t passed (refusal n i) .number ≡ n
     go true e = sym (eqb-true n 0 e)
     go false e = refl
 
@@ -22,7 +21,7 @@ at-number i n = go (eqb n 0) refl
 pub or-none : (a b : Refusal) → orElse a b .number ≡ 0 → (a .number ≡ 0) × (b .number ≡ 0)
 or-none a b = go (eqb (a .number) 0) refl
   where
-    go : (t : Bool) → eqb (a .number) 0 ≡ t → pick t b a .number ≡ 0 → (a .number ≡ 0) × (b .number ≡ 0)
+    go : (t : Bool) → eqb (a .number) 0 ≡ t → cond t b a .number ≡ 0 → (a .number ≡ 0) × (b .number ≡ 0)
     go true e h = (eqb-true (a .number) 0 e, h)
     go false e h = absurd (eqb-false (a .number) 0 e h)
 

@@ -1,16 +1,16 @@
 -- What the 64-bit number of an answer is.
+use mathlib.Core.Bool.{cond}
 use Prim.Native.Nat.{ℕ, _+_, _*_, _/_, _%_, _^_, _<_}
 use mathlib.Core.Path.{_≡_}
 use lib.Dec.{eqb}
 use native.Mathlib.Omega.{arith}
-use Rattle.words.specs.Tests.{pick}
 use Rattle.answers.specs.declared.Refusal.{Refusal}
 use Rattle.answers.specs.declared.Answer.{Answer}
 use Rattle.answers.specs.declared.Answer.the-variants.{Accepted, Refused}
 
 -- the answer of a call whose rows give r: r, with a count of 0; or, where no row fits, success with a length and a count
 abbrev pub answerOf : Refusal → ℕ → ℕ → Answer
-answerOf r length count = pick (eqb (r .number) 0) (Accepted length count) (Refused (r .number) (r .position) 0)
+answerOf r length count = cond (eqb (r .number) 0) (Accepted length count) (Refused (r .number) (r .position) 0)
 
 -- the four fields of an answer: 0 where its case has none
 abbrev pub numberOf : Answer → ℕ

@@ -1,8 +1,7 @@
 -- Refusals by number and position, and rows of a table one after the other. Number 0 is no refusal.
-use mathlib.Core.Bool.{Bool}
+use mathlib.Core.Bool.{Bool, cond}
 use Prim.Native.Nat.{ℕ, zero, suc}
 use lib.Dec.{eqb}
-use Rattle.words.specs.Tests.{pick}
 use Rattle.answers.specs.declared.Refusal.{Refusal}
 
 abbrev pub refusal : ℕ → ℕ → Refusal
@@ -13,15 +12,15 @@ passed = refusal 0 0
 
 -- a row of the table: its number at a position, if its test fits
 abbrev pub row : Bool → ℕ → ℕ → Refusal
-row fits number position = pick fits (refusal number position) passed
+row fits number position = cond fits (refusal number position) passed
 
 -- the first of two rows that fits
 abbrev pub orElse : Refusal → Refusal → Refusal
-orElse a b = pick (eqb (a .number) 0) b a
+orElse a b = cond (eqb (a .number) 0) b a
 
 -- a number at a position, where it is one
 abbrev pub refusalAt : ℕ → ℕ → Refusal
-refusalAt position number = pick (eqb number 0) passed (refusal number position)
+refusalAt position number = cond (eqb number 0) passed (refusal number position)
 
 -- the number of the first place below n that has one
 unfoldable pub firstOf : (ℕ → ℕ) → ℕ → Refusal

@@ -1,12 +1,11 @@
 -- What was written is the reply, and fits the buffer of bytes. Assumes nothing.
 use Prim.Native.Nat.{ℕ, _-_, _≤_}
-use mathlib.Core.Bool.{true, false}
+use mathlib.Core.Bool.{true, false, _&&_}
 use mathlib.Core.List.{List}
 use mathlib.Core.Path.{_≡_, sym, _∙_}
 use lib.ListN.{length, take, drop, length-replicate}
 use Rattle.io.specs.Counts.{Counts}
 use Rattle.answers.specs.declared.Answer.{Answer}
-use Rattle.words.specs.Tests.{both}
 use Rattle.words.proofs.Choices.{true-false, both-true}
 use Rattle.finder.specs.Find.{Outcome}
 use Rattle.files.specs.Files.{sized, startsOf, wordsOf}
@@ -36,5 +35,5 @@ module _ (job plan : List ℕ) where
   pub reply-good : (text : List ℕ) → goodFiles job plan ≡ true → Answered (wordsOf job) (wordsOf plan) text → Reply job plan text
   reply-good text h so = record { bad = λ e. absurd (true-false (sym h ∙ e)); good = λ _. so }
 
-pub good-most : (n m : ℕ) → both (sized n) (sized m) ≡ true → (n ≤ 32768) × (m ≤ 32768)
+pub good-most : (n m : ℕ) → (sized n && sized m) ≡ true → (n ≤ 32768) × (m ≤ 32768)
 good-most n m h = let two = both-true (sized n) (sized m) h in (sized-most n (two .0), sized-most m (two .1))

@@ -1,11 +1,10 @@
 -- What planread prints for the bytes of its two files.
-use mathlib.Core.Bool.{Bool, true, false}
+use mathlib.Core.Bool.{Bool, true, false, _&&_}
 use mathlib.Core.List.{List, [], _∷_}
 use mathlib.Core.Path.{_≡_}
 use Prim.Native.Nat.{ℕ}
 use lib.ListN.{length, replicate}
 use Rattle.answers.specs.declared.Answer.{Answer}
-use Rattle.words.specs.Tests.{both}
 use Rattle.finder.specs.Find.{Outcome}
 use Rattle.files.specs.Files.{sized, startsOf, givenFacts, wordsOf}
 use Rattle.report.specs.Text.{reportOf}
@@ -15,7 +14,7 @@ abbrev pub badFile : List ℕ
 badFile = 98 ∷ 97 ∷ 100 ∷ 32 ∷ 102 ∷ 105 ∷ 108 ∷ 101 ∷ 10 ∷ []
 
 abbrev pub goodFiles : List ℕ → List ℕ → Bool
-goodFiles job plan = both (sized (length job)) (sized (length plan))
+goodFiles job plan = sized (length job) && sized (length plan)
 
 -- the buffer that find is lent: 4,096 words
 unfoldable pub lent : List ℕ

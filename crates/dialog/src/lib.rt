@@ -1,10 +1,10 @@
 // What planread prints for the bytes of its two files. The program only reads the files and writes this text.
+ghost use mathlib.Core.Bool.{_&&_};
 ghost use mathlib.Core.Path.{_≡_};
 ghost use Prim.Native.Nat.{_≤_, _/_};
 ghost use lib.ListN.{length, take};
 ghost use Rattle.io.specs.Counts.{Counts};
 ghost use Rattle.report.specs.Text.{Text};
-ghost use Rattle.words.specs.Tests.{both};
 ghost use Rattle.files.specs.Files.{sized, wordsOf};
 ghost use Rattle.dialog.specs.Reply.{badFile, lent, Answered, Reply};
 
@@ -31,7 +31,7 @@ pub fn bad_file(out: &mut [u8]) -> usize
 }
 
 fn are_sized(job: usize, plan: usize) -> bool
-    ensures { λ r. ⌜ r ≡ both (sized job) (sized plan) ⌝ }
+    ensures { λ r. ⌜ r ≡ (sized job && sized plan) ⌝ }
 {
     if files::is_sized(job) {
         files::is_sized(plan)

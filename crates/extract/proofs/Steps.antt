@@ -2,7 +2,7 @@
 -- Nothing here is about code. Assumes nothing.
 use Prim.Native.Nat.{ℕ, zero, suc, _+_, _-_, _≤_, _<_}
 use mathlib.Core.Path.{_≡_, refl, sym, ap, ap₂, _∙_}
-use mathlib.Core.Bool.{true, false}
+use mathlib.Core.Bool.{true, false, cond}
 use mathlib.Core.Logic.{by-cases}
 use mathlib.Core.List.{List, [], _∷_, _++_, append-assoc, append-nil}
 use native.Mathlib.Decide.{ℕ-discrete}
@@ -13,7 +13,6 @@ use lib.ListN.{length, getD, length-append}
 use borrow.Author.Tests.{eq-eqb, ne-eqb}
 use Rattle.sets.specs.Ends.{InTable}
 use Rattle.words.specs.Scan.{joined}
-use Rattle.words.specs.Tests.{pick}
 use Rattle.words.specs.Fields.{readingWord}
 use Rattle.words.proofs.Choices.{true-false}
 use Rattle.promise.specs.Trajectory.{Trajectory}
@@ -99,9 +98,9 @@ module _ {P : Procedure} {T : Trajectory} {r : Parts} where
   unfolding joined
   done-more {i} {ws} {us} d x =
       record {
-        lists = λ j. pick (eqb j i) us (d .lists j);
+        lists = λ j. cond (eqb j i) us (d .lists j);
         reads = λ j l. by-cases (ℕ-discrete j i) (λ q. rw (eq-eqb j i q, q) x) (λ q. rw (ne-eqb j i q) (d .reads j (omega arith)));
-        words = rw add-one (ap₂ _++_ (d .words ∙ joined-cong (d .lists) (λ j. pick (eqb j i) us (d .lists j)) i (λ j l. rw (ne-eqb j i (λ q. omega arith)) refl)) (rw (eq-eqb i i refl) refl));
+        words = rw add-one (ap₂ _++_ (d .words ∙ joined-cong (d .lists) (λ j. cond (eqb j i) us (d .lists j)) i (λ j l. rw (ne-eqb j i (λ q. omega arith)) refl)) (rw (eq-eqb i i refl) refl));
       }
 
 -- what the writer of a loop has done when it stands at m: what it wrote goes before any further passes, and the table says that there are such

@@ -1,5 +1,5 @@
 -- The list of facts ascends strictly. Assumes nothing.
-use mathlib.Core.Bool.{Bool, true, false}
+use mathlib.Core.Bool.{Bool, true, false, cond}
 use mathlib.Core.List.{List, [], _∷_, _++_}
 use Prim.Native.Nat.{ℕ, zero, suc, _+_, _*_, _^_, _≤_, _<_}
 use native.Mathlib.Nat.{le-refl, le-trans}
@@ -7,7 +7,6 @@ use native.Mathlib.Omega.{arith}
 use lib.Dec.{eqb}
 use lib.ListN.{length, getD}
 use Rattle.words.specs.Scan.{joined}
-use Rattle.words.specs.Tests.{pick}
 use Rattle.words.specs.Fields.{unknown, holds}
 use Rattle.job.specs.Parts.{headWord, fluents, lastMoment}
 use Rattle.job.specs.WellFormed.{WellFormed}
@@ -55,12 +54,12 @@ least t f = 10 * 2 ^ 28 + t * 2 ^ 7 + f * 2
 fact-climbs : (head t f value : ℕ) → Climbs (least t f) (factOf head t f value) (least t (suc f))
 fact-climbs head t f value = cases (eqb value unknown) (eqb value holds)
   where
-    cases : (b c : Bool) → Climbs (least t f) (pick b [] ((least t f + pick c 0 1) ∷ [])) (least t (suc f))
+    cases : (b c : Bool) → Climbs (least t f) (cond b [] ((least t f + cond c 0 1) ∷ [])) (least t (suc f))
     cases true c = let h : least t f ≤ least t (suc f) = omega arith in done h
     cases false c =
-        let p : pick c 0 1 ≤ 1 = pick-most c 0 1 (omega arith) (omega arith) in
-        let low : least t f ≤ least t f + pick c 0 1 = omega arith in
-        let high : suc (least t f + pick c 0 1) ≤ least t (suc f) = omega arith in
+        let p : cond c 0 1 ≤ 1 = pick-most c 0 1 (omega arith) (omega arith) in
+        let low : least t f ≤ least t f + cond c 0 1 = omega arith in
+        let high : suc (least t f + cond c 0 1) ≤ least t (suc f) = omega arith in
         next low (done high)
 
 module _ {job : List ℕ} (w : WellFormed job) (starts : List ℕ) where

@@ -1,5 +1,5 @@
 -- The lists of facts: moment by moment, how long they are, and how one is written after another. Assumes nothing.
-use mathlib.Core.Bool.{Bool, true, false}
+use mathlib.Core.Bool.{Bool, true, false, cond}
 use mathlib.Core.List.{List, [], _∷_, _++_}
 use mathlib.Core.Path.{_≡_, refl, ap, _∙_}
 use Prim.Native.Nat.{ℕ, zero, suc, _+_, _*_, _≤_, _<_}
@@ -10,7 +10,6 @@ use lib.Dec.{eqb}
 use lib.ListN.{length, getD, set, length-append}
 use lib.Seq.{sets, length-sets}
 use Rattle.words.specs.Scan.{joined}
-use Rattle.words.specs.Tests.{pick}
 use Rattle.words.specs.Fields.{unknown, factWord}
 use Rattle.job.specs.Parts.{headWord, fluents, lastMoment}
 use Rattle.job.specs.WellFormed.{WellFormed}
@@ -59,7 +58,7 @@ gather-most g k (suc n) e = rw length-append (omega (arith, gather-most g k n e,
 fact-most : (head t f value : ℕ) → length (factOf head t f value) ≤ 1
 fact-most head t f value = cases (eqb value unknown)
   where
-    cases : (b : Bool) → length (pick b [] (factWord head t f value ∷ [])) ≤ 1
+    cases : (b : Bool) → length (cond b [] (factWord head t f value ∷ [])) ≤ 1
     cases true = omega arith
     cases false = omega arith
 

@@ -1,5 +1,5 @@
 -- What stores leave in a state or a table: of words taken from the last to the first, the first that passes prevails. Assumes nothing.
-use mathlib.Core.Bool.{Bool, true, false}
+use mathlib.Core.Bool.{Bool, true, false, cond, _&&_, _||_}
 use mathlib.Core.List.{List, [], _∷_}
 use mathlib.Core.Path.{_≡_, refl, sym, _∙_}
 use Prim.Native.Nat.{ℕ, zero, suc, _+_, _-_, _*_, _≤_, _<_}
@@ -9,7 +9,6 @@ use borrow.Author.Tests.{eqb-true, eqb-false}
 use lib.Dec.{eqb}
 use lib.ListN.{length, getD, drop, set, replicate, length-set}
 use lib.Seq.{getD-set-same, getD-set-other}
-use Rattle.words.specs.Tests.{pick, both, either}
 use Rattle.words.specs.Scan.{someWord, firstGives}
 use Rattle.words.proofs.Scan.{drop-next, gives-end}
 use Rattle.facts.specs.Stores.{Overlaid, Mapped, RowStored}
@@ -33,32 +32,32 @@ module _ {n : ℕ} {test : ℕ → ℕ → Bool} {gives : ℕ → ℕ → ℕ} {
 
 -- one word, whose test is on itself and then on the fluent
 module _ (n : ℕ) (says : ℕ → Bool) (further : ℕ → ℕ → Bool) (gives : ℕ → ℕ → ℕ) (w : ℕ) {old : List ℕ} where
-  pub overlaid-hit : {new : List ℕ} → says w ≡ true → length new ≡ length old → ((f : ℕ) → f < n → getD new f 0 ≡ pick (further f w) (gives f w) (getD old f 0))
-      → Overlaid n (λ f v. both (says v) (further f v)) gives old (w ∷ []) new
+  pub overlaid-hit : {new : List ℕ} → says w ≡ true → length new ≡ length old → ((f : ℕ) → f < n → getD new f 0 ≡ cond (further f w) (gives f w) (getD old f 0))
+      → Overlaid n (λ f v. says v && further f v) gives old (w ∷ []) new
   unfolding firstGives
   overlaid-hit e s h = record { size = s; value = λ f l. rw e (h f l) }
 
-  pub overlaid-skip : says w ≡ false → Overlaid n (λ f v. both (says v) (further f v)) gives old (w ∷ []) old
+  pub overlaid-skip : says w ≡ false → Overlaid n (λ f v. says v && further f v) gives old (w ∷ []) old
   unfolding firstGives
   overlaid-skip e = record { size = refl; value = λ f l. rw e }
 
 -- a word that gives a value to the one fluent that it names
 pub overlaid-store : (n : ℕ) (says : ℕ → Bool) (fluent gives : ℕ → ℕ) (w : ℕ) (old : List ℕ) → says w ≡ true → fluent w < length old
-    → Overlaid n (λ f v. both (says v) (eqb (fluent v) f)) (λ f. gives) old (w ∷ []) (set old (fluent w) (gives w))
+    → Overlaid n (λ f v. says v && eqb (fluent v) f) (λ f. gives) old (w ∷ []) (set old (fluent w) (gives w))
 overlaid-store n says fluent gives w old e r =
     overlaid-hit n says (λ f v. eqb (fluent v) f) (λ f. gives) w e (length-set old (fluent w) (gives w)) (λ f l. value f (eqb (fluent w) f) refl)
   where
-    value : (f : ℕ) (b : Bool) → eqb (fluent w) f ≡ b → getD (set old (fluent w) (gives w)) f 0 ≡ pick b (gives w) (getD old f 0)
+    value : (f : ℕ) (b : Bool) → eqb (fluent w) f ≡ b → getD (set old (fluent w) (gives w)) f 0 ≡ cond b (gives w) (getD old f 0)
     value f true q = rw (← eqb-true (fluent w) f q) (getD-set-same old (fluent w) (gives w) 0 r)
     value f false q = getD-set-other old (fluent w) f (gives w) 0 (λ z. eqb-false (fluent w) f q (sym z))
 
 -- 'some word passes' as a value
-pub any-gives : (test : ℕ → Bool) (v other : ℕ) (ws : List ℕ) → firstGives test (λ w. v) other ws ≡ pick (someWord test ws) v other
+pub any-gives : (test : ℕ → Bool) (v other : ℕ) (ws : List ℕ) → firstGives test (λ w. v) other ws ≡ cond (someWord test ws) v other
 unfolding firstGives someWord
 any-gives test v other [] = refl
 any-gives test v other (w ∷ ws) = cases (test w) (any-gives test v other ws)
   where
-    cases : (b : Bool) → firstGives test (λ w. v) other ws ≡ pick (someWord test ws) v other → pick b v (firstGives test (λ w. v) other ws) ≡ pick (either b (someWord test ws)) v other
+    cases : (b : Bool) → firstGives test (λ w. v) other ws ≡ cond (someWord test ws) v other → cond b v (firstGives test (λ w. v) other ws) ≡ cond (b || someWord test ws) v other
     cases true e = refl
     cases false e = e
 

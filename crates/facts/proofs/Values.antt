@@ -1,17 +1,16 @@
 -- The values of fluents, and those that actions make, are at most 2. Assumes nothing.
-use mathlib.Core.Bool.{Bool, true, false}
+use mathlib.Core.Bool.{Bool, true, false, cond}
 use mathlib.Core.List.{List, [], _∷_}
 use Prim.Native.Nat.{ℕ, zero, suc, _≤_}
 use native.Mathlib.Omega.{arith}
 use lib.Dec.{eqb}
-use Rattle.words.specs.Tests.{pick}
 use Rattle.words.specs.Fields.{field, unknown, holds, fails, roleOf, knownValue}
 use Rattle.words.specs.Scan.{someWord, firstGives}
 use Rattle.job.specs.Parts.{headWord}
 use Rattle.facts.specs.Actions.{effect, makesFluent, lawValue}
 use Rattle.facts.specs.Values.{lists, initially, hidesFluent, givesFluent, givenValue, nextValue, valueAt}
 
-pub pick-most : (t : Bool) (a b : ℕ) {m : ℕ} → a ≤ m → b ≤ m → pick t a b ≤ m
+pub pick-most : (t : Bool) (a b : ℕ) {m : ℕ} → a ≤ m → b ≤ m → cond t a b ≤ m
 pick-most true a b h l = h
 pick-most false a b h l = l
 

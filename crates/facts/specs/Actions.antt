@@ -1,16 +1,15 @@
 -- What an action makes of a fluent, and what a start of it does at a moment.
-use mathlib.Core.Bool.{Bool, not}
+use mathlib.Core.Bool.{Bool, not, _&&_}
 use mathlib.Core.List.{List}
 use Prim.Native.Nat.{ℕ, _+_}
 use lib.Dec.{eqb, leb, ltb}
-use Rattle.words.specs.Tests.{both}
 use Rattle.words.specs.Fields.{unknown, fluentOf, roleOf, makes, madeValue, startMoment, startAction}
 use Rattle.words.specs.Scan.{firstGives}
 use Rattle.job.specs.Parts.{headWord, duration, lawsOf}
 
 -- a law makes fluent f true or false, and which
 abbrev pub makesFluent : ℕ → ℕ → ℕ → Bool
-makesFluent head f w = both (makes (roleOf head w)) (eqb (fluentOf head w) f)
+makesFluent head f w = makes (roleOf head w) && eqb (fluentOf head w) f
 
 abbrev pub lawValue : ℕ → ℕ → ℕ
 lawValue head w = madeValue (roleOf head w)
@@ -26,10 +25,10 @@ finish job s = startMoment s + duration job (startAction s)
 -- a start is in hand (in execution) at u ≤ t < u + d, hides (the fluents that it affects are unknown) at u < t < u + d, finishes (its
 -- effects take place) at u + d
 abbrev pub inHand : List ℕ → ℕ → ℕ → Bool
-inHand job t s = both (leb (startMoment s) t) (ltb t (finish job s))
+inHand job t s = leb (startMoment s) t && ltb t (finish job s)
 
 abbrev pub hides : List ℕ → ℕ → ℕ → Bool
-hides job t s = both (ltb (startMoment s) t) (ltb t (finish job s))
+hides job t s = ltb (startMoment s) t && ltb t (finish job s)
 
 abbrev pub finishes : List ℕ → ℕ → ℕ → Bool
 finishes job t s = eqb (finish job s) t

@@ -1,8 +1,8 @@
 -- The list of known facts, by moment and then by fluent, so that the words ascend.
+use mathlib.Core.Bool.{cond}
 use mathlib.Core.List.{List, [], _∷_}
 use Prim.Native.Nat.{ℕ, _+_}
 use lib.Dec.{eqb}
-use Rattle.words.specs.Tests.{pick}
 use Rattle.words.specs.Fields.{unknown, factWord}
 use Rattle.words.specs.Scan.{joined}
 use Rattle.job.specs.Parts.{headWord, fluents, lastMoment}
@@ -10,7 +10,7 @@ use Rattle.facts.specs.Values.{valueAt}
 
 -- the fact word of a value, where it is not open
 abbrev pub factOf : ℕ → ℕ → ℕ → ℕ → List ℕ
-factOf head t f value = pick (eqb value unknown) [] (factWord head t f value ∷ [])
+factOf head t f value = cond (eqb value unknown) [] (factWord head t f value ∷ [])
 
 -- the facts at moment t
 unfoldable pub factsAt : List ℕ → List ℕ → ℕ → List ℕ

@@ -1,11 +1,10 @@
 -- What stores into a state or a table leave in it.
-use mathlib.Core.Bool.{Bool, not}
+use mathlib.Core.Bool.{Bool, not, cond}
 use mathlib.Core.List.{List}
 use mathlib.Core.Path.{_≡_}
 use Prim.Native.Nat.{ℕ, _+_, _*_, _<_, _≤_}
 use lib.Dec.{eqb}
 use lib.ListN.{length, getD}
-use Rattle.words.specs.Tests.{pick}
 use Rattle.words.specs.Fields.{unknown}
 use Rattle.words.specs.Scan.{firstGives}
 
@@ -23,10 +22,10 @@ pub record Mapped (n : ℕ) (make : ℕ → ℕ → ℕ) (old new : List ℕ) : 
 
 -- by a table of effects: what a fluent becomes when action a finishes, and while it hides
 abbrev pub givenBy : List ℕ → ℕ → ℕ → ℕ → ℕ
-givenBy effects a f old = pick (not (eqb (getD effects (a * 64 + f) 0) unknown)) (getD effects (a * 64 + f) 0) old
+givenBy effects a f old = cond (not (eqb (getD effects (a * 64 + f) 0) unknown)) (getD effects (a * 64 + f) 0) old
 
 abbrev pub hiddenBy : List ℕ → ℕ → ℕ → ℕ → ℕ
-hiddenBy effects a f old = pick (not (eqb (getD effects (a * 64 + f) 0) unknown)) unknown old
+hiddenBy effects a f old = cond (not (eqb (getD effects (a * 64 + f) 0) unknown)) unknown old
 
 -- a table of rows of 64: the first n entries of row a are those of `row`, and those of the rows before it are as they were
 pub record RowStored (row : List ℕ) (a n : ℕ) (old new : List ℕ) : Type 0 where

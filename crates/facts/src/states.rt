@@ -1,11 +1,10 @@
 // The state (the values of the fluents) at moment 0, and from each moment to the next.
 ghost use mathlib.Core.Path.{_≡_};
-ghost use mathlib.Core.Bool.{not};
+ghost use mathlib.Core.Bool.{not, cond};
 ghost use mathlib.Core.List.{_∷_, []};
 ghost use Prim.Native.Nat.{ℕ, _+_, _*_, _<_, _≤_};
 ghost use lib.Dec.{eqb};
 ghost use lib.ListN.{length, getD, replicate};
-ghost use Rattle.words.specs.Tests.{pick};
 ghost use Rattle.words.specs.Fields.{unknown, knownValue, startAction};
 ghost use Rattle.job.specs.Parts.{headWord, fluents, actions};
 ghost use Rattle.job.specs.WellFormed.{WellFormed};
@@ -46,14 +45,14 @@ pub fn initial_state(job: &[u32]) -> [u8; 64]
 
 // The value of a fluent that had `old`, after an action that makes `value` of it finishes.
 fn given(value: u8, old: u8) -> u8
-    ensures { λ r. ⌜ r ≡ pick (not (eqb value unknown)) value old ⌝ }
+    ensures { λ r. ⌜ r ≡ cond (not (eqb value unknown)) value old ⌝ }
 {
     if value != 1 { value } else { old }
 }
 
 // The same while that action hides it.
 fn hidden(value: u8, old: u8) -> u8
-    ensures { λ r. ⌜ r ≡ pick (not (eqb value unknown)) unknown old ⌝ }
+    ensures { λ r. ⌜ r ≡ cond (not (eqb value unknown)) unknown old ⌝ }
 {
     if value != 1 { 1 } else { old }
 }

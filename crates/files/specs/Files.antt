@@ -1,17 +1,16 @@
 -- Files of words: which sizes are good, the words of their bytes, and the starts and facts of a plan.
 use Prim.Native.Nat.{ℕ, _+_, _*_, _%_, _≤_}
 use mathlib.Core.Path.{_≡_}
-use mathlib.Core.Bool.{Bool}
+use mathlib.Core.Bool.{Bool, _&&_}
 use mathlib.Core.List.{List, [], _∷_}
 use lib.Dec.{eqb, leb}
 use lib.ListN.{length, getD, take, drop}
-use Rattle.words.specs.Tests.{both}
 use Rattle.words.specs.Fields.{ofKind}
 use Rattle.words.specs.Scan.{leading, beyond}
 
 -- at most 32 KiB, and whole words
 abbrev pub sized : ℕ → Bool
-sized n = both (leb n 32768) (eqb (n % 4) 0)
+sized n = leb n 32768 && eqb (n % 4) 0
 
 abbrev pub isStart : ℕ → Bool
 isStart = ofKind 9

@@ -1,5 +1,5 @@
 -- Which row an answer of check comes from, and with it the row that find gives. Assumes nothing.
-use mathlib.Core.Bool.{Bool, true, false}
+use mathlib.Core.Bool.{Bool, true, false, cond}
 use mathlib.Core.List.{List}
 use mathlib.Core.Path.{_≡_, refl, sym, _∙_}
 use Prim.Native.Nat.{ℕ, _≤_, _<_}
@@ -7,7 +7,6 @@ use native.Mathlib.Omega.{arith}
 use borrow.Author.Tests.{eqb-true, eqb-false, lt-ltb, le-ltb}
 use lib.Dec.{eqb}
 use lib.ListN.{length}
-use Rattle.words.specs.Tests.{pick}
 use Rattle.answers.specs.declared.Refusal.{Refusal}
 use Rattle.answers.specs.declared.Answer.{Answer}
 use Rattle.answers.specs.declared.Answer.the-variants.{Accepted, Refused}
@@ -22,15 +21,15 @@ use Rattle.finder.specs.Find.{findRefusal, Sought, Outcome, refused, sou
 row-of-refused : (r : Refusal) {n p k : ℕ} → answerOf r 0 0 ≡ Refused n p k → (r .number ≡ 0 → ⊥) × (answerOf r 0 0 ≡ Refused (r .number) (r .position) 0)
 row-of-refused r = cases (eqb (r .number) 0) refl
   where
-    cases : (t : Bool) → eqb (r .number) 0 ≡ t → {n p k : ℕ} → pick t (Accepted 0 0) (Refused (r .number) (r .position) 0) ≡ Refused n p k
-        → (r .number ≡ 0 → ⊥) × (pick t (Accepted 0 0) (Refused (r .number) (r .position) 0) ≡ Refused (r .number) (r .position) 0)
+    cases : (t : Bool) → eqb (r .number) 0 ≡ t → {n p k : ℕ} → cond t (Accepted 0 0) (Refused (r .number) (r .position) 0) ≡ Refused n p k
+        → (r .number ≡ 0 → ⊥) × (cond t (Accepted 0 0) (Refused (r .number) (r .position) 0) ≡ Refused (r .number) (r .position) 0)
     cases true e h = absurd (let z : _≡_ {A = ℕ} 0 1 = cc in omega arith)
     cases false e h = (eqb-false (r .number) 0 e, refl)
 
 row-of-accepted : (r : Refusal) {l k : ℕ} → answerOf r 0 0 ≡ Accepted l k → r .number ≡ 0
 row-of-accepted r = cases (eqb (r .number) 0) refl
   where
-    cases : (t : Bool) → eqb (r .number) 0 ≡ t → {l k : ℕ} → pick t (Accepted 0 0) (Refused (r .number) (r .position) 0) ≡ Accepted l k → r .number ≡ 0
+    cases : (t : Bool) → eqb (r .number) 0 ≡ t → {l k : ℕ} → cond t (Accepted 0 0) (Refused (r .number) (r .position) 0) ≡ Accepted l k → r .number ≡ 0
     cases true e h = eqb-true (r .number) 0 e
     cases false e h = absurd (let z : _≡_ {A = ℕ} 0 1 = cc in omega arith)
 

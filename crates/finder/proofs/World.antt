@@ -1,6 +1,6 @@
 -- The arrays that carry a well-formed job and a plan: the reader may run on them, they agree with the job's procedure and the plan's
 -- trajectory wherever a reading looks, and they name each node but the root once. Assumes nothing.
-use mathlib.Core.Bool.{Bool, true, false}
+use mathlib.Core.Bool.{Bool, true, false, _||_}
 use mathlib.Core.List.{List, [], _∷_, map}
 use mathlib.Core.Logic.{inl, inr, by-cases}
 use mathlib.Core.Path.{_≡_, refl, ap, sym, _∙_}
@@ -12,7 +12,6 @@ use borrow.Author.Tests.{ne-eqb}
 use lib.Dec.{eqb}
 use lib.ListN.{length, getD, take, drop, length-map, length-drop, List·getD-map}
 use lib.Seq.{getD-drop}
-use Rattle.words.specs.Tests.{either}
 use Rattle.words.specs.Fields.{ofKind, kind, form, nodeX, nodeY, nodeM, isSet, memberNode}
 use Rattle.words.specs.Scan.{times}
 use Rattle.words.proofs.Scan.{leading-take}
@@ -159,7 +158,7 @@ module _ (job starts : List ℕ) (w : World) (formed : WellFormed job) (c : Carr
     unfolding memberWords last
     no-members v other =
         let at = getD (w .places) p 0 in
-        let none : either (isSet (getD job at 0)) (eqb (kind (getD job at 0)) 7) ≡ false = rw (node-kind, ne-eqb (form (P .node p)) 8 other) in
+        let none : (isSet (getD job at 0) || eqb (kind (getD job at 0)) 7) ≡ false = rw (node-kind, ne-eqb (form (P .node p)) 8 other) in
         rw (words-after (c .places) p h)
         (leads-none v (drop (at + 1) job)
         (λ l z. true-false (sym (rw (before-more job at) at (follows job ok (at + 1) (omega (arith, length-drop (at + 1) job)) (rw (getD-drop, add-zero) at z))) ∙ none)))

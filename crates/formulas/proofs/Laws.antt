@@ -1,5 +1,5 @@
 -- Laws of the values of formulas: they are three, and a formula's value follows from those of lower ones. Assumes nothing.
-use mathlib.Core.Bool.{Bool, true, false}
+use mathlib.Core.Bool.{Bool, true, false, cond}
 use mathlib.Core.List.{List}
 use mathlib.Core.Path.{_≡_, refl, sym, _∙_}
 use Prim.Native.Nat.{ℕ, zero, suc, _+_, _-_, _*_, _≤_, _<_}
@@ -7,7 +7,6 @@ use native.Mathlib.Omega.{arith}
 use borrow.Author.Tests.{eqb-true, eqb-false, eq-eqb}
 use lib.Dec.{eqb}
 use lib.ListN.{getD}
-use Rattle.words.specs.Tests.{pick}
 use Rattle.words.specs.Fields.{form, holds, formulaX, formulaY, atomFluent}
 use Rattle.job.specs.Parts.{headWord, formulaWord, formulaCount}
 use Rattle.job.specs.WellFormed.{WellFormed}
@@ -36,10 +35,10 @@ module _ (conj disj : List ℕ) (head w : ℕ) where
     where
       value : (ℕ → ℕ → ℕ) → (ℕ → ℕ → ℕ) → Bool → Bool → Bool → Bool → ℕ
       value fluent lower b₀ b₁ b₂ b₃ =
-          pick b₀ holds
-          (pick b₁ (fluent t (atomFluent head w))
-          (pick b₂ (holds - lower (formulaX w) t)
-          (pick b₃ (byTable conj (lower (formulaX w) t) (lower (formulaY w) t)) (byTable disj (lower (formulaX w) t) (lower (formulaY w) t)))))
+          cond b₀ holds
+          (cond b₁ (fluent t (atomFluent head w))
+          (cond b₂ (holds - lower (formulaX w) t)
+          (cond b₃ (byTable conj (lower (formulaX w) t) (lower (formulaY w) t)) (byTable disj (lower (formulaX w) t) (lower (formulaY w) t)))))
 
       cases : (b₀ : Bool) → eqb (form w) 0 ≡ b₀ → (b₁ : Bool) → eqb (form w) 1 ≡ b₁ → (b₂ : Bool) → eqb (form w) 2 ≡ b₂ → (b₃ : Bool) → eqb (form w) 3 ≡ b₃
           → value fluent lower b₀ b₁ b₂ b₃ ≡ value fluent' lower' b₀ b₁ b₂ b₃
@@ -64,7 +63,7 @@ module _ (conj disj job : List ℕ) (fluent : ℕ → ℕ → ℕ) where
   below-is (suc k) x t l = cases (eqb x k) refl (below-is k x t)
     where
       cases : (b : Bool) → eqb x k ≡ b → (x < k → formulaBelow conj disj job fluent k x t ≡ formulaAt conj disj job fluent x t)
-          → pick b (formValue conj disj (headWord job) (formulaWord job k) fluent (formulaBelow conj disj job fluent k) t) (formulaBelow conj disj job fluent k x t)
+          → cond b (formValue conj disj (headWord job) (formulaWord job k) fluent (formulaBelow conj disj job fluent k) t) (formulaBelow conj disj job fluent k x t)
           ≡ formulaAt conj disj job fluent x t
       cases true e ih = let same = eqb-true x k e in rw same (sym (formula-rule k t))
       cases false e ih = ih (omega (arith, eqb-false x k e))

@@ -1,6 +1,6 @@
 -- The table of 'and' is the lesser, that of 'or' the greater, and their entries are at most 2: each by a test that is computed over the table.
 -- Assumes nothing.
-use mathlib.Core.Bool.{Bool, true}
+use mathlib.Core.Bool.{Bool, true, _&&_}
 use mathlib.Core.List.{List}
 use mathlib.Core.Path.{_≡_, refl}
 use Prim.Native.Nat.{ℕ, zero, suc, _+_, _*_, _/_, _%_, _≤_, _<_, min, max}
@@ -9,7 +9,6 @@ use native.Mathlib.Omega.{arith}
 use borrow.Author.Tests.{eqb-true, leb-true}
 use lib.Dec.{eqb, leb}
 use lib.ListN.{length, getD, List·getD-eq-default}
-use Rattle.words.specs.Tests.{both}
 use Rattle.words.proofs.Choices.{both-true}
 use Rattle.formulas.specs.Values.{andTable, orTable, byTable}
 use Rattle.formulas.specs.Table.{Small}
@@ -17,7 +16,7 @@ use Rattle.formulas.specs.Table.{Small}
 -- every number below n passes
 abbrev allBelow : (ℕ → Bool) → ℕ → Bool
 allBelow test zero = true
-allBelow test (suc n) = both (test n) (allBelow test n)
+allBelow test (suc n) = test n && allBelow test n
 
 all-at : (test : ℕ → Bool) (n : ℕ) → allBelow test n ≡ true → (i : ℕ) → i < n → test i ≡ true
 all-at test zero e i l = absurd (omega arith)

@@ -1,9 +1,9 @@
 -- The value of formula k at moment t, over the whole history of states. 'And' and 'or' come in as two tables of three by three.
+use mathlib.Core.Bool.{cond}
 use mathlib.Core.List.{List, [], _∷_}
 use Prim.Native.Nat.{ℕ, zero, suc, _+_, _-_, _*_}
 use lib.Dec.{eqb}
 use lib.ListN.{getD}
-use Rattle.words.specs.Tests.{pick}
 use Rattle.words.specs.Fields.{form, unknown, holds, formulaX, formulaY, atomFluent}
 use Rattle.job.specs.Parts.{headWord, formulaWord}
 
@@ -21,17 +21,17 @@ byTable table a b = getD table (a * 3 + b) 0
 -- are always, a fluent, not, and, or; a job that passes has no other.
 unfoldable pub formValue : List ℕ → List ℕ → ℕ → ℕ → (ℕ → ℕ → ℕ) → (ℕ → ℕ → ℕ) → ℕ → ℕ
 formValue conj disj head w fluent lower t =
-    pick (eqb (form w) 0) holds
-    (pick (eqb (form w) 1) (fluent t (atomFluent head w))
-    (pick (eqb (form w) 2) (holds - lower (formulaX w) t)
-    (pick (eqb (form w) 3) (byTable conj (lower (formulaX w) t) (lower (formulaY w) t))
+    cond (eqb (form w) 0) holds
+    (cond (eqb (form w) 1) (fluent t (atomFluent head w))
+    (cond (eqb (form w) 2) (holds - lower (formulaX w) t)
+    (cond (eqb (form w) 3) (byTable conj (lower (formulaX w) t) (lower (formulaY w) t))
     (byTable disj (lower (formulaX w) t) (lower (formulaY w) t)))))
 
 -- the values of the formulas below k, by the history of states: `fluent t f` is the value of fluent f at moment t
 unfoldable pub formulaBelow : List ℕ → List ℕ → List ℕ → (ℕ → ℕ → ℕ) → ℕ → ℕ → ℕ → ℕ
 formulaBelow conj disj job fluent zero x t = unknown
 formulaBelow conj disj job fluent (suc k) x t =
-    pick (eqb x k) (formValue conj disj (headWord job) (formulaWord job k) fluent (formulaBelow conj disj job fluent k) t)
+    cond (eqb x k) (formValue conj disj (headWord job) (formulaWord job k) fluent (formulaBelow conj disj job fluent k) t)
     (formulaBelow conj disj job fluent k x t)
 
 unfoldable pub formulaAt : List ℕ → List ℕ → List ℕ → (ℕ → ℕ → ℕ) → ℕ → ℕ → ℕ

@@ -1,5 +1,5 @@
 -- Laws of the facts of the words before: one word more, one less, and bounds. Assumes nothing.
-use mathlib.Core.Bool.{Bool, true, false}
+use mathlib.Core.Bool.{Bool, true, false, cond, _||_}
 use mathlib.Core.List.{List, [], _∷_}
 use mathlib.Core.Path.{_≡_, refl, ap}
 use Prim.Native.Nat.{ℕ, zero, suc, _+_, _-_, _≤_, _<_}
@@ -9,7 +9,7 @@ use native.Mathlib.Omega.{arith}
 use borrow.Author.Tests.{ne-eqb}
 use lib.Dec.{eqb}
 use lib.ListN.{length, getD}
-use Rattle.words.specs.Tests.{pick, either, one}
+use Rattle.words.specs.Tests.{one}
 use Rattle.words.specs.Fields.{kind}
 use Rattle.job.specs.Rules.{names}
 use Rattle.words.specs.Scan.{someWord}
@@ -47,7 +47,7 @@ unfolding since
 since-le k [] = omega arith
 since-le k (w ∷ p) = cases (eqb (kind w) k) (since-le k p)
   where
-    cases : (t : Bool) → length (since k p) ≤ length p → length (pick t [] (w ∷ since k p)) ≤ suc (length p)
+    cases : (t : Bool) → length (since k p) ≤ length p → length (cond t [] (w ∷ since k p)) ≤ suc (length p)
     cases true h = omega arith
     cases false h = omega arith
 
@@ -72,7 +72,7 @@ module _ (job : List ℕ) (i : ℕ) where
   unfolding countOfKind
   count-more k = rw (before-more job i)
 
-  pub latest-more : (k : ℕ) → latest k (before job (i + 1)) ≡ pick (eqb (kind (getD job i 0)) k) (getD job i 0) (latest k (before job i))
+  pub latest-more : (k : ℕ) → latest k (before job (i + 1)) ≡ cond (eqb (kind (getD job i 0)) k) (getD job i 0) (latest k (before job i))
   unfolding latest
   latest-more k = rw (before-more job i)
 
@@ -81,23 +81,23 @@ module _ (job : List ℕ) (i : ℕ) where
   named-more v = rw (before-more job i)
 
   pub count-since-more : (k m : ℕ) → countOfKind k (since m (before job (i + 1)))
-      ≡ pick (eqb (kind (getD job i 0)) m) 0 (countOfKind k (since m (before job i)) + one (eqb (kind (getD job i 0)) k))
+      ≡ cond (eqb (kind (getD job i 0)) m) 0 (countOfKind k (since m (before job i)) + one (eqb (kind (getD job i 0)) k))
   unfolding since countOfKind
   count-since-more k m = rw (before-more job i) (cases (eqb (kind (getD job i 0)) m))
     where
-      cases : (t : Bool) → countOfKind k (pick t [] (getD job i 0 ∷ since m (before job i)))
-          ≡ pick t 0 (countOfKind k (since m (before job i)) + one (eqb (kind (getD job i 0)) k))
+      cases : (t : Bool) → countOfKind k (cond t [] (getD job i 0 ∷ since m (before job i)))
+          ≡ cond t 0 (countOfKind k (since m (before job i)) + one (eqb (kind (getD job i 0)) k))
       cases true = refl
       cases false = refl
 
 -- one word less: what is listed since a word of kind k
 pub since-any : (t : ℕ → Bool) (k : ℕ) (job : List ℕ) (j : ℕ) → 0 < j → someWord t (since k (before job j))
-    ≡ pick (eqb (kind (getD job (j - 1) 0)) k) false (either (t (getD job (j - 1) 0)) (someWord t (since k (before job (j - 1)))))
+    ≡ cond (eqb (kind (getD job (j - 1) 0)) k) false (t (getD job (j - 1) 0) || someWord t (since k (before job (j - 1))))
 unfolding since someWord
 since-any t k job j h = rw (before-less job j h) (cases (eqb (kind (getD job (j - 1) 0)) k))
   where
-    cases : (b : Bool) → someWord t (pick b [] (getD job (j - 1) 0 ∷ since k (before job (j - 1))))
-        ≡ pick b false (either (t (getD job (j - 1) 0)) (someWord t (since k (before job (j - 1)))))
+    cases : (b : Bool) → someWord t (cond b [] (getD job (j - 1) 0 ∷ since k (before job (j - 1))))
+        ≡ cond b false (t (getD job (j - 1) 0) || someWord t (since k (before job (j - 1))))
     cases true = refl
     cases false = refl
 

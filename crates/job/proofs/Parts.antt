@@ -1,5 +1,5 @@
 -- The parts of a job that is not refused: its head, actions, formulas and nodes. Assumes nothing.
-use mathlib.Core.Bool.{Bool, true, false, not}
+use mathlib.Core.Bool.{Bool, true, false, not, cond, _&&_, _||_}
 use mathlib.Core.List.{List, [], _∷_}
 use mathlib.Core.Logic.{_⊎_, inl, inr, by-cases}
 use mathlib.Core.Path.{_≡_, refl, ap, sym, _∙_}
@@ -11,7 +11,7 @@ use borrow.Author.Tests.{not-false, eqb-true, leb-true, ltb-true, eq-eqb, ne-eqb
 use lib.Dec.{eqb, leb, ltb}
 use lib.ListN.{length, getD, drop}
 use lib.Seq.{getD-drop}
-use Rattle.words.specs.Tests.{pick, both, either, implies, within}
+use Rattle.words.specs.Tests.{implies, within}
 use Rattle.words.specs.Fields.{kind, form, actionsOf, fluentOf, actionNumber, durationOf, isSet, formulaX, formulaY, atomFluent, atomSpare, nodeX, nodeY, nodeM, nodeN}
 use Rattle.words.proofs.Choices.{true-false, both-true, either-true, implies-true, pick-same, within-true, true-within}
 use Rattle.answers.specs.Rows.{row}
@@ -80,7 +80,7 @@ module _ (job : List ℕ) (ok : jobRefusal job .number ≡ 0) where
   ranges =
       let f = within 1 64 (fluents job) in
       let a = within 1 64 (actions job) in
-      let g = both-true (both f a) (leb (lastMoment job) 63) (graded _ _ _ (rule 1 0 (size .0) head) .1) in
+      let g = both-true (f && a) (leb (lastMoment job) 63) (graded _ _ _ (rule 1 0 (size .0) head) .1) in
       let h = both-true f a (g .0) in
       (within-true 1 64 (fluents job) (h .0), within-true 1 64 (actions job) (h .1), leb-true (lastMoment job) 63 (g .1))
 
@@ -111,12 +111,12 @@ module _ (job : List ℕ) (ok : jobRefusal job .number ≡ 0) where
       let w = getD job i 0 in
       let e = word-at 5 k i at in
       let n = countOfKind 5 (before job i) in
-      let g = within-limit 64 n (both (within 1 5 (kind (last (before job i)))) (formulaShape (headWord job) w)) (formulaRange (headWord job) n w) (rule 5 i (at .inside) (at .of-kind)) in
+      let g = within-limit 64 n (within 1 5 (kind (last (before job i))) && formulaShape (headWord job) w) (formulaRange (headWord job) n w) (rule 5 i (at .inside) (at .of-kind)) in
       let low = formula-low (headWord job) w (both-true (within 1 5 (kind (last (before job i)))) (formulaShape (headWord job) w) (g .0) .1) in
       let a = implies (eqb (form w) 1) (ltb (atomFluent (headWord job) w) (fluents job)) in
       let x = implies (within 2 4 (form w)) (ltb (formulaX w) n) in
       let y = implies (within 3 4 (form w)) (ltb (formulaY w) n) in
-      let axy = both-true (both a x) y (g .2) in
+      let axy = both-true (a && x) y (g .2) in
       let ax = both-true a x (axy .0) in
       record {
         forms = rw e low;
@@ -135,34 +135,34 @@ module _ (job : List ℕ) (ok : jobRefusal job .number ≡ 0) where
       let acts = countOfKind 3 (before job i) in
       let forms = countOfKind 5 (before job i) in
       let n = countOfKind 6 (before job i) in
-      let g = within-limit 64 n (both (both (within 1 8 (kind v)) (not (isSet v))) (nodeShape w)) (nodeRange acts forms n w) (rule 6 i (at .inside) (at .of-kind)) in
-      let low = node-low w (both-true (both (within 1 8 (kind v)) (not (isSet v))) (nodeShape w) (g .0) .1) in
+      let g = within-limit 64 n (within 1 8 (kind v) && not (isSet v) && nodeShape w) (nodeRange acts forms n w) (rule 6 i (at .inside) (at .of-kind)) in
+      let low = node-low w (both-true (within 1 8 (kind v) && not (isSet v)) (nodeShape w) (g .0) .1) in
       let a = implies (eqb f 0) (ltb (nodeX w) acts) in
-      let k = implies (either (eqb f 1) (within 4 5 f)) (ltb (nodeX w) forms) in
+      let k = implies (eqb f 1 || within 4 5 f) (ltb (nodeX w) forms) in
       let x = implies (childX w) (ltb (nodeX w) n) in
       let y = implies (childY w) (ltb (nodeY w) n) in
       let m = implies (childM w) (ltb (nodeM w) n) in
       let win = implies (within 6 7 f) (leb (nodeM w) (nodeN w)) in
-      let r1 = both-true (both (both (both (both a k) x) y) m) win (g .2) in
-      let r2 = both-true (both (both (both a k) x) y) m (r1 .0) in
-      let r3 = both-true (both (both a k) x) y (r2 .0) in
-      let r4 = both-true (both a k) x (r3 .0) in
+      let r1 = both-true (a && k && x && y && m) win (g .2) in
+      let r2 = both-true (a && k && x && y) m (r1 .0) in
+      let r3 = both-true (a && k && x) y (r2 .0) in
+      let r4 = both-true (a && k) x (r3 .0) in
       let r5 = both-true a k (r4 .0) in
       let inside = at .inside in
       record {
         forms = rw e low;
         action = rw e (λ h. omega (arith, ends .counted, count-grows 3 job i (length job) (omega arith), ltb-true (nodeX w) acts (implies-true (eqb f 0) (ltb (nodeX w) acts) (r5 .0) (eq-eqb f 0 h))));
-        formula = rw e (λ h. omega (arith, count-grows 5 job i (length job) (omega arith), ltb-true (nodeX w) forms (implies-true (either (eqb f 1) (within 4 5 f)) (ltb (nodeX w) forms) (r5 .1) (one-of f h))));
+        formula = rw e (λ h. omega (arith, count-grows 5 job i (length job) (omega arith), ltb-true (nodeX w) forms (implies-true (eqb f 1 || within 4 5 f) (ltb (nodeX w) forms) (r5 .1) (one-of f h))));
         lower-x = rw e (λ h. omega (arith, at .numbered, ltb-true (nodeX w) n (implies-true (childX w) (ltb (nodeX w) n) (r4 .1) (two-of f h))));
         lower-y = rw e (λ h l. omega (arith, at .numbered, ltb-true (nodeY w) n (implies-true (childY w) (ltb (nodeY w) n) (r3 .1) (true-within 2 7 f h l))));
         lower-m = rw e (λ h. omega (arith, at .numbered, ltb-true (nodeM w) n (implies-true (childM w) (ltb (nodeM w) n) (r2 .1) (eq-eqb f 4 h))));
         window = rw e (λ h l. leb-true (nodeM w) (nodeN w) (implies-true (within 6 7 f) (leb (nodeM w) (nodeN w)) (r1 .1) (true-within 6 7 f h l)));
       }
     where
-      one-of : (f : ℕ) → (f ≡ 1) ⊎ ((4 ≤ f) × (f ≤ 5)) → either (eqb f 1) (within 4 5 f) ≡ true
+      one-of : (f : ℕ) → (f ≡ 1) ⊎ ((4 ≤ f) × (f ≤ 5)) → (eqb f 1 || within 4 5 f) ≡ true
       one-of f (inl h) = rw (eq-eqb f 1 h)
       one-of f (inr h) = rw (true-within 4 5 f (h .0) (h .1)) (either-true (eqb f 1))
 
-      two-of : (f : ℕ) → ((2 ≤ f) × (f ≤ 3)) ⊎ ((6 ≤ f) × (f ≤ 7)) → either (within 2 3 f) (within 6 7 f) ≡ true
+      two-of : (f : ℕ) → ((2 ≤ f) × (f ≤ 3)) ⊎ ((6 ≤ f) × (f ≤ 7)) → (within 2 3 f || within 6 7 f) ≡ true
       two-of f (inl h) = rw (true-within 2 3 f (h .0) (h .1))
       two-of f (inr h) = rw (true-within 6 7 f (h .0) (h .1)) (either-true (within 2 3 f))

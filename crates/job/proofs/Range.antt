@@ -1,12 +1,12 @@
 -- The refusal of any job, of any length, fits the fields of an answer. Assumes nothing.
-use mathlib.Core.Bool.{Bool, true, false, not}
+use mathlib.Core.Bool.{Bool, true, false, not, cond}
 use mathlib.Core.List.{List}
 use mathlib.Core.Path.{_≡_, refl}
 use Prim.Native.Nat.{ℕ, _-_, _≤_}
 use native.Mathlib.Omega.{arith}
 use lib.Dec.{eqb}
 use lib.ListN.{length, getD}
-use Rattle.words.specs.Tests.{pick, within}
+use Rattle.words.specs.Tests.{within}
 use Rattle.words.specs.Fields.{kind, actionsOf}
 use Rattle.words.proofs.Choices.{within-true}
 use Rattle.answers.specs.Rows.{row, orElse, firstOf}
@@ -16,7 +16,7 @@ use Rattle.job.specs.Before.{before, countOfKind, named}
 use Rattle.job.specs.Refusal.{wordRefusal, refusalOf, nameRefusal, emptySet, endRefusal, jobRefusal}
 use Rattle.job.proofs.Laws.{count-before}
 
-pick-le : (t : Bool) (a b : ℕ) → a ≤ 13 → b ≤ 13 → pick t a b ≤ 13
+pick-le : (t : Bool) (a b : ℕ) → a ≤ 13 → b ≤ 13 → cond t a b ≤ 13
 pick-le true a b h l = h
 pick-le false a b h l = l
 

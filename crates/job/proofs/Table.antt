@@ -1,5 +1,5 @@
 -- The rule of a word by its kind, and what the rules bound. Assumes nothing.
-use mathlib.Core.Bool.{Bool, true, false, not}
+use mathlib.Core.Bool.{Bool, true, false, not, _&&_}
 use mathlib.Core.List.{List}
 use mathlib.Core.Path.{_≡_, refl, ap, sym, _∙_}
 use Prim.Native.Nat.{ℕ, zero, suc, _+_, _-_, _≤_, _<_}
@@ -8,7 +8,7 @@ use native.Mathlib.Omega.{arith}
 use lib.Dec.{eqb, ltb}
 use lib.ListN.{getD, length}
 use borrow.Author.Tests.{ne-eqb, eq-eqb, ltb-true, eqb-true, not-false}
-use Rattle.words.specs.Tests.{both, one, within}
+use Rattle.words.specs.Tests.{one, within}
 use Rattle.words.specs.Fields.{kind, actionNumber, actionsOf}
 use Rattle.words.proofs.Choices.{both-true}
 use Rattle.answers.specs.Rows.{refusal, row, orElse, firstOf}
@@ -41,7 +41,7 @@ graded true true true e = (refl, refl, refl)
 
 pub within-limit : (most count : ℕ) (shape range : Bool) → limited most count shape range ≡ 0 → (shape ≡ true) × (count < most) × (range ≡ true)
 within-limit most count shape range e =
-    let g = graded shape (both (ltb count most) range) true e in
+    let g = graded shape (ltb count most && range) true e in
     let b = both-true (ltb count most) range (g .1) in
     (g .0, ltb-true count most (b .0), b .1)
 

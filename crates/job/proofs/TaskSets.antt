@@ -1,6 +1,6 @@
 -- The task sets of a job that is not refused: members and conditions stand after their set, as many and such as the rules allow.
 -- Assumes nothing.
-use mathlib.Core.Bool.{Bool, true, false, not}
+use mathlib.Core.Bool.{Bool, true, false, not, cond, _&&_, _||_}
 use mathlib.Core.List.{List, [], _∷_}
 use mathlib.Core.Logic.{_⊎_, inl, inr, by-cases}
 use mathlib.Core.Path.{_≡_, refl, ap, sym, _∙_}
@@ -13,7 +13,7 @@ use borrow.Author.Tests.{eqb-true, eqb-false, leb-true, ltb-true, eq-eqb, ne-eqb
 use lib.Dec.{eqb, leb, ltb}
 use lib.ListN.{length, getD, drop, length-drop}
 use lib.Seq.{getD-drop, drop-drop}
-use Rattle.words.specs.Tests.{pick, both, either, implies, one, within}
+use Rattle.words.specs.Tests.{implies, one, within}
 use Rattle.words.specs.Fields.{ofKind, kind, form, spare, isSet, memberNode, conditionFormula, conditionI, conditionJ, conditionM, conditionN}
 use Rattle.words.specs.Scan.{leading, beyond}
 use Rattle.words.proofs.Choices.{true-false, both-true, either-true, implies-true, pick-same, true-within}
@@ -76,10 +76,10 @@ no-empty : (job : List ℕ) (at : ℕ) → kind (getD job at 0) ≡ 6 → form (
 no-empty job at k f none e = true-false (sym (rw (latest-more job at 6, k, f, none)) ∙ e)
 
 -- a condition that names no second member has 0 there
-second : (w n : ℕ) → conditionShape w ≡ true → implies (either (leb (form w) 1) (eqb (form w) 4)) (ltb (conditionJ w) n) ≡ true → 0 < n → conditionJ w < n
+second : (w n : ℕ) → conditionShape w ≡ true → implies (leb (form w) 1 || eqb (form w) 4) (ltb (conditionJ w) n) ≡ true → 0 < n → conditionJ w < n
 second w n s r some = cases (leb (form w) 1) (eqb (form w) 4) refl refl
   where
-    left : (x : Bool) → either x false ≡ true → x ≡ true
+    left : (x : Bool) → (x || false) ≡ true → x ≡ true
     left true e = refl
     left false e = e
 
@@ -87,7 +87,7 @@ second w n s r some = cases (leb (form w) 1) (eqb (form w) 4) refl refl
     cases true b e f = ltb-true (conditionJ w) n (rw e at r)
     cases false true e f = ltb-true (conditionJ w) n (rw (e, f) at r)
     cases false false e f =
-        let z = eqb-true (conditionJ w) 0 (both-true (within 2 3 (form w)) (spare w 14 12) (left (both (within 2 3 (form w)) (spare w 14 12)) (rw (e, f) at s)) .1) in
+        let z = eqb-true (conditionJ w) 0 (both-true (within 2 3 (form w)) (spare w 14 12) (left (within 2 3 (form w) && spare w 14 12) (rw (e, f) at s)) .1) in
         omega arith
 
 module _ (job : List ℕ) (ok : jobRefusal job .number ≡ 0) {p at : ℕ} (node : IsWord job 6 p at) (set : form (getD job at 0) ≡ 8) where
@@ -173,7 +173,7 @@ module _ (job : List ℕ) (ok : jobRefusal job .number ≡ 0) {p at : ℕ} (node
       let q = before job pos in
       let n = countOfKind 7 (since 6 q) in
       let forms = countOfKind 5 q in
-      let g = within-limit 8 (countOfKind 8 (since 6 q)) (both (within 7 8 (kind (last q))) (conditionShape w)) (conditionRange forms n w) (rule-passed job (c .words) 8 pos (a .2) (a .1)) in
+      let g = within-limit 8 (countOfKind 8 (since 6 q)) (within 7 8 (kind (last q)) && conditionShape w) (conditionRange forms n w) (rule-passed job (c .words) 8 pos (a .2) (a .1)) in
       let members : Run job 7 (at + 1) m = run 7 (at + 1) in
       let sofar : Run job 8 (at + 1 + m) i = λ j l. led 8 (at + 1 + m) j (omega arith) .1 in
       let sevens = run-since job 7 (at + 1) 7 m (λ z. omega arith) members in
@@ -186,10 +186,10 @@ module _ (job : List ℕ) (ok : jobRefusal job .number ≡ 0) {p at : ℕ} (node
       let low = condition-low w shape in
       let f = implies (within 2 4 (form w)) (ltb (conditionFormula w) forms) in
       let x = ltb (conditionI w) n in
-      let y = implies (either (leb (form w) 1) (eqb (form w) 4)) (ltb (conditionJ w) n) in
+      let y = implies (leb (form w) 1 || eqb (form w) 4) (ltb (conditionJ w) n) in
       let win = implies (leb (form w) 3) (leb (conditionM w) (conditionN w)) in
-      let r1 = both-true (both (both f x) y) win (g .2) in
-      let r2 = both-true (both f x) y (r1 .0) in
+      let r1 = both-true (f && x && y) win (g .2) in
+      let r2 = both-true (f && x) y (r1 .0) in
       let r3 = both-true f x (r2 .0) in (
         omega (arith, g .1, eights, eights2, start-since 8),
         record {

@@ -1,5 +1,5 @@
 -- A job that is not refused is well formed. Assumes nothing.
-use mathlib.Core.Bool.{Bool, true, false}
+use mathlib.Core.Bool.{Bool, true, false, cond}
 use mathlib.Core.List.{List}
 use mathlib.Core.Path.{_≡_, refl, ap, sym, _∙_}
 use Prim.Native.Nat.{ℕ, zero, suc, _-_, _≤_, _<_}
@@ -7,7 +7,6 @@ use native.Mathlib.Omega.{arith}
 use borrow.Author.Tests.{eqb-true, eqb-false, ltb-true}
 use lib.Dec.{eqb}
 use lib.ListN.{length, getD}
-use Rattle.words.specs.Tests.{pick}
 use Rattle.words.specs.Fields.{form}
 use Rattle.answers.proofs.Rows.{first-none}
 use Rattle.job.specs.Before.{before, named}
@@ -23,7 +22,7 @@ named-once : (p : List ℕ) (v : ℕ) → nameRefusal p v ≡ 0 → named v p �
 unfolding nameRefusal
 named-once p v = cases (eqb (named v p) 1) refl
   where
-    cases : (t : Bool) → eqb (named v p) 1 ≡ t → _≡_ {A = ℕ} (pick t 0 5) 0 → named v p ≡ 1
+    cases : (t : Bool) → eqb (named v p) 1 ≡ t → _≡_ {A = ℕ} (cond t 0 5) 0 → named v p ≡ 1
     cases true e h = eqb-true (named v p) 1 e
     cases false e h = absurd (omega arith)
 

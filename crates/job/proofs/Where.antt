@@ -1,5 +1,5 @@
 -- Where the words of a kind stand: the list of positions, one word after the other. Assumes nothing.
-use mathlib.Core.Bool.{Bool, true, false}
+use mathlib.Core.Bool.{Bool, true, false, cond}
 use mathlib.Core.List.{List, [], _∷_, _++_, append-nil}
 use mathlib.Core.Logic.{_⊎_, inl, inr, by-cases}
 use mathlib.Core.Path.{_≡_, refl, ap, sym, _∙_}
@@ -12,7 +12,7 @@ use borrow.Author.Tests.{eq-eqb, ne-eqb}
 use lib.Dec.{eqb}
 use lib.ListN.{length, getD, drop, set, replicate, length-append, length-set, List·getD-append}
 use lib.Seq.{sets, sets-eq, getD-at}
-use Rattle.words.specs.Tests.{pick, one}
+use Rattle.words.specs.Tests.{one}
 use Rattle.words.specs.Fields.{ofKind, kind}
 use Rattle.words.proofs.Choices.{same-or-not}
 use Rattle.job.specs.Before.{before, countOfKind}
@@ -33,7 +33,7 @@ module _ (k : ℕ) (job : List ℕ) where
   positions-none = refl
 
   module _ (i : ℕ) where
-    pub positions-more : positions k job (i + 1) ≡ positions k job i ++ pick (eqb (kind (getD job i 0)) k) (i ∷ []) []
+    pub positions-more : positions k job (i + 1) ≡ positions k job i ++ cond (eqb (kind (getD job i 0)) k) (i ∷ []) []
     unfolding positions
     positions-more = rw (add-one i)
 
@@ -48,7 +48,7 @@ module _ (k : ℕ) (job : List ℕ) where
   positions-count zero = rw (positions-none, count-none job k)
   positions-count (suc i) = rw (← (add-one i)) (positions-length ∙ ap (λ (n : ℕ). n + one (eqb (kind (getD job i 0)) k)) (positions-count i) ∙ sym (count-more job i k))
     where
-      length-pick : (t : Bool) → length (pick t (i ∷ []) []) ≡ one t
+      length-pick : (t : Bool) → length (cond t (i ∷ []) []) ≡ one t
       length-pick true = refl
       length-pick false = refl
 

@@ -1,9 +1,10 @@
 -- Facts of the words before a word. Those words are a list, the nearest first, so that each fact is a recursion on it.
+use mathlib.Core.Bool.{cond}
 use mathlib.Core.List.{List, [], _∷_}
 use Prim.Native.Nat.{ℕ, zero, suc, _+_}
 use lib.Dec.{eqb}
 use lib.ListN.{getD}
-use Rattle.words.specs.Tests.{pick, one}
+use Rattle.words.specs.Tests.{one}
 use Rattle.words.specs.Fields.{kind}
 use Rattle.job.specs.Rules.{names}
 
@@ -25,12 +26,12 @@ countOfKind k (w ∷ p) = countOfKind k p + one (eqb (kind w) k)
 -- the words after the last one of kind k
 unfoldable pub since : ℕ → List ℕ → List ℕ
 since k [] = []
-since k (w ∷ p) = pick (eqb (kind w) k) [] (w ∷ since k p)
+since k (w ∷ p) = cond (eqb (kind w) k) [] (w ∷ since k p)
 
 -- the last word of kind k, or 0
 unfoldable pub latest : ℕ → List ℕ → ℕ
 latest k [] = 0
-latest k (w ∷ p) = pick (eqb (kind w) k) w (latest k p)
+latest k (w ∷ p) = cond (eqb (kind w) k) w (latest k p)
 
 -- how often node v is named as a child
 unfoldable pub named : ℕ → List ℕ → ℕ

@@ -1,10 +1,10 @@
 -- Where the words of a kind stand, and what a check of a job gives.
+use mathlib.Core.Bool.{cond}
 use mathlib.Core.List.{List, [], _∷_, _++_}
 use Prim.Native.Nat.{ℕ, zero, suc}
 use lib.Dec.{eqb}
 use lib.ListN.{getD, length, replicate}
 use lib.Seq.{sets}
-use Rattle.words.specs.Tests.{pick}
 use Rattle.words.specs.Fields.{kind}
 use Rattle.job.specs.Refusal.{jobRefusal}
 use Rattle.job.specs.declared.Places.{Places}
@@ -14,7 +14,7 @@ use Rattle.job.specs.declared.Checked.{Checked}
 -- the positions of the words of kind k among the first i words, ascending
 unfoldable pub positions : ℕ → List ℕ → ℕ → List ℕ
 positions k job zero = []
-positions k job (suc i) = positions k job i ++ pick (eqb (kind (getD job i 0)) k) (i ∷ []) []
+positions k job (suc i) = positions k job i ++ cond (eqb (kind (getD job i 0)) k) (i ∷ []) []
 
 -- how many these are, and they themselves in front of zeros
 unfoldable pub placesUpto : ℕ → List ℕ → ℕ → Places
@@ -28,4 +28,4 @@ indexUpto job i = record { actions = placesUpto 3 job i; formulas = placesUpto 5
 -- the refusal of a job, with the index of all its words; a refused job's index has none
 unfoldable pub checkedOf : List ℕ → Checked
 checkedOf job =
-    record { refusal = jobRefusal job; index = indexUpto job (pick (eqb (jobRefusal job .number) 0) (length job) 0) }
+    record { refusal = jobRefusal job; index = indexUpto job (cond (eqb (jobRefusal job .number) 0) (length job) 0) }

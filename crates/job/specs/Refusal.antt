@@ -1,10 +1,10 @@
 -- The refusal of a job, by number and position: rows 1 to 5.
-use mathlib.Core.Bool.{Bool, not}
+use mathlib.Core.Bool.{Bool, not, cond, _&&_}
 use mathlib.Core.List.{List, [], _∷_}
 use Prim.Native.Nat.{ℕ, _-_}
 use lib.Dec.{eqb}
 use lib.ListN.{getD, length}
-use Rattle.words.specs.Tests.{pick, both, within}
+use Rattle.words.specs.Tests.{within}
 use Rattle.words.specs.Fields.{kind, form, actionsOf}
 use Rattle.words.specs.Scan.{someWord}
 use Rattle.job.specs.Rules.{headRefusal, knownRefusal, actionRefusal, lawRefusal, sameFluent, formulaShape, formulaRange, formulaRefusal, nodeShape, nodeRange, nodeRefusal, memberRefusal, conditionShape, conditionRange, conditionRefusal}
@@ -15,7 +15,7 @@ use Rattle.answers.specs.Rows.{row, orElse, firstOf}
 -- the number that a table has at a key; 2, a kind that is not allowed, where it has none
 abbrev pub lookup : ℕ → List (ℕ × ℕ) → ℕ
 lookup k [] = 2
-lookup k (e ∷ rest) = pick (eqb k (e .0)) (e .1) (lookup k rest)
+lookup k (e ∷ rest) = cond (eqb k (e .0)) (e .1) (lookup k rest)
 
 -- the refusal of word w after the words p of a job with that head, by each kind that it may be of; 0 for none
 abbrev pub rules : ℕ → List ℕ → ℕ → List (ℕ × ℕ)
@@ -39,11 +39,11 @@ refusalOf job i = wordRefusal (getD job 0 0) (before job i) (getD job i 0)
 
 -- the last node is a set without members
 abbrev pub emptySet : List ℕ → Bool
-emptySet p = both (eqb (form (latest 6 p)) 8) (eqb (countOfKind 7 (since 6 p)) 0)
+emptySet p = eqb (form (latest 6 p)) 8 && eqb (countOfKind 7 (since 6 p)) 0
 
 -- a node that is not named exactly once
 unfoldable pub nameRefusal : List ℕ → ℕ → ℕ
-nameRefusal p v = pick (eqb (named v p) 1) 0 5
+nameRefusal p v = cond (eqb (named v p) 1) 0 5
 
 -- the rows of the job end: p has all words, and the root is its last node. Row 3's position is the job's length; row 5's is a node's
 -- number, or 0 where there is no node.

@@ -1,72 +1,70 @@
 -- The rule of each kind: the refusal of a word by the few facts of the words before it that the document names for that kind.
 -- A new kind is one more definition here and one more line of `rules` (Refusal).
-use mathlib.Core.Bool.{Bool, true, not}
+use mathlib.Core.Bool.{Bool, true, not, cond, _&&_, _||_}
 use Prim.Native.Nat.{ℕ, _+_, _/_}
 use lib.Dec.{leb, ltb, eqb}
-use Rattle.words.specs.Tests.{pick, both, either, implies, one, within}
+use Rattle.words.specs.Tests.{implies, one, within}
 use Rattle.words.specs.Fields.{field, spare, kind, form, fluentsOf, actionsOf, lastOf, fluentOf, knownSpare, actionNumber, durationOf, roleOf, lawSpare, formulaX, formulaY, atomFluent, atomSpare, nodeX, nodeY, nodeM, nodeN, isSet, memberNode, conditionFormula, conditionI, conditionJ, conditionM, conditionN}
 
 -- rows 2, 3 and 4 on a word, in turn: what is allowed by kind, form, predecessor and spare bits; by numbers, references and
 -- ranges; and as a fluent not listed already
 unfoldable pub grade : Bool → Bool → Bool → ℕ
-grade shape range fresh = pick shape (pick range (pick fresh 0 4) 3) 2
+grade shape range fresh = cond shape (cond range (cond fresh 0 4) 3) 2
 
 -- a word of a kind of which there are at most `most`, with `count` of them before it
 abbrev pub limited : ℕ → ℕ → Bool → Bool → ℕ
-limited most count shape range = grade shape (both (ltb count most) range) true
+limited most count shape range = grade shape (ltb count most && range) true
 
 -- kind 1, head: at which position it stands
 abbrev pub headRefusal : ℕ → ℕ → ℕ
 headRefusal position w =
-    grade (both (eqb position 0) (spare w 27 24))
-    (both (both (within 1 64 (fluentsOf w)) (within 1 64 (actionsOf w))) (leb (lastOf w) 63))
+    grade (eqb position 0 && spare w 27 24)
+    (within 1 64 (fluentsOf w) && within 1 64 (actionsOf w) && leb (lastOf w) 63)
     true
 
 -- kind 2, initially known: the word before it, whether its fluent is listed already
 abbrev pub knownRefusal : ℕ → ℕ → Bool → ℕ → ℕ
 knownRefusal head last listed w =
-    grade (both (within 1 2 (kind last)) (knownSpare head w)) (ltb (fluentOf head w) (fluentsOf head)) (not listed)
+    grade (within 1 2 (kind last) && knownSpare head w) (ltb (fluentOf head w) (fluentsOf head)) (not listed)
 
 -- kind 3, action: the word before it, and how many actions are declared
 abbrev pub actionRefusal : ℕ → ℕ → ℕ → ℕ
 actionRefusal last actions w =
-    grade (both (within 1 4 (kind last)) (spare w 27 12)) (both (eqb (actionNumber w) actions) (leb 1 (durationOf w))) true
+    grade (within 1 4 (kind last) && spare w 27 12) (eqb (actionNumber w) actions && leb 1 (durationOf w)) true
 
 -- kind 4, law: the word before it, whether its fluent is listed in this action, in roles of its pair
 abbrev pub lawRefusal : ℕ → ℕ → Bool → ℕ → ℕ
 lawRefusal head last listed w =
-    grade (both (within 3 4 (kind last)) (lawSpare head w)) (ltb (fluentOf head w) (fluentsOf head)) (not listed)
+    grade (within 3 4 (kind last) && lawSpare head w) (ltb (fluentOf head w) (fluentsOf head)) (not listed)
 
 -- two words of one kind list the same fluent; of laws, in the same pair of roles: needs (0, 1) or makes (2, 3). In words of kind 2 the bit
 -- that `roleOf / 2` reads is spare, so that the fluent alone counts.
 abbrev pub sameFluent : ℕ → ℕ → ℕ → Bool
 sameFluent head w v =
-    both (both (eqb (kind v) (kind w)) (eqb (roleOf head v / 2) (roleOf head w / 2))) (eqb (fluentOf head v) (fluentOf head w))
+    eqb (kind v) (kind w) && eqb (roleOf head v / 2) (roleOf head w / 2) && eqb (fluentOf head v) (fluentOf head w)
 
 -- kind 5, formula: its form is one of these, and the fields that it does not use are zero
 abbrev pub formulaShape : ℕ → ℕ → Bool
 formulaShape head w =
-    either (either (either
-    (both (eqb (form w) 0) (spare w 23 0))
-    (both (eqb (form w) 1) (atomSpare head w)))
-    (both (eqb (form w) 2) (both (spare w 23 12) (spare w 5 0))))
-    (both (within 3 4 (form w)) (spare w 23 12))
+    (eqb (form w) 0 && spare w 23 0)
+    || (eqb (form w) 1 && atomSpare head w)
+    || (eqb (form w) 2 && (spare w 23 12 && spare w 5 0))
+    || (within 3 4 (form w) && spare w 23 12)
 
 -- its fluent is the job's; the formulas that it refers to are declared
 abbrev pub formulaRange : ℕ → ℕ → ℕ → Bool
 formulaRange head formulas w =
-    both (both
-    (implies (eqb (form w) 1) (ltb (atomFluent head w) (fluentsOf head)))
-    (implies (within 2 4 (form w)) (ltb (formulaX w) formulas)))
-    (implies (within 3 4 (form w)) (ltb (formulaY w) formulas))
+    implies (eqb (form w) 1) (ltb (atomFluent head w) (fluentsOf head))
+    && implies (within 2 4 (form w)) (ltb (formulaX w) formulas)
+    && implies (within 3 4 (form w)) (ltb (formulaY w) formulas)
 
 -- the word before it, how many formulas are declared, and its shape and range
 abbrev pub formulaRefusal : ℕ → ℕ → Bool → Bool → ℕ
-formulaRefusal last formulas shape range = limited 64 formulas (both (within 1 5 (kind last)) shape) range
+formulaRefusal last formulas shape range = limited 64 formulas (within 1 5 (kind last) && shape) range
 
 -- kind 6, program node: the forms that name X (2, 3, 6, 7), Y (these, 4 and 5), M (4) as a child
 abbrev pub childX : ℕ → Bool
-childX w = either (within 2 3 (form w)) (within 6 7 (form w))
+childX w = within 2 3 (form w) || within 6 7 (form w)
 
 abbrev pub childY : ℕ → Bool
 childY w = within 2 7 (form w)
@@ -77,58 +75,54 @@ childM w = eqb (form w) 4
 -- its form is one of these, and the fields that it does not use are zero
 abbrev pub nodeShape : ℕ → Bool
 nodeShape w =
-    either (either (either (either
-    (both (leb (form w) 1) (spare w 17 0))
-    (both (either (within 2 3 (form w)) (eqb (form w) 5)) (spare w 11 0)))
-    (both (eqb (form w) 4) (spare w 5 0)))
-    (within 6 7 (form w)))
-    (both (eqb (form w) 8) (spare w 23 0))
+    (leb (form w) 1 && spare w 17 0)
+    || ((within 2 3 (form w) || eqb (form w) 5) && spare w 11 0)
+    || (eqb (form w) 4 && spare w 5 0)
+    || within 6 7 (form w)
+    || (eqb (form w) 8 && spare w 23 0)
 
 -- what its fields name is declared: an action (form 0), a formula (1, 4, 5), its children; and its window has M ≤ N (6, 7)
 abbrev pub nodeRange : ℕ → ℕ → ℕ → ℕ → Bool
 nodeRange actions formulas nodes w =
-    both (both (both (both (both
-    (implies (eqb (form w) 0) (ltb (nodeX w) actions))
-    (implies (either (eqb (form w) 1) (within 4 5 (form w))) (ltb (nodeX w) formulas)))
-    (implies (childX w) (ltb (nodeX w) nodes)))
-    (implies (childY w) (ltb (nodeY w) nodes)))
-    (implies (childM w) (ltb (nodeM w) nodes)))
-    (implies (within 6 7 (form w)) (leb (nodeM w) (nodeN w)))
+    implies (eqb (form w) 0) (ltb (nodeX w) actions)
+    && implies (eqb (form w) 1 || within 4 5 (form w)) (ltb (nodeX w) formulas)
+    && implies (childX w) (ltb (nodeX w) nodes)
+    && implies (childY w) (ltb (nodeY w) nodes)
+    && implies (childM w) (ltb (nodeM w) nodes)
+    && implies (within 6 7 (form w)) (leb (nodeM w) (nodeN w))
 
 -- the word before it, how many nodes are declared, and its shape and range
 abbrev pub nodeRefusal : ℕ → ℕ → Bool → Bool → ℕ
-nodeRefusal last nodes shape range = limited 64 nodes (both (both (within 1 8 (kind last)) (not (isSet last))) shape) range
+nodeRefusal last nodes shape range = limited 64 nodes (within 1 8 (kind last) && not (isSet last) && shape) range
 
 -- kind 7, member: the word before it, how many nodes are declared, the last of which is its set, and that set's members so far
 abbrev pub memberRefusal : ℕ → ℕ → ℕ → ℕ → ℕ
 memberRefusal last nodes members w =
-    limited 4 members (both (either (isSet last) (eqb (kind last) 7)) (spare w 27 6)) (ltb (memberNode w + 1) nodes)
+    limited 4 members ((isSet last || eqb (kind last) 7) && spare w 27 6) (ltb (memberNode w + 1) nodes)
 
 -- kind 8, condition: its form is one of these, and the fields that it does not use are zero
 abbrev pub conditionShape : ℕ → Bool
 conditionShape w =
-    either (either
-    (both (leb (form w) 1) (spare w 23 18))
-    (both (within 2 3 (form w)) (spare w 14 12)))
-    (eqb (form w) 4)
+    (leb (form w) 1 && spare w 23 18)
+    || (within 2 3 (form w) && spare w 14 12)
+    || eqb (form w) 4
 
 -- its formula is declared (2 to 4), its members i, and j (0, 1, 4), are this set's, and M ≤ N (0 to 3)
 abbrev pub conditionRange : ℕ → ℕ → ℕ → Bool
 conditionRange formulas members w =
-    both (both (both
-    (implies (within 2 4 (form w)) (ltb (conditionFormula w) formulas))
-    (ltb (conditionI w) members))
-    (implies (either (leb (form w) 1) (eqb (form w) 4)) (ltb (conditionJ w) members)))
-    (implies (leb (form w) 3) (leb (conditionM w) (conditionN w)))
+    implies (within 2 4 (form w)) (ltb (conditionFormula w) formulas)
+    && ltb (conditionI w) members
+    && implies (leb (form w) 1 || eqb (form w) 4) (ltb (conditionJ w) members)
+    && implies (leb (form w) 3) (leb (conditionM w) (conditionN w))
 
 -- the word before it, the set's conditions so far, and its shape and range
 abbrev pub conditionRefusal : ℕ → ℕ → Bool → Bool → ℕ
-conditionRefusal last conditions shape range = limited 8 conditions (both (within 7 8 (kind last)) shape) range
+conditionRefusal last conditions shape range = limited 8 conditions (within 7 8 (kind last) && shape) range
 
 -- how often a word names node v as a child: as X, Y or M of a node, or as a member
 abbrev pub names : ℕ → ℕ → ℕ
 names v w =
-    one (both (both (eqb (kind w) 6) (childX w)) (eqb (nodeX w) v))
-    + one (both (both (eqb (kind w) 6) (childY w)) (eqb (nodeY w) v))
-    + one (both (both (eqb (kind w) 6) (childM w)) (eqb (nodeM w) v))
-    + one (both (eqb (kind w) 7) (eqb (memberNode w) v))
+    one (eqb (kind w) 6 && childX w && eqb (nodeX w) v)
+    + one (eqb (kind w) 6 && childY w && eqb (nodeY w) v)
+    + one (eqb (kind w) 6 && childM w && eqb (nodeM w) v)
+    + one (eqb (kind w) 7 && eqb (memberNode w) v)

@@ -1,7 +1,8 @@
 // The rule of each kind, as tests with no branch: the value of the code is the definition's own term, so most prove themselves.
+ghost use mathlib.Core.Bool.{cond};
 ghost use mathlib.Core.Path.{_≡_};
 ghost use Prim.Native.Nat.{_≤_};
-ghost use Rattle.words.specs.Tests.{pick, one};
+ghost use Rattle.words.specs.Tests.{one};
 ghost use Rattle.job.specs.Rules.{grade, limited, headRefusal, knownRefusal, actionRefusal, lawRefusal, sameFluent, formulaShape, formulaRange, formulaRefusal, nodeShape, nodeRange, nodeRefusal, memberRefusal, conditionShape, conditionRange, conditionRefusal, names};
 
 pub fn grade_of(shape: bool, range: bool, fresh: bool) -> u32
@@ -15,13 +16,13 @@ pub fn grade_of(shape: bool, range: bool, fresh: bool) -> u32
 }
 
 pub fn pick_count(t: bool, a: usize, b: usize) -> usize
-    ensures { λ r. ⌜ r ≡ pick t a b ⌝ }
+    ensures { λ r. ⌜ r ≡ cond t a b ⌝ }
 {
     if t { a } else { b }
 }
 
 pub fn pick_word(t: bool, a: u32, b: u32) -> u32
-    ensures { λ r. ⌜ r ≡ pick t a b ⌝ }
+    ensures { λ r. ⌜ r ≡ cond t a b ⌝ }
 {
     if t { a } else { b }
 }

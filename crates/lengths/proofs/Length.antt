@@ -1,13 +1,12 @@
 -- The length bound: every reading of the root that ends at n or before has at most `lengthBound` words, and that is at most 4,032.
 -- A node below a loop weighs n, for the loop's passes share out its moments; any other node is read once at most. Assumes nothing.
 use mathlib.Core.Path.{_≡_, refl, ap, ap₂, _∙_}
-use mathlib.Core.Bool.{Bool, true, false}
+use mathlib.Core.Bool.{Bool, true, false, cond, _||_}
 use mathlib.Core.List.{List, [], _∷_}
 use Prim.Native.Nat.{ℕ, zero, suc, _+_, _-_, _*_, _≤_, _<_, max}
 use native.Mathlib.Nat.{le-trans, mul-le-mul, mul-le-mul-left}
 use native.Mathlib.Omega.{arith}
 use lib.ListN.{length, length-append}
-use Rattle.words.specs.Tests.{pick, either}
 use Rattle.promise.specs.Trajectory.{Trajectory}
 use Rattle.promise.specs.Procedure.{Procedure}
 use Rattle.reading.specs.Forms.{Form, Act, Test, Sequence, Choice, If, While, StartWindow, EndWindow, Set, formAt, fieldX, fieldY, fieldM}
@@ -24,10 +23,10 @@ use Rattle.lengths.proofs.Loops.{root-free, child-above}
 module _ {P : Procedure} (low : Lower P) (once : NamedOnce P) (n : ℕ) where
   -- a child's number is lower, and a loop is above it where its parent is one or is below one
   child : {p : ℕ} (k : Form) → formAt P p ≡ k → p < P .count → (q : ℕ) → 0 < times q (childrenAs P k p)
-      → (q < p) × (loopAbove P q ≡ either (isWhile k) (loopAbove P p))
+      → (q < p) × (loopAbove P q ≡ (isWhile k || loopAbove P p))
   child {p} k f l q h =
       let here : 0 < times q (children P p) = rw f h in
-      (below-times q (children P p) (low .at p l) here, child-above low once p q l here ∙ ap (λ (g : Form). either (isWhile g) (loopAbove P p)) f)
+      (below-times q (children P p) (low .at p l) here, child-above low once p q l here ∙ ap (λ (g : Form). isWhile g || loopAbove P p) f)
 
   -- the nodes from p down weigh n each, where a loop is above p
   heavy : (k p : ℕ) → p < k → p < P .count → loopAbove P p ≡ true → branch P (weight P n) p ≡ nodes P p * n
@@ -40,7 +39,7 @@ module _ {P : Procedure} (low : Lower P) (once : NamedOnce P) (n : ℕ) where
       let one = branch-is low (λ q. 1) p l in
       branch-is low (weight P n) p l ∙ ap₂ _+_ own below ∙ rw one (omega arith)
     where
-      either-true : (a : Bool) → either a true ≡ true
+      either-true : (a : Bool) → (a || true) ≡ true
       either-true true = refl
       either-true false = refl
 
@@ -50,7 +49,7 @@ module _ {P : Procedure} (low : Lower P) (once : NamedOnce P) (n : ℕ) where
     light = let own : weight P n p ≡ 1 = rw t refl in branch-is low (weight P n) p l ∙ ap₂ _+_ own (ap (λ (g : Form). total (branch P (weight P n)) (childrenAs P g p)) f)
 
     free : isWhile k ≡ false → (q : ℕ) → 0 < times q (childrenAs P k p) → (q < P .count) × (loopAbove P q ≡ false)
-    free w q h = let (lower, above) = child k f l q h in (omega arith, above ∙ ap₂ either w t)
+    free w q h = let (lower, above) = child k f l q h in (omega arith, above ∙ ap₂ (w || t))
 
   -- the words of a node that no loop is above
   light-le : {T : Trajectory} {p b e : ℕ} {ws : List ℕ} → Reading P T whole p b e ws → p < P .count → loopAbove P p ≡ false → e ≤ n
@@ -102,7 +101,7 @@ module _ {P : Procedure} (low : Lower P) (once : NamedOnce P) (n : ℕ) where
 weight-le : (P : Procedure) (n q : ℕ) → weight P n q ≤ max 1 n
 weight-le P n q = go (loopAbove P q)
   where
-    go : (t : Bool) → pick t n 1 ≤ max 1 n
+    go : (t : Bool) → cond t n 1 ≤ max 1 n
     go true = omega arith
     go false = omega arith
 

@@ -1,13 +1,12 @@
 -- Which nodes a loop is above: where each node is named once, a child is below a loop just where its parent is one or is below one.
 -- Assumes nothing.
 use mathlib.Core.Path.{_≡_, refl, sym, ap, ap₂, _∙_}
-use mathlib.Core.Bool.{Bool, true, false}
+use mathlib.Core.Bool.{Bool, true, false, _&&_, _||_}
 use mathlib.Core.Logic.{by-cases}
 use Prim.Native.Nat.{ℕ, zero, suc, _+_, _≤_, _<_}
 use native.Mathlib.Decide.{ℕ-discrete, decLt}
 use native.Mathlib.Omega.{arith}
 use borrow.Author.Tests.{lt-ltb, le-ltb}
-use Rattle.words.specs.Tests.{both, either}
 use Rattle.promise.specs.Procedure.{Procedure}
 use Rattle.reading.specs.Forms.{formAt}
 use Rattle.lengths.specs.Children.{children, NamedOnce}
@@ -21,16 +20,16 @@ use Rattle.lengths.proofs.Tree.{Lower}
 someBelow-cong : {f g : ℕ → Bool} (n : ℕ) → ((i : ℕ) → i < n → f i ≡ g i) → someBelow f n ≡ someBelow g n
 unfolding someBelow
 someBelow-cong zero h = refl
-someBelow-cong (suc n) h = ap₂ either (someBelow-cong n (λ i l. h i (omega arith))) (h n (omega arith))
+someBelow-cong (suc n) h = ap₂ (someBelow-cong n (λ i l. h i (omega arith)) || h n (omega arith))
 
-either-false : (t : Bool) → either t false ≡ t
+either-false : (t : Bool) → (t || false) ≡ t
 either-false true = refl
 either-false false = refl
 
 someBelow-none : {f : ℕ → Bool} (n : ℕ) → ((i : ℕ) → i < n → f i ≡ false) → someBelow f n ≡ false
 unfolding someBelow
 someBelow-none zero h = refl
-someBelow-none (suc n) h = ap₂ either (someBelow-none n (λ i l. h i (omega arith))) (h n (omega arith))
+someBelow-none (suc n) h = ap₂ (someBelow-none n (λ i l. h i (omega arith)) || h n (omega arith))
 
 -- where one number alone may pass, it decides
 someBelow-one : {f : ℕ → Bool} (n i : ℕ) → i < n → ((j : ℕ) → j < n → (j ≡ i → ⊥) → f j ≡ false) → someBelow f n ≡ f i
@@ -38,8 +37,8 @@ unfolding someBelow
 someBelow-one zero i l h = absurd (omega arith)
 someBelow-one {f} (suc n) i l h =
     by-cases (ℕ-discrete n i)
-    (λ e. ap₂ either (someBelow-none n (λ j k. h j (omega arith) (λ d. omega arith))) (ap f e))
-    (λ ne. ap₂ either (someBelow-one n i (omega arith) (λ j k. h j (omega arith))) (h n (omega arith) ne) ∙ either-false (f i))
+    (λ e. ap₂ (someBelow-none n (λ j k. h j (omega arith) (λ d. omega arith)) || ap f e))
+    (λ ne. ap₂ (someBelow-one n i (omega arith) (λ j k. h j (omega arith)) || h n (omega arith) ne) ∙ either-false (f i))
 
 -- ---- loops above a node
 
@@ -54,10 +53,10 @@ module _ {P : Procedure} (low : Lower P) where
   -- more steps than there are nodes above q lead to no more
   steady : (k q : ℕ) → P .count ≤ q + k → loopWithin P (suc k) q ≡ loopWithin P k q
   unfolding loopWithin
-  steady zero q h = someBelow-none (P .count) (λ p l. ap (λ (t : Bool). both t (either (isWhile (formAt P p)) false)) (unnamed p q l (omega arith)))
+  steady zero q h = someBelow-none (P .count) (λ p l. ap (λ (t : Bool). t && (isWhile (formAt P p) || false)) (unnamed p q l (omega arith)))
   steady (suc k) q h =
       someBelow-cong (P .count) (λ p l. by-cases (decLt q p)
-      (λ g. ap (λ (t : Bool). both (names P p q) (either (isWhile (formAt P p)) t)) (steady k p (omega arith)))
+      (λ g. ap (λ (t : Bool). names P p q && (isWhile (formAt P p) || t)) (steady k p (omega arith)))
       (λ g. let none = unnamed p q l (omega arith) in rw none refl))
 
   -- no loop is above the root
@@ -77,9 +76,9 @@ module _ {P : Procedure} (low : Lower P) where
       (λ g. le-ltb 0 (times q (children P j)) (omega arith))
 
   pub child-above : NamedOnce P → (p q : ℕ) → p < P .count → 0 < times q (children P p)
-      → loopAbove P q ≡ either (isWhile (formAt P p)) (loopAbove P p)
+      → loopAbove P q ≡ (isWhile (formAt P p) || loopAbove P p)
   unfolding loopWithin
   child-above once p q l h =
       sym (steady (P .count) q (omega arith))
       ∙ someBelow-one (P .count) p l (λ j k ne. rw (sole once p q l h j k ne) refl)
-      ∙ ap (λ (t : Bool). both t (either (isWhile (formAt P p)) (loopAbove P p))) (lt-ltb 0 (times q (children P p)) h)
+      ∙ ap (λ (t : Bool). t && (isWhile (formAt P p) || loopAbove P p)) (lt-ltb 0 (times q (children P p)) h)

@@ -1,8 +1,7 @@
 -- The length bound: the sum over all nodes of 1 where no loop is above the node, and of the last moment n otherwise.
 use Prim.Native.Nat.{ℕ, zero, suc}
-use mathlib.Core.Bool.{Bool, true, false}
+use mathlib.Core.Bool.{Bool, true, false, cond, _&&_, _||_}
 use lib.Dec.{ltb}
-use Rattle.words.specs.Tests.{pick, both, either}
 use Rattle.words.specs.Scan.{someBelow, times}
 use Rattle.bitset.specs.Members.{sum}
 use Rattle.promise.specs.Procedure.{Procedure}
@@ -28,14 +27,14 @@ names P p q = ltb 0 (times q (children P p))
 -- at most k steps above node q there is a loop: a node that names q is one, or has one above it
 unfoldable pub loopWithin : Procedure → ℕ → ℕ → Bool
 loopWithin P zero q = false
-loopWithin P (suc k) q = someBelow (λ p. both (names P p q) (either (isWhile (formAt P p)) (loopWithin P k p))) (P .count)
+loopWithin P (suc k) q = someBelow (λ p. names P p q && (isWhile (formAt P p) || loopWithin P k p)) (P .count)
 
 -- a loop is above node q: a parent's number is higher than its child's, so that there are fewer steps than nodes
 abbrev pub loopAbove : Procedure → ℕ → Bool
 loopAbove P q = loopWithin P (P .count) q
 
 abbrev pub weight : Procedure → ℕ → ℕ → ℕ
-weight P n q = pick (loopAbove P q) n 1
+weight P n q = cond (loopAbove P q) n 1
 
 unfoldable pub lengthBound : Procedure → ℕ → ℕ
 lengthBound P n = sum (weight P n) (P .count)

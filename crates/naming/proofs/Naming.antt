@@ -1,5 +1,5 @@
 -- A node is named by the words of a job as often as the nodes name it in sum. Assumes nothing.
-use mathlib.Core.Bool.{Bool, true, false}
+use mathlib.Core.Bool.{Bool, true, false, _||_}
 use mathlib.Core.List.{List, [], _∷_, map}
 use mathlib.Core.Logic.{_⊎_, inl, inr, ⊎-elim}
 use mathlib.Core.Path.{_≡_, refl, ap, sym, _∙_}
@@ -8,7 +8,6 @@ use native.Mathlib.Omega.{arith}
 use borrow.Author.Tests.{eqb-true, ne-eqb}
 use lib.Dec.{eqb, ltb}
 use lib.ListN.{length, getD}
-use Rattle.words.specs.Tests.{either}
 use Rattle.words.specs.Fields.{ofKind, kind, isSet, memberNode}
 use Rattle.words.specs.Scan.{leading, fromNumber, times}
 use Rattle.words.proofs.Choices.{both-true, same-or-not, eqb-swap, true-false}
@@ -123,7 +122,7 @@ by-words v (w ∷ ws) led = step v w ws led (by-words v ws (λ i l. led (suc i) 
 
 module _ (job : List ℕ) (ok : jobRefusal job .number ≡ 0) where
   -- what a member of a job that is not refused follows
-  pub follows : (i : ℕ) → i < length job → kind (getD job i 0) ≡ 7 → either (isSet (last (before job i))) (eqb (kind (last (before job i))) 7) ≡ true
+  pub follows : (i : ℕ) → i < length job → kind (getD job i 0) ≡ 7 → (isSet (last (before job i)) || eqb (kind (last (before job i))) 7) ≡ true
   follows i l h =
       let p = before job i in
       both-true _ _ (within-limit 4 (countOfKind 7 (since 6 p)) _ (ltb (memberNode (getD job i 0) + 1) (countOfKind 6 p)) (rule job ok 7 i l h) .0) .0
@@ -132,7 +131,7 @@ module _ (job : List ℕ) (ok : jobRefusal job .number ≡ 0) where
   unfolding last
   led i l h = cases (isSet (getD job i 0)) (eqb (kind (getD job i 0)) 7) refl refl (rw (before-suc job i) at (follows (suc i) l h))
     where
-      cases : (s m : Bool) → isSet (getD job i 0) ≡ s → eqb (kind (getD job i 0)) 7 ≡ m → either s m ≡ true
+      cases : (s m : Bool) → isSet (getD job i 0) ≡ s → eqb (kind (getD job i 0)) 7 ≡ m → (s || m) ≡ true
           → (kind (getD job i 0) ≡ 6) ⊎ (kind (getD job i 0) ≡ 7)
       cases true m e f t = inl (eqb-true _ 6 (both-true (eqb (kind (getD job i 0)) 6) _ e .0))
       cases false true e f t = inr (eqb-true _ 7 f)

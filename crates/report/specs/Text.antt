@@ -1,4 +1,5 @@
 -- The text that planread prints for an answer, as ASCII codes; every line ends with one newline.
+use mathlib.Core.Bool.{cond}
 use Prim.Native.Nat.{ℕ, zero, suc, _+_, _/_, _%_, _≤_}
 use mathlib.Core.Path.{_≡_}
 use mathlib.Core.List.{List, [], _∷_, _++_}
@@ -6,13 +7,12 @@ use lib.Dec.{ltb}
 use lib.ListN.{length, take}
 use Rattle.answers.specs.declared.Answer.{Answer}
 use Rattle.answers.specs.declared.Answer.the-variants.{Accepted, Refused}
-use Rattle.words.specs.Tests.{pick}
 use Rattle.io.specs.Digits.{glyph, digits}
 
 -- the decimal digits of n, where it has at most f
 unfoldable pub decimalIn : ℕ → ℕ → List ℕ
 decimalIn zero n = []
-decimalIn (suc f) n = pick (ltb n 10) (glyph n ∷ []) (decimalIn f (n / 10) ++ (glyph (n % 10) ∷ []))
+decimalIn (suc f) n = cond (ltb n 10) (glyph n ∷ []) (decimalIn f (n / 10) ++ (glyph (n % 10) ∷ []))
 
 -- a 64-bit number in decimal
 unfoldable pub decimalOf : ℕ → List ℕ

@@ -1,5 +1,5 @@
 -- Tests on the positions below n: whether one passes, and the row that a test makes with a number. Assumes nothing.
-use mathlib.Core.Bool.{Bool, true, false}
+use mathlib.Core.Bool.{Bool, true, false, cond, _||_}
 use mathlib.Core.List.{List, [], _∷_}
 use mathlib.Core.Path.{_≡_, refl, sym}
 use Prim.Native.Nat.{ℕ, zero, suc, _+_, _<_}
@@ -7,7 +7,6 @@ use native.Mathlib.Decide.{decLt}
 use native.Mathlib.Numerals.{add-one}
 use native.Mathlib.Omega.{arith}
 use borrow.Author.Tests.{eq-eqb, ne-eqb}
-use Rattle.words.specs.Tests.{pick, either}
 use Rattle.words.proofs.Choices.{true-false, either-true}
 use lib.Dec.{eqb}
 use Rattle.answers.specs.declared.Refusal.{Refusal}
@@ -35,7 +34,7 @@ module _ (test : ℕ → Bool) where
   some-hit zero i l e = absurd (omega arith)
   some-hit (suc n) i l e = cases (decLt i n) (λ m. some-hit n i m e)
     where
-      cases : Dec (i < n) → (i < n → someBelow test n ≡ true) → either (someBelow test n) (test n) ≡ true
+      cases : Dec (i < n) → (i < n → someBelow test n ≡ true) → (someBelow test n || test n) ≡ true
       cases (yes m) ih = rw (ih m)
       cases (no m) ih = let same : i ≡ n = omega arith in rw (← same, e) (either-true (someBelow test i))
 
@@ -45,7 +44,7 @@ module _ (test : ℕ → Bool) where
   some-implies zero b h e = absurd (true-false (sym e))
   some-implies (suc n) b h e = cases (someBelow test n) (some-implies n b (λ i l. h i (omega arith))) e
     where
-      cases : (a : Bool) → (a ≡ true → b ≡ true) → either a (test n) ≡ true → b ≡ true
+      cases : (a : Bool) → (a ≡ true → b ≡ true) → (a || test n) ≡ true → b ≡ true
       cases true ih e = ih refl
       cases false ih e = h n (omega arith) e
 
@@ -65,7 +64,7 @@ module _ (test : ℕ → Bool) where
     pub row-fits-none : (n : ℕ) → 0 < number → firstOf (numbered number test) n .number ≡ 0 → (i : ℕ) → i < n → test i ≡ false
     row-fits-none n p h i l = cases (test i) refl (first-none (numbered number test) n h i l)
       where
-        cases : (b : Bool) → test i ≡ b → pick b number 0 ≡ 0 → b ≡ false
+        cases : (b : Bool) → test i ≡ b → cond b number 0 ≡ 0 → b ≡ false
         cases true e z = absurd (omega arith)
         cases false e z = refl
 
@@ -88,11 +87,11 @@ module _ (number : ℕ) (test : ℕ → Bool) (n : ℕ) where
       last f zero = refl
       last f (suc n) = cases (eqb (firstOf f n .number) 0) refl
         where
-          at : (t : Bool) → eqb (f n) 0 ≡ t → pick t passed (refusal (f n) n) ≡ orElse (pick t passed (refusal (f n) n)) passed
+          at : (t : Bool) → eqb (f n) 0 ≡ t → cond t passed (refusal (f n) n) ≡ orElse (cond t passed (refusal (f n) n)) passed
           at true e = refl
           at false e = rw e
 
-          cases : (t : Bool) → eqb (firstOf f n .number) 0 ≡ t → pick t (refusalAt n (f n)) (firstOf f n) ≡ orElse (pick t (refusalAt n (f n)) (firstOf f n)) passed
+          cases : (t : Bool) → eqb (firstOf f n .number) 0 ≡ t → cond t (refusalAt n (f n)) (firstOf f n) ≡ orElse (cond t (refusalAt n (f n)) (firstOf f n)) passed
           cases true e = at (eqb (f n) 0) refl
           cases false e = rw e
 

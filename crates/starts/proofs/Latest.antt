@@ -1,5 +1,5 @@
 -- Rows 8 and 9 by the latest finish of each action: an earlier start of an action is still in hand where its latest one is. Assumes nothing.
-use mathlib.Core.Bool.{Bool, true, false}
+use mathlib.Core.Bool.{Bool, true, false, _&&_}
 use mathlib.Core.List.{List}
 use mathlib.Core.Path.{_≡_, refl, ap, sym, _∙_}
 use Prim.Native.Nat.{ℕ, zero, suc, _+_, _^_, _≤_, _<_}
@@ -9,7 +9,6 @@ use borrow.Author.Tests.{eqb-true, eqb-false, leb-true, ltb-true, ltb-false, le-
 use lib.Dec.{eqb, leb, ltb}
 use lib.ListN.{length, getD, set, replicate, length-set}
 use lib.Seq.{getD-set-same, getD-set-other}
-use Rattle.words.specs.Tests.{both}
 use Rattle.words.specs.Fields.{startMoment, startAction}
 use Rattle.words.proofs.Choices.{is-false, both-true}
 use Rattle.job.specs.Parts.{actions, lastMoment, duration}
@@ -35,7 +34,7 @@ latest-start job starts = record { size = refl; covers = λ j l. absurd (omega a
 module _ (job : List ℕ) (s s' : ℕ) (lasts : 0 < duration job (startAction s')) (first : startMoment s ≤ startMoment s')
     (moment : startMoment s' ≤ lastMoment job) where
   abbrev inBoth : ℕ → Bool
-  inBoth t = both (inHand job t s) (inHand job t s')
+  inBoth t = inHand job t s && inHand job t s'
 
   together-is : together job s s' ≡ ltb (startMoment s') (finish job s)
   unfolding together

@@ -1,5 +1,5 @@
 -- The needs of an action by the bytes of a state. Assumes nothing.
-use mathlib.Core.Bool.{Bool, true, false, not}
+use mathlib.Core.Bool.{Bool, true, false, not, cond, _&&_, _||_}
 use mathlib.Core.List.{List, [], _∷_}
 use mathlib.Core.Path.{_≡_, refl, ap}
 use Prim.Native.Nat.{ℕ, suc, _+_, _<_}
@@ -8,7 +8,6 @@ use borrow.Author.Tests.{eqb-true}
 use lib.Dec.{eqb}
 use lib.ListN.{length, getD, drop, length-drop}
 use lib.Seq.{getD-drop, drop-drop}
-use Rattle.words.specs.Tests.{both, either, pick}
 use Rattle.words.specs.Fields.{ofKind, kind, fails, holds, fluentOf, roleOf}
 use Rattle.words.specs.Scan.{someWord, leading}
 use Rattle.job.specs.Parts.{headWord, fluents, actions, lawsOf}
@@ -26,7 +25,7 @@ any-agree lead test test' [] h = refl
 any-agree lead test test' (w ∷ ws) h = cases (lead w) refl (any-agree lead test test' ws (λ i l e. h (suc i) (omega arith) e))
   where
     cases : (b : Bool) → lead w ≡ b → someWord test (leading lead ws) ≡ someWord test' (leading lead ws)
-        → someWord test (pick b (w ∷ leading lead ws) []) ≡ someWord test' (pick b (w ∷ leading lead ws) [])
+        → someWord test (cond b (w ∷ leading lead ws) []) ≡ someWord test' (cond b (w ∷ leading lead ws) [])
     cases true e ih = rw (h 0 (omega arith) e, ih)
     cases false e ih = refl
 
@@ -51,5 +50,5 @@ module _ {job places : List ℕ} (formed : WellFormed job) (placed : Placed job 
           let inside : getD places a 0 + 1 + i < length job = omega (arith, simp (length-drop) at l) in
           let low : fluentOf (headWord job) w < fluents job =
           rw same (formed .law (getD places a 0 + 1 + i) inside (rw same at (eqb-true (kind w) 4 e))) in
-          ap (λ (v : ℕ). either (both (eqb (roleOf (headWord job) w) 0) (not (eqb v holds))) (both (eqb (roleOf (headWord job) w) 1) (not (eqb v fails))))
+          ap (λ (v : ℕ). (eqb (roleOf (headWord job) w) 0 && not (eqb v holds)) || (eqb (roleOf (headWord job) w) 1 && not (eqb v fails)))
           (at .value (fluentOf (headWord job) w) low)

@@ -1,6 +1,6 @@
 -- The refusal of any starts, of any length, fits the fields of an answer: row 6 fits one of the first 4,097 words, or there are 4,096 at
 -- most. Assumes nothing.
-use mathlib.Core.Bool.{Bool, true, false}
+use mathlib.Core.Bool.{Bool, true, false, cond}
 use mathlib.Core.List.{List, [], _∷_}
 use mathlib.Core.Path.{_≡_, refl}
 use Prim.Native.Nat.{ℕ, zero, suc, _^_, _≤_, _<_}
@@ -8,7 +8,6 @@ use native.Mathlib.Omega.{arith}
 use borrow.Author.Tests.{eqb-true}
 use lib.Dec.{eqb}
 use lib.ListN.{length, getD}
-use Rattle.words.specs.Tests.{pick}
 use Rattle.answers.specs.Rows.{refusalAt, firstOf}
 use Rattle.answers.proofs.Range.{Fitting, pick-fits, refusal-fits, passed-fits, or-fits, first-fits}
 use Rattle.starts.specs.Rows.{wrongWord, endsLate, inHandAlready, clashes, needsUnmet, numbered, rowsRefusal, startsRefusal}
@@ -18,7 +17,7 @@ use Rattle.starts.proofs.Words.{few-words}
 numbered-le : (number : ℕ) (test : ℕ → Bool) → number ≤ 13 → (i : ℕ) → numbered number test i ≤ 13
 numbered-le number test h i = cases (test i)
   where
-    cases : (t : Bool) → pick t number 0 ≤ 13
+    cases : (t : Bool) → cond t number 0 ≤ 13
     cases true = h
     cases false = omega arith
 
@@ -47,7 +46,7 @@ module _ (job starts : List ℕ) (words : (i : ℕ) → getD starts i 0 < 2 ^ 32
       f : ℕ → ℕ
       f = numbered 6 (wrongWord job starts)
 
-      cases : (t : Bool) → eqb (firstOf f n .number) 0 ≡ t → Fitting (firstOf f n) → Fitting (pick t (refusalAt n (f n)) (firstOf f n))
+      cases : (t : Bool) → eqb (firstOf f n .number) 0 ≡ t → Fitting (firstOf f n) → Fitting (cond t (refusalAt n (f n)) (firstOf f n))
       cases true e ih =
           pick-fits (eqb (f n) 0) passed-fits
           (refusal-fits (numbered-le 6 (wrongWord job starts) (omega arith) n) (few n (eqb-true (firstOf f n .number) 0 e)))
@@ -61,7 +60,7 @@ module _ (job starts : List ℕ) (words : (i : ℕ) → getD starts i 0 < 2 ^ 32
       later = (7, endsLate job starts) ∷ (8, inHandAlready job starts) ∷ (9, clashes job starts) ∷ (10, needsUnmet job starts) ∷ []
 
       cases : (t : Bool) → eqb (firstOf (numbered 6 (wrongWord job starts)) (length starts) .number) 0 ≡ t
-          → Fitting (pick t (rowsRefusal later (length starts)) (firstOf (numbered 6 (wrongWord job starts)) (length starts)))
+          → Fitting (cond t (rowsRefusal later (length starts)) (firstOf (numbered 6 (wrongWord job starts)) (length starts)))
       cases true e =
           rows-fit later (length starts) (few (length starts) (eqb-true (firstOf (numbered 6 (wrongWord job starts)) (length starts) .number) 0 e))
           (omega arith, (omega arith, (omega arith, (omega arith, tt))))

@@ -1,11 +1,11 @@
 -- What rows 7 to 10 use of the rows and the starts before: that row 6 fits no word, and until when each action is in hand.
-use mathlib.Core.Bool.{Bool, false}
+use mathlib.Core.Bool.{Bool, false, _&&_}
 use mathlib.Core.List.{List}
 use mathlib.Core.Path.{_≡_}
 use Prim.Native.Nat.{ℕ, _+_, _*_, _<_, _≤_}
 use lib.Dec.{ltb}
 use lib.ListN.{getD, length}
-use Rattle.words.specs.Tests.{both, one}
+use Rattle.words.specs.Tests.{one}
 use Rattle.words.specs.Fields.{startAction}
 use Rattle.job.specs.Parts.{actions}
 use Rattle.facts.specs.Actions.{finish}
@@ -34,4 +34,4 @@ pub record Clashes (job table : List ℕ) : Type 0 where
 
 -- action a, with its latest finish in the table, is in hand after moment u and clashes with action b
 abbrev pub clashesAfter : List ℕ → List ℕ → ℕ → ℕ → ℕ → Bool
-clashesAfter job table b u a = both (ltb u (getD table a 0)) (clash job a b)
+clashesAfter job table b u a = ltb u (getD table a 0) && clash job a b

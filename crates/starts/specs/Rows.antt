@@ -1,10 +1,9 @@
 -- The rows on starts: each is a test on (job, starts, position). `startRows` has them in their order.
-use mathlib.Core.Bool.{Bool, false, not}
+use mathlib.Core.Bool.{Bool, false, not, cond, _&&_, _||_}
 use mathlib.Core.List.{List, [], _∷_}
 use Prim.Native.Nat.{ℕ, zero, suc, _+_, _-_}
 use lib.Dec.{eqb, leb, ltb}
 use lib.ListN.{getD, length}
-use Rattle.words.specs.Tests.{pick, both, either}
 use Rattle.words.specs.Fields.{kind, spare, fails, holds, fluentOf, roleOf, startMoment, startAction}
 use Rattle.words.specs.Scan.{someWord, someBelow}
 use Rattle.answers.specs.declared.Refusal.{Refusal}
@@ -16,14 +15,14 @@ use Rattle.facts.specs.Values.{valueAt}
 -- a word that is a start of the job; above the word before it, if there is one
 abbrev pub isStart : List ℕ → ℕ → Bool
 isStart job s =
-    both (both (both (eqb (kind s) 9) (spare s 27 12)) (leb (startMoment s) (lastMoment job))) (ltb (startAction s) (actions job))
+    eqb (kind s) 9 && spare s 27 12 && leb (startMoment s) (lastMoment job) && ltb (startAction s) (actions job)
 
 abbrev pub ascends : List ℕ → ℕ → Bool
-ascends starts i = either (eqb i 0) (ltb (getD starts (i - 1) 0) (getD starts i 0))
+ascends starts i = eqb i 0 || ltb (getD starts (i - 1) 0) (getD starts i 0)
 
 -- row 6: kind or spare bit wrong, u > n, no such action, or not above the word before
 unfoldable pub wrongWord : List ℕ → List ℕ → ℕ → Bool
-wrongWord job starts i = not (both (isStart job (getD starts i 0)) (ascends starts i))
+wrongWord job starts i = not (isStart job (getD starts i 0) && ascends starts i)
 
 -- row 7: u + d > n
 unfoldable pub endsLate : List ℕ → List ℕ → ℕ → Bool
@@ -32,8 +31,8 @@ endsLate job starts i = ltb (lastMoment job) (finish job (getD starts i 0))
 -- row 8: an earlier start of it at v with v < u < v + d
 abbrev pub restarts : List ℕ → ℕ → ℕ → Bool
 restarts job earlier s =
-    both (eqb (startAction earlier) (startAction s))
-    (both (ltb (startMoment earlier) (startMoment s)) (ltb (startMoment s) (finish job earlier)))
+    eqb (startAction earlier) (startAction s)
+    && (ltb (startMoment earlier) (startMoment s) && ltb (startMoment s) (finish job earlier))
 
 unfoldable pub inHandAlready : List ℕ → List ℕ → ℕ → Bool
 inHandAlready job starts i = someBelow (λ j. restarts job (getD starts j 0) (getD starts i 0)) i
@@ -42,16 +41,16 @@ inHandAlready job starts i = someBelow (λ j. restarts job (getD starts j 0) (ge
 -- true what the other makes false.
 abbrev pub opposed : List ℕ → ℕ → ℕ → ℕ → Bool
 opposed job a b f =
-    either (both (eqb (effect job a f) holds) (eqb (effect job b f) fails)) (both (eqb (effect job a f) fails) (eqb (effect job b f) holds))
+    (eqb (effect job a f) holds && eqb (effect job b f) fails) || (eqb (effect job a f) fails && eqb (effect job b f) holds)
 
 unfoldable pub clash : List ℕ → ℕ → ℕ → Bool
 clash job a b = someBelow (opposed job a b) (fluents job)
 
 unfoldable pub together : List ℕ → ℕ → ℕ → Bool
-together job s s' = someBelow (λ t. both (inHand job t s) (inHand job t s')) (lastMoment job + 1)
+together job s s' = someBelow (λ t. inHand job t s && inHand job t s') (lastMoment job + 1)
 
 abbrev pub clashing : List ℕ → ℕ → ℕ → Bool
-clashing job earlier s = both (together job earlier s) (clash job (startAction earlier) (startAction s))
+clashing job earlier s = together job earlier s && clash job (startAction earlier) (startAction s)
 
 unfoldable pub clashes : List ℕ → List ℕ → ℕ → Bool
 clashes job starts i = someBelow (λ j. clashing job (getD starts j 0) (getD starts i 0)) i
@@ -59,8 +58,8 @@ clashes job starts i = someBelow (λ j. clashing job (getD starts j 0) (getD sta
 -- row 10: needs not known, in the state of its own moment
 abbrev pub unmet : ℕ → (ℕ → ℕ) → ℕ → Bool
 unmet head value w =
-    either (both (eqb (roleOf head w) 0) (not (eqb (value (fluentOf head w)) holds)))
-    (both (eqb (roleOf head w) 1) (not (eqb (value (fluentOf head w)) fails)))
+    (eqb (roleOf head w) 0 && not (eqb (value (fluentOf head w)) holds))
+    || (eqb (roleOf head w) 1 && not (eqb (value (fluentOf head w)) fails))
 
 unfoldable pub needsUnmet : List ℕ → List ℕ → ℕ → Bool
 needsUnmet job starts i =
@@ -78,7 +77,7 @@ startRows job starts =
 
 -- a row's number at each position that it fits
 abbrev pub numbered : ℕ → (ℕ → Bool) → ℕ → ℕ
-numbered number test i = pick (test i) number 0
+numbered number test i = cond (test i) number 0
 
 -- the first row that fits one of n words, at the first such word
 unfoldable pub rowsRefusal : List (ℕ × (ℕ → Bool)) → ℕ → Refusal

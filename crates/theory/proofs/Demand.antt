@@ -1,6 +1,6 @@
 -- Demand 2: a plan passes exactly when no row on its job and starts fits and its facts are those of the rules; the list that fill writes
 -- passes check. Assumes nothing.
-use mathlib.Core.Bool.{Bool, true, false}
+use mathlib.Core.Bool.{Bool, true, false, cond}
 use mathlib.Core.List.{List}
 use mathlib.Core.Logic.{_↔_}
 use mathlib.Core.Path.{_≡_, refl, ap, sym, _∙_}
@@ -10,7 +10,6 @@ use borrow.Author.Tests.{eqb-true}
 use lib.Dec.{eqb}
 use lib.ListN.{length, take}
 use lib.Seq.{take-at, take-length}
-use Rattle.words.specs.Tests.{pick}
 use Rattle.answers.specs.declared.Answer.{Answer}
 use Rattle.answers.specs.declared.Answer.the-variants.{Accepted, Refused}
 use Rattle.answers.specs.Packed.{answerOf}
@@ -33,7 +32,7 @@ module _ (room : ℕ) (job starts : List ℕ) {l c : ℕ} (accepted : fillAnswer
   parts = cases (eqb (fillRefusal room job starts .number) 0) refl accepted
     where
       cases : (t : Bool) → eqb (fillRefusal room job starts .number) 0 ≡ t
-          → pick t (Accepted (length (factsOf job starts)) 0) (Refused (fillRefusal room job starts .number) (fillRefusal room job starts .position) 0) ≡ Accepted l c
+          → cond t (Accepted (length (factsOf job starts)) 0) (Refused (fillRefusal room job starts .number) (fillRefusal room job starts .position) 0) ≡ Accepted l c
           → (fillRefusal room job starts .number ≡ 0) × (l ≡ length (factsOf job starts))
       cases true t e = (eqb-true _ 0 t, cc)
       cases false t e = let z : _≡_ {A = ℕ} 0 1 = cc in absurd (omega arith)

@@ -1,5 +1,5 @@
 -- Laws of the answers: rows one after the other, the comparison of two lists, and words written from the front. Assumes nothing.
-use mathlib.Core.Bool.{Bool, true, false}
+use mathlib.Core.Bool.{Bool, true, false, cond}
 use mathlib.Core.List.{List, [], _∷_, _++_}
 use mathlib.Core.Path.{_≡_, refl, _∙_}
 use Prim.Native.Nat.{ℕ, suc, _+_, _≤_, _<_}
@@ -10,7 +10,6 @@ use borrow.Author.Tests.{eqb-true, eq-eqb, ne-eqb}
 use lib.Dec.{eqb}
 use lib.ListN.{length, getD, take, drop, drop-of-length-le}
 use lib.Seq.{sets, sets-eq, take-at, take-length}
-use Rattle.words.specs.Tests.{pick}
 use Rattle.words.proofs.Scan.{drop-next}
 use Rattle.answers.specs.declared.Refusal.{Refusal}
 use Rattle.answers.specs.Rows.{refusal, passed, orElse}
@@ -65,7 +64,7 @@ passes-equal [] (b ∷ wanted) i e = absurd (omega arith)
 passes-equal (a ∷ given) [] i e = absurd (omega arith)
 passes-equal (a ∷ given) (b ∷ wanted) i e = cases (eqb a b) refl e (passes-equal given wanted (suc i))
   where
-    cases : (t : Bool) → eqb a b ≡ t → pick t (factsRefusal given wanted (suc i)) (refusal 11 i) .number ≡ 0
+    cases : (t : Bool) → eqb a b ≡ t → cond t (factsRefusal given wanted (suc i)) (refusal 11 i) .number ≡ 0
         → (factsRefusal given wanted (suc i) .number ≡ 0 → given ≡ wanted) → a ∷ given ≡ b ∷ wanted
     cases true t e ih = rw (eqb-true a b t, ih e)
     cases false t e ih = absurd (omega arith)

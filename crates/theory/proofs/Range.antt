@@ -1,5 +1,5 @@
 -- Whatever the lists of 32-bit words, of any length, the answers of check and fill fit their fields. Assumes nothing.
-use mathlib.Core.Bool.{Bool, true, false}
+use mathlib.Core.Bool.{Bool, true, false, cond}
 use mathlib.Core.List.{List, [], _∷_}
 use mathlib.Core.Path.{_≡_, refl}
 use Prim.Native.Nat.{ℕ, suc, _+_, _^_, _≤_, _<_}
@@ -7,7 +7,6 @@ use native.Mathlib.Omega.{arith}
 use borrow.Author.Tests.{eqb-true}
 use lib.Dec.{eqb, ltb}
 use lib.ListN.{length, getD}
-use Rattle.words.specs.Tests.{pick}
 use Rattle.answers.specs.declared.Refusal.{Refusal}
 use Rattle.answers.specs.declared.Answer.the-variants.{Accepted, Refused}
 use Rattle.answers.specs.Rows.{orElse}
@@ -27,7 +26,7 @@ use Rattle.theory.specs.Answers.{bufferRefusal, planRefusal, factsRefusa
 next-fits : (a b : Refusal) → Fitting a → (a .number ≡ 0 → Fitting b) → Fitting (orElse a b)
 next-fits a b h l = cases (eqb (a .number) 0) refl
   where
-    cases : (t : Bool) → eqb (a .number) 0 ≡ t → Fitting (pick t b a)
+    cases : (t : Bool) → eqb (a .number) 0 ≡ t → Fitting (cond t b a)
     cases true e = l (eqb-true (a .number) 0 e)
     cases false e = h
 
@@ -42,7 +41,7 @@ differ-fits (a ∷ given) (b ∷ wanted) i l = pick-fits (eqb a b) (differ-fits 
 length-fits : (r : Refusal) (l : ℕ) → Fitting r → (r .number ≡ 0 → l ≤ 4096) → InRange (answerOf r l 0)
 length-fits r l h few = cases (eqb (r .number) 0) refl
   where
-    cases : (t : Bool) → eqb (r .number) 0 ≡ t → InRange (pick t (Accepted l 0) (Refused (r .number) (r .position) 0))
+    cases : (t : Bool) → eqb (r .number) 0 ≡ t → InRange (cond t (Accepted l 0) (Refused (r .number) (r .position) 0))
     cases true e = omega (arith, few (eqb-true (r .number) 0 e))
     cases false e = omega (arith, h)
 

@@ -1,5 +1,5 @@
 -- The moments at which each action starts, one start after the other. Assumes nothing.
-use mathlib.Core.Bool.{Bool, true, false, _||_}
+use mathlib.Core.Bool.{Bool, true, false, _||_, _&&_}
 use mathlib.Core.List.{List}
 use mathlib.Core.Logic.{_⊎_, inl, inr}
 use mathlib.Core.Path.{_≡_, refl, sym, ap, _∙_}
@@ -11,7 +11,6 @@ use lib.ListN.{length, getD, drop, set, replicate, length-set, getD-replicate}
 use lib.Seq.{getD-set-same, getD-set-other}
 use Rattle.bitset.specs.Members.{has, Holds}
 use Rattle.bitset.proofs.Laws.{has-zero}
-use Rattle.words.specs.Tests.{both, either}
 use Rattle.words.specs.Fields.{startMoment, startAction}
 use Rattle.words.specs.Scan.{someWord}
 use Rattle.words.proofs.Scan.{drop-next, any-end}
@@ -40,7 +39,7 @@ started-more {starts} {i} {j} {sets} {x} {u} single sum m next l ex eu one joine
   start = λ a t h. rw (drop-next starts i l, ← next, ← (m .start a t h), ← ex, ← eu) (cases a t (same-or-not x a));
 }
   where
-    cases : (a t : ℕ) → (x ≡ a) ⊎ (x ≡ a → ⊥) → has (getD (set sets x sum) a 0) t ≡ either (both (eqb x a) (eqb u t)) (has (getD sets a 0) t)
+    cases : (a t : ℕ) → (x ≡ a) ⊎ (x ≡ a → ⊥) → has (getD (set sets x sum) a 0) t ≡ ((eqb x a && eqb u t) || has (getD sets a 0) t)
     cases a t (inl e) =
         rw (← e, getD-set-same sets x sum 0 (omega (arith, m .long)), joined t, one t, eq-eqb x x refl, eqb-swap t u)
         (either-or (has (getD sets x 0) t) (eqb u t))

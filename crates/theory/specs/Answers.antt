@@ -1,10 +1,10 @@
 -- The answers of check and fill for any lists of words, row by row, and what fill leaves in the lent buffer.
+use mathlib.Core.Bool.{cond}
 use mathlib.Core.List.{List, [], _∷_, _++_}
 use mathlib.Core.Path.{_≡_}
 use Prim.Native.Nat.{ℕ, suc}
 use lib.Dec.{eqb, ltb}
 use lib.ListN.{length, take, drop}
-use Rattle.words.specs.Tests.{pick}
 use Rattle.answers.specs.declared.Refusal.{Refusal}
 use Rattle.answers.specs.declared.Answer.{Answer}
 use Rattle.answers.specs.declared.Answer.the-variants.{Accepted, Refused}
@@ -27,7 +27,7 @@ unfoldable pub factsRefusal : List ℕ → List ℕ → ℕ → Refusal
 factsRefusal [] [] i = passed
 factsRefusal [] (b ∷ ys) i = refusal 11 i
 factsRefusal (a ∷ xs) [] i = refusal 11 i
-factsRefusal (a ∷ xs) (b ∷ ys) i = pick (eqb a b) (factsRefusal xs ys (suc i)) (refusal 11 i)
+factsRefusal (a ∷ xs) (b ∷ ys) i = cond (eqb a b) (factsRefusal xs ys (suc i)) (refusal 11 i)
 
 -- check runs rows 1 to 11, fill rows 12 and 1 to 10
 unfoldable pub checkRefusal : List ℕ → List ℕ → List ℕ → Refusal

@@ -1,9 +1,8 @@
 -- The trajectory of a job and a plan's starts.
 use Prim.Native.Nat.{ℕ}
-use mathlib.Core.Bool.{Bool}
+use mathlib.Core.Bool.{Bool, _&&_}
 use mathlib.Core.List.{List}
 use lib.Dec.{eqb}
-use Rattle.words.specs.Tests.{both}
 use Rattle.words.specs.Fields.{startMoment, startAction}
 use Rattle.words.specs.Scan.{someWord}
 use Rattle.promise.specs.Trajectory.{Trajectory}
@@ -13,7 +12,7 @@ use Rattle.formulas.specs.Values.{andTable, orTable, formulaAt}
 
 -- a start word is of action a at moment t
 abbrev pub isStartOf : ℕ → ℕ → ℕ → Bool
-isStartOf a t s = both (eqb (startAction s) a) (eqb (startMoment s) t)
+isStartOf a t s = eqb (startAction s) a && eqb (startMoment s) t
 
 unfoldable pub trajectoryOf : List ℕ → List ℕ → Trajectory
 trajectoryOf job starts = record {

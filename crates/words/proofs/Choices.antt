@@ -1,12 +1,12 @@
 -- What tests put together say. Assumes nothing.
-use mathlib.Core.Bool.{Bool, true, false, not, _||_}
+use mathlib.Core.Bool.{Bool, true, false, not, _||_, cond, _&&_}
 use mathlib.Core.Logic.{_⊎_, inl, inr}
 use mathlib.Core.Path.{_≡_, refl, ap, sym}
 use Prim.Native.Nat.{ℕ, _≤_}
 use native.Mathlib.Omega.{arith}
 use borrow.Author.Tests.{leb-true, le-leb, eqb-true, eqb-false, ne-eqb}
 use lib.Dec.{eqb, leb}
-use Rattle.words.specs.Tests.{pick, both, either, implies, one, within}
+use Rattle.words.specs.Tests.{implies, one, within}
 
 pub true-false : true ≡ false → ⊥
 true-false e = let z : _≡_ {A = ℕ} 1 0 = ap one e in omega arith
@@ -15,11 +15,11 @@ pub is-false : (b : Bool) → (b ≡ true → ⊥) → b ≡ false
 is-false true h = absurd (h refl)
 is-false false h = refl
 
-pub both-true : (a b : Bool) → both a b ≡ true → (a ≡ true) × (b ≡ true)
+pub both-true : (a b : Bool) → (a && b) ≡ true → (a ≡ true) × (b ≡ true)
 both-true true b e = (refl, e)
 both-true false b e = absurd (true-false (sym e))
 
-pub either-true : (a : Bool) → either a true ≡ true
+pub either-true : (a : Bool) → (a || true) ≡ true
 either-true true = refl
 either-true false = refl
 
@@ -27,7 +27,7 @@ pub implies-true : (a b : Bool) → implies a b ≡ true → a ≡ true → b �
 implies-true true b h e = h
 implies-true false b h e = absurd (true-false (sym e))
 
-pub pick-same : (t : Bool) (n : ℕ) → pick t n n ≡ n
+pub pick-same : (t : Bool) (n : ℕ) → cond t n n ≡ n
 pick-same true n = refl
 pick-same false n = refl
 
@@ -42,7 +42,7 @@ module _ (low high n : ℕ) where
   pub true-within : low ≤ n → n ≤ high → within low high n ≡ true
   true-within l h = rw (le-leb low n l, le-leb n high h)
 
-pub either-or : (a b : Bool) → (a || b) ≡ either b a
+pub either-or : (a b : Bool) → (a || b) ≡ (b || a)
 either-or true true = refl
 either-or true false = refl
 either-or false true = refl

@@ -1,6 +1,6 @@
 -- What the first word that passes a test gives, and its law along a list: at position i the test passes, fails, or the list is at its end.
 -- Assumes nothing.
-use mathlib.Core.Bool.{Bool, true, false}
+use mathlib.Core.Bool.{Bool, true, false, cond}
 use mathlib.Core.List.{List, [], _∷_}
 use mathlib.Core.Logic.{by-cases}
 use mathlib.Core.Path.{_≡_, refl, ap}
@@ -10,7 +10,6 @@ use native.Mathlib.Decide.{decLt}
 use native.Mathlib.Omega.{arith}
 use lib.ListN.{length, getD, take, drop, drop-of-length-le}
 use lib.Seq.{drop-cons}
-use Rattle.words.specs.Tests.{pick, either}
 use Rattle.words.specs.Scan.{someWord, firstGives, leading, beyond}
 
 module _ (ws : List ℕ) (i : ℕ) where
@@ -93,9 +92,9 @@ module _ (test : ℕ → Bool) where
       Entry : List ℕ → ℕ → Type 0
       Entry l i = (getD l i 0 ≡ getD (w ∷ ws) i 0) × (test (getD (w ∷ ws) i 0) ≡ true) × (i < suc (length ws))
 
-      cases : (t : Bool) → test w ≡ t → (i : ℕ) → i < length (pick t (w ∷ leading test ws) [])
+      cases : (t : Bool) → test w ≡ t → (i : ℕ) → i < length (cond t (w ∷ leading test ws) [])
           → ((i : ℕ) → i < length (leading test ws) → (getD (leading test ws) i 0 ≡ getD ws i 0) × (test (getD ws i 0) ≡ true) × (i < length ws))
-          → Entry (pick t (w ∷ leading test ws) []) i
+          → Entry (cond t (w ∷ leading test ws) []) i
       cases false e i l ih = absurd (omega arith)
       cases true e zero l ih = (refl, e, omega arith)
       cases true e (suc i) l ih = let r = ih i (omega arith) in (r .0, r .1, omega (arith, r .2))
@@ -106,9 +105,9 @@ module _ (test : ℕ → Bool) where
   leading-stop [] h = absurd (omega arith)
   leading-stop (w ∷ ws) h = cases (test w) refl h (leading-stop ws)
     where
-      cases : (t : Bool) → test w ≡ t → length (pick t (w ∷ leading test ws) []) < suc (length ws)
+      cases : (t : Bool) → test w ≡ t → length (cond t (w ∷ leading test ws) []) < suc (length ws)
           → (length (leading test ws) < length ws → test (getD ws (length (leading test ws)) 0) ≡ false)
-          → test (getD (w ∷ ws) (length (pick t (w ∷ leading test ws) [])) 0) ≡ false
+          → test (getD (w ∷ ws) (length (cond t (w ∷ leading test ws) [])) 0) ≡ false
       cases false e l ih = e
       cases true e l ih = ih (omega arith)
 
@@ -119,7 +118,7 @@ module _ (test : ℕ → Bool) where
   beyond-drop (w ∷ ws) = cases (test w) (beyond-drop ws)
     where
       cases : (t : Bool) → beyond test ws ≡ drop (length (leading test ws)) ws
-          → pick t (beyond test ws) (w ∷ ws) ≡ drop (length (pick t (w ∷ leading test ws) [])) (w ∷ ws)
+          → cond t (beyond test ws) (w ∷ ws) ≡ drop (length (cond t (w ∷ leading test ws) [])) (w ∷ ws)
       cases false ih = refl
       cases true ih = ih
 
@@ -130,7 +129,7 @@ module _ (test : ℕ → Bool) where
   leading-take (w ∷ ws) = cases (test w) (leading-take ws)
     where
       cases : (t : Bool) → take (length (leading test ws)) ws ≡ leading test ws
-          → take (length (pick t (w ∷ leading test ws) [])) (w ∷ ws) ≡ pick t (w ∷ leading test ws) []
+          → take (length (cond t (w ∷ leading test ws) [])) (w ∷ ws) ≡ cond t (w ∷ leading test ws) []
       cases false ih = refl
       cases true ih = ap (λ (l : List ℕ). w ∷ l) ih
 

@@ -1,8 +1,7 @@
 -- The fields of the words, each said here alone. A field that may stand elsewhere in the jobs of another head takes the head.
-use mathlib.Core.Bool.{Bool}
+use mathlib.Core.Bool.{Bool, cond, _&&_}
 use Prim.Native.Nat.{ℕ, _+_, _-_, _*_, _/_, _%_, _^_}
 use lib.Dec.{eqb, leb}
-use Rattle.words.specs.Tests.{pick, both}
 
 -- bits hi..lo of a word
 abbrev pub field : ℕ → ℕ → ℕ → ℕ
@@ -48,7 +47,7 @@ fluentOf head w = field w 5 0
 
 -- kind 2: the value, and the bits that it leaves spare
 abbrev pub knownValue : ℕ → ℕ → ℕ
-knownValue head w = pick (eqb (field w 6 6) 0) holds fails
+knownValue head w = cond (eqb (field w 6 6) 0) holds fails
 
 abbrev pub knownSpare : ℕ → ℕ → Bool
 knownSpare head w = spare w 27 7
@@ -73,7 +72,7 @@ abbrev pub makes : ℕ → Bool
 makes role = leb 2 role
 
 abbrev pub madeValue : ℕ → ℕ
-madeValue role = pick (eqb role 2) holds fails
+madeValue role = cond (eqb role 2) holds fails
 
 -- kind 5, formula: X and Y; of form 1 the fluent, and the bits that it leaves spare
 abbrev pub formulaX : ℕ → ℕ
@@ -86,7 +85,7 @@ abbrev pub atomFluent : ℕ → ℕ → ℕ
 atomFluent head w = field w 11 6
 
 abbrev pub atomSpare : ℕ → ℕ → Bool
-atomSpare head w = both (spare w 23 12) (spare w 5 0)
+atomSpare head w = spare w 23 12 && spare w 5 0
 
 -- kind 6, node: X, Y, M, N
 abbrev pub nodeX : ℕ → ℕ
@@ -103,7 +102,7 @@ nodeN w = field w 5 0
 
 -- a node of form 8, a task set
 abbrev pub isSet : ℕ → Bool
-isSet w = both (eqb (kind w) 6) (eqb (form w) 8)
+isSet w = eqb (kind w) 6 && eqb (form w) 8
 
 -- kind 7, member: its node
 abbrev pub memberNode : ℕ → ℕ
@@ -134,7 +133,7 @@ startAction s = field s 5 0
 
 -- kind 10, fact: the word that fluent f has a value, other than open, at moment t
 abbrev pub factWord : ℕ → ℕ → ℕ → ℕ → ℕ
-factWord head t f value = 10 * 2 ^ 28 + t * 2 ^ 7 + f * 2 + pick (eqb value holds) 0 1
+factWord head t f value = 10 * 2 ^ 28 + t * 2 ^ 7 + f * 2 + cond (eqb value holds) 0 1
 
 -- kind 11, a word of a reading: node p from b to e
 abbrev pub readingWord : ℕ → ℕ → ℕ → ℕ

@@ -1,8 +1,8 @@
 // The fields of the words, each read here alone, by the definitions of specs/Fields.antt.
+ghost use mathlib.Core.Bool.{cond};
 ghost use mathlib.Core.Path.{_≡_};
 ghost use Prim.Native.Nat.{_<_, _≤_};
 ghost use lib.ListN.{length, drop};
-ghost use Rattle.words.specs.Tests.{pick};
 ghost use Rattle.words.specs.Fields.{kind, ofKind, form, fluentsOf, actionsOf, lastOf, fluentOf, knownSpare, lawSpare, knownValue, durationOf, roleOf, makes, madeValue, formulaX, formulaY, atomFluent, atomSpare, nodeX, nodeY, nodeM, nodeN, memberNode, conditionFormula, conditionI, conditionJ, conditionM, conditionN, startMoment, startAction, factWord, readingWord};
 ghost use Rattle.words.specs.Scan.{leading};
 
@@ -103,7 +103,7 @@ pub fn made_value(role: u32) -> u8
 }
 
 fn holds_or_fails(t: bool) -> u8
-    ensures { λ r. ⌜ r ≡ pick t 2 0 ⌝ }
+    ensures { λ r. ⌜ r ≡ cond t 2 0 ⌝ }
 {
     if t { 2 } else { 0 }
 }
