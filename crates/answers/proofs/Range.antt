@@ -7,7 +7,7 @@ use lib.Dec.{eqb}
 use Rattle.answers.specs.declared.Refusal.{Refusal}
 use Rattle.answers.specs.declared.Answer.{Answer}
 use Rattle.answers.specs.declared.Answer.the-variants.{Accepted, Refused}
-use Rattle.answers.specs.Rows.{refusal, passed, row, orElse, refusalAt, firstOf}
+use Rattle.answers.specs.Rows.{refusal, passed, row, firstRefusal, refusalAt, firstOf}
 use Rattle.answers.specs.Packed.{answerOf, InRange}
 
 -- the document's numbers are at most 13; lists have at most 4,096 words before a refusal
@@ -25,7 +25,7 @@ refusal-fits h l = record { number = h; position = l }
 pub passed-fits : Fitting passed
 passed-fits = record { number = omega arith; position = omega arith }
 
-pub or-fits : (a b : Refusal) → Fitting a → Fitting b → Fitting (orElse a b)
+pub or-fits : (a b : Refusal) → Fitting a → Fitting b → Fitting (firstRefusal a b)
 or-fits a b h l = pick-fits (eqb (a .number) 0) l h
 
 pub row-fits : (t : Bool) (n p : ℕ) → n ≤ 13 → p ≤ 4096 → Fitting (row t n p)

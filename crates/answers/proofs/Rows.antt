@@ -7,7 +7,7 @@ use native.Mathlib.Numerals.{add-one}
 use native.Mathlib.Omega.{arith}
 use lib.Dec.{eqb}
 use borrow.Author.Tests.{ne-eqb, eqb-true, eqb-false}
-use Rattle.answers.specs.Rows.{refusal, passed, row, orElse, refusalAt, firstOf}
+use Rattle.answers.specs.Rows.{refusal, passed, row, firstRefusal, refusalAt, firstOf}
 use Rattle.answers.specs.declared.Refusal.{Refusal}
 
 at-number : (i n : ℕ) → refusalAt i n .number ≡ n
@@ -18,7 +18,7 @@ at-number i n = go (eqb n 0) refl
     go false e = refl
 
 -- where neither of two rows fits, neither has a number
-pub or-none : (a b : Refusal) → orElse a b .number ≡ 0 → (a .number ≡ 0) × (b .number ≡ 0)
+pub or-none : (a b : Refusal) → firstRefusal a b .number ≡ 0 → (a .number ≡ 0) × (b .number ≡ 0)
 or-none a b = go (eqb (a .number) 0) refl
   where
     go : (t : Bool) → eqb (a .number) 0 ≡ t → cond t b a .number ≡ 0 → (a .number ≡ 0) × (b .number ≡ 0)
@@ -35,7 +35,7 @@ module _ (f : ℕ → ℕ) where
   unfolding firstOf
   first-start = refl
 
-  first-suc : (i : ℕ) → firstOf f (suc i) ≡ orElse (firstOf f i) (refusalAt i (f i))
+  first-suc : (i : ℕ) → firstOf f (suc i) ≡ firstRefusal (firstOf f i) (refusalAt i (f i))
   unfolding firstOf
   first-suc i = refl
 

@@ -15,8 +15,8 @@ abbrev pub row : Bool → ℕ → ℕ → Refusal
 row fits number position = cond fits (refusal number position) passed
 
 -- the first of two rows that fits
-abbrev pub orElse : Refusal → Refusal → Refusal
-orElse a b = cond (eqb (a .number) 0) b a
+abbrev pub firstRefusal : Refusal → Refusal → Refusal
+firstRefusal a b = cond (eqb (a .number) 0) b a
 
 -- a number at a position, where it is one
 abbrev pub refusalAt : ℕ → ℕ → Refusal
@@ -25,4 +25,4 @@ refusalAt position number = cond (eqb number 0) passed (refusal number position)
 -- the number of the first place below n that has one
 unfoldable pub firstOf : (ℕ → ℕ) → ℕ → Refusal
 firstOf f zero = passed
-firstOf f (suc i) = orElse (firstOf f i) (refusalAt i (f i))
+firstOf f (suc i) = firstRefusal (firstOf f i) (refusalAt i (f i))

@@ -1,7 +1,7 @@
 // The answer of a call: rows of refusals one after the other, and the 64-bit number by which the host in C gets it.
 ghost use mathlib.Core.Path.{_≡_};
 ghost use Prim.Native.Nat.{_^_, _<_};
-ghost use Rattle.answers.specs.Rows.{row, orElse};
+ghost use Rattle.answers.specs.Rows.{row, firstRefusal};
 ghost use Rattle.answers.specs.Packed.{answerOf, InRange, packed, fields};
 
 // A refusal's number and position; 0 and 0 for none.
@@ -37,8 +37,8 @@ pub fn row_of(fits: bool, number: u32, position: usize) -> Refusal
     }
 }
 
-pub fn or_else(a: Refusal, b: Refusal) -> Refusal
-    ensures { λ r. ⌜ r ≡ orElse a b ⌝ }
+pub fn first_refusal(a: Refusal, b: Refusal) -> Refusal
+    ensures { λ r. ⌜ r ≡ firstRefusal a b ⌝ }
 {
     if a.number == 0 { b } else { a }
 }

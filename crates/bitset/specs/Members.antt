@@ -5,7 +5,7 @@ use Prim.Native.Nat.{ℕ, zero, suc, _+_, _/_, _%_, _^_, _≤_, _<_, max}
 use mathlib.Core.List.{List}
 use lib.ListN.{length, getD}
 use lib.Dec.{eqb}
-use Rattle.words.specs.Tests.{one}
+use Rattle.words.specs.Tests.{indicator}
 use Rattle.bitset.specs.declared.Member.{Member}
 use Rattle.bitset.specs.declared.Member.the-variants.{At, Nothing}
 
@@ -18,13 +18,13 @@ abbrev pub Holds : ℕ → (ℕ → Bool) → Type 0
 Holds x p = (k : ℕ) → has x k ≡ p k
 
 -- how many k below n pass the test p
-unfoldable pub count : (ℕ → Bool) → ℕ → ℕ
-count p zero = zero
-count p (suc n) = count p n + one (p n)
+unfoldable pub countBelow : (ℕ → Bool) → ℕ → ℕ
+countBelow p zero = zero
+countBelow p (suc n) = countBelow p n + indicator (p n)
 
 -- how many members a u64 has
-abbrev pub size : ℕ → ℕ
-size x = count (has x) 64
+abbrev pub popCount : ℕ → ℕ
+popCount x = countBelow (has x) 64
 
 -- m is the lowest member of x
 pub record Lowest (x m : ℕ) : Type 0 where
@@ -35,7 +35,7 @@ pub record Lowest (x m : ℕ) : Type 0 where
 -- r has the members of x but the lowest, and so one fewer
 pub record Dropped (x r : ℕ) : Type 0 where
   pub rest : (m : ℕ) → Lowest x m → Holds r (λ k. has x k && not (eqb k m))
-  pub fewer : size r + 1 ≡ size x
+  pub fewer : popCount r + 1 ≡ popCount x
 
 -- m is the highest member of x that is at most e
 pub record Highest (x e m : ℕ) : Type 0 where
@@ -63,14 +63,14 @@ pub record Joined (x : ℕ) (rows : List ℕ) (base k : ℕ) : Type 0 where
   pub in-row : has (getD rows (base + m) 0) k ≡ true
 
 -- f 0 + .. + f (n - 1)
-unfoldable pub sum : (ℕ → ℕ) → ℕ → ℕ
-sum f zero = zero
-sum f (suc n) = sum f n + f n
+unfoldable pub sumBelow : (ℕ → ℕ) → ℕ → ℕ
+sumBelow f zero = zero
+sumBelow f (suc n) = sumBelow f n + f n
 
 -- how many pairs (i, e) there are with e a member, below 64, of row i
 unfoldable pub pairs : List ℕ → ℕ
-unfolding sum
-pairs rows = sum (λ i. size (getD rows i 0)) (length rows)
+unfolding sumBelow
+pairs rows = sumBelow (λ i. popCount (getD rows i 0)) (length rows)
 
 -- membership as a record: antt then reads the set and the number off a statement
 pub record In (x e : ℕ) : Type 0 where

@@ -2,10 +2,10 @@
 use mathlib.Core.Bool.{true}
 use mathlib.Core.Path.{_≡_, refl}
 use Rattle.answers.specs.Rows.{firstOf}
-use Rattle.words.specs.Scan.{someWord, firstGives, leading, beyond, fromNumber, someBelow, joined}
-use Rattle.job.specs.Before.{before, last, countOfKind, since, latest, named}
+use Rattle.words.specs.Scan.{any, findOr, takeWhile, dropWhile, fromNth, anyBelow, concatBelow}
+use Rattle.job.specs.Before.{before, previous, countOfKind, since, latest, named}
 use Rattle.job.specs.Parts.{duration, lawsOf, formulaWord, nodeWord, memberWords, conditionWords}
-use Rattle.job.specs.Rules.{grade}
+use Rattle.job.specs.Rules.{wordRefusalOf}
 use Rattle.job.specs.Refusal.{wordRefusal, refusalOf, nameRefusal, endRefusal, jobRefusal}
 use Rattle.facts.specs.Actions.{effect}
 use Rattle.facts.specs.Values.{initially, nextValue, valueAt}
@@ -19,5 +19,5 @@ use Rattle.reading.specs.Decision.{some, each, placingb, tried, setb, ruleb, re
 use Rattle.cases.specs.Cases.{table, decided, listed, distinct, sound, complete, exactly, fits, rooted, wordsAs, wordsFor, worded, answers, passes, all}
 
 pub computed : all table ≡ true
-unfolding firstOf someWord firstGives leading beyond fromNumber someBelow before last countOfKind since latest named duration lawsOf formulaWord nodeWord memberWords conditionWords grade wordRefusal refusalOf nameRefusal endRefusal jobRefusal effect initially nextValue valueAt joined factsAt factsOf formValue formulaBelow formulaAt wrongWord endsLate inHandAlready clash together clashes needsUnmet rowsRefusal startsRefusal planRefusal factsRefusal checkRefusal trajectoryOf procedureOf some each placingb tried setb ruleb reads decided listed distinct sound complete exactly fits rooted wordsAs wordsFor worded answers passes all
+unfolding firstOf any findOr takeWhile dropWhile fromNth anyBelow before previous countOfKind since latest named duration lawsOf formulaWord nodeWord memberWords conditionWords wordRefusalOf wordRefusal refusalOf nameRefusal endRefusal jobRefusal effect initially nextValue valueAt concatBelow factsAt factsOf formValue formulaBelow formulaAt wrongWord endsLate inHandAlready clash together clashes needsUnmet rowsRefusal startsRefusal planRefusal factsRefusal checkRefusal trajectoryOf procedureOf some each placingb tried setb ruleb reads decided listed distinct sound complete exactly fits rooted wordsAs wordsFor worded answers passes all
 computed = refl

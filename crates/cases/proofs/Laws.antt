@@ -20,7 +20,7 @@ use Rattle.starts.specs.Rows.{startsRefusal}
 use Rattle.theory.specs.Answers.{planRefusal, factsRefusal, checkRefusal}
 use Rattle.theory.specs.Trajectory.{trajectoryOf}
 use Rattle.theory.specs.Procedure.{procedureOf}
-use Rattle.reading.specs.Reading.{Ends}
+use Rattle.reading.specs.Reading.{HasReading}
 use Rattle.reading.specs.Count.{Triple, Distinct, none, more, Read}
 use Rattle.reading.specs.Decision.{each}
 use Rattle.reading.proofs.Decides.{Tells, and-law, or-law, eq-law, le-law, each-law, decides}
@@ -60,7 +60,7 @@ distinct-law (r ∷ rs) h = let (a, b) = both (not (listed r rs)) (distinct rs) 
 -- ---- a job that is well formed: the test tells the readings, and the listed triples are those that have one
 
 module _ (job starts : List ℕ) (ok : jobRefusal job .number ≡ 0) where
-  decided-law : {p b e : ℕ} → p < nodeCount job → b ≤ lastMoment job → Tells (decided job starts p b e) (Ends (procedureOf job) (trajectoryOf job starts) p b e)
+  decided-law : {p b e : ℕ} → p < nodeCount job → b ≤ lastMoment job → Tells (decided job starts p b e) (HasReading (procedureOf job) (trajectoryOf job starts) p b e)
   unfolding decided procedureOf trajectoryOf
   decided-law {p} {b} {e} h l =
       let w = well-formed job ok in
@@ -93,7 +93,7 @@ module _ (job starts : List ℕ) (ok : jobRefusal job .number ≡ 0) where
       let (c, d) = both (sound job starts rs) (complete job starts rs) b in
       record { triples = rs; distinct = distinct-law rs a; exact = λ s. (sound-law rs c s, complete-law rs d s); many = refl }
 
-  root-law : Tells (rooted job starts) (Ends (procedureOf job) (trajectoryOf job starts) (nodeCount job - 1) 0 (lastMoment job))
+  root-law : Tells (rooted job starts) (HasReading (procedureOf job) (trajectoryOf job starts) (nodeCount job - 1) 0 (lastMoment job))
   unfolding rooted
   root-law = decided-law (omega (arith, well-formed job ok .some-nodes)) (omega arith)
 

@@ -12,7 +12,7 @@ use lib.Dec.{eqb}
 use lib.ListN.{length, getD, length-append}
 use borrow.Author.Tests.{eq-eqb, ne-eqb}
 use Rattle.sets.specs.Ends.{InTable}
-use Rattle.words.specs.Scan.{joined}
+use Rattle.words.specs.Scan.{concatBelow}
 use Rattle.words.specs.Fields.{readingWord}
 use Rattle.words.proofs.Choices.{true-false}
 use Rattle.promise.specs.Trajectory.{Trajectory}
@@ -82,20 +82,20 @@ holds-at l (pass t g y s) m us vs h x r = pass t h x r
 pub record Done (P : Procedure) (T : Trajectory) (r : Parts) (i : ℕ) (ws : List ℕ) : Type 0 where
   pub lists : ℕ → List ℕ
   pub reads : (j : ℕ) → j < i → Reading P T whole (nodeOf r j) (beginOf r j) (endOf r j) (lists j)
-  pub words : ws ≡ joined lists i
+  pub words : ws ≡ concatBelow lists i
 
-joined-cong : (us vs : ℕ → List ℕ) (k : ℕ) → ((j : ℕ) → j < k → us j ≡ vs j) → joined us k ≡ joined vs k
-unfolding joined
+joined-cong : (us vs : ℕ → List ℕ) (k : ℕ) → ((j : ℕ) → j < k → us j ≡ vs j) → concatBelow us k ≡ concatBelow vs k
+unfolding concatBelow
 joined-cong us vs zero h = refl
 joined-cong us vs (suc k) h = ap₂ _++_ (joined-cong us vs k (λ j l. h j (omega arith))) (h k (omega arith))
 
 module _ {P : Procedure} {T : Trajectory} {r : Parts} where
   pub done-none : Done P T r 0 []
-  unfolding joined
+  unfolding concatBelow
   done-none = record { lists = λ j. []; reads = λ j l. absurd (omega arith); words = refl }
 
   pub done-more : {i : ℕ} {ws us : List ℕ} → Done P T r i ws → Reading P T whole (nodeOf r i) (beginOf r i) (endOf r i) us → Done P T r (i + 1) (ws ++ us)
-  unfolding joined
+  unfolding concatBelow
   done-more {i} {ws} {us} d x =
       record {
         lists = λ j. cond (eqb j i) us (d .lists j);

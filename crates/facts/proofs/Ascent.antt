@@ -6,7 +6,7 @@ use native.Mathlib.Nat.{le-refl, le-trans}
 use native.Mathlib.Omega.{arith}
 use lib.Dec.{eqb}
 use lib.ListN.{length, getD}
-use Rattle.words.specs.Scan.{joined}
+use Rattle.words.specs.Scan.{concatBelow}
 use Rattle.words.specs.Fields.{unknown, holds}
 use Rattle.job.specs.Parts.{headWord, fluents, lastMoment}
 use Rattle.job.specs.WellFormed.{WellFormed}
@@ -31,8 +31,8 @@ climbs-append : {low mid high : ℕ} {xs ys : List ℕ} → Climbs low xs mid �
 climbs-append (done h) d = from-lower h d
 climbs-append (next h c) d = next h (climbs-append c d)
 
-climbs-gather : (bound : ℕ → ℕ) (g : ℕ → List ℕ) (n : ℕ) → ((i : ℕ) → i < n → Climbs (bound i) (g i) (bound (suc i))) → Climbs (bound 0) (joined g n) (bound n)
-unfolding joined
+climbs-gather : (bound : ℕ → ℕ) (g : ℕ → List ℕ) (n : ℕ) → ((i : ℕ) → i < n → Climbs (bound i) (g i) (bound (suc i))) → Climbs (bound 0) (concatBelow g n) (bound n)
+unfolding concatBelow
 climbs-gather bound g zero h = done (le-refl (bound 0))
 climbs-gather bound g (suc n) h = climbs-append (climbs-gather bound g n (λ i l. h i (omega arith))) (h n (omega arith))
 

@@ -9,7 +9,7 @@ use native.Mathlib.Omega.{arith}
 use lib.Dec.{eqb}
 use lib.ListN.{length, getD, set, length-append}
 use lib.Seq.{sets, length-sets}
-use Rattle.words.specs.Scan.{joined}
+use Rattle.words.specs.Scan.{concatBelow}
 use Rattle.words.specs.Fields.{unknown, factWord}
 use Rattle.job.specs.Parts.{headWord, fluents, lastMoment}
 use Rattle.job.specs.WellFormed.{WellFormed}
@@ -40,18 +40,18 @@ written-more {old} {vs} {at} {end} {buffer} h ws {all} {end'} {new} a e n =
       size = ap length n ∙ length-sets buffer end ws ∙ h .size;
     }
 
-pub gather-more : (g : ℕ → List ℕ) (n : ℕ) → joined g (n + 1) ≡ joined g n ++ g n
-unfolding joined
+pub gather-more : (g : ℕ → List ℕ) (n : ℕ) → concatBelow g (n + 1) ≡ concatBelow g n ++ g n
+unfolding concatBelow
 gather-more g n = rw add-one
 
-gather-same : (g h : ℕ → List ℕ) (n : ℕ) → ((i : ℕ) → i < n → g i ≡ h i) → joined g n ≡ joined h n
-unfolding joined
+gather-same : (g h : ℕ → List ℕ) (n : ℕ) → ((i : ℕ) → i < n → g i ≡ h i) → concatBelow g n ≡ concatBelow h n
+unfolding concatBelow
 gather-same g h zero e = refl
 gather-same g h (suc n) e = rw (gather-same g h n (λ i l. e i (omega arith)), e n (omega arith))
 
 -- k words at most from each
-gather-most : (g : ℕ → List ℕ) (k n : ℕ) → ((i : ℕ) → length (g i) ≤ k) → length (joined g n) ≤ n * k
-unfolding joined
+gather-most : (g : ℕ → List ℕ) (k n : ℕ) → ((i : ℕ) → length (g i) ≤ k) → length (concatBelow g n) ≤ n * k
+unfolding concatBelow
 gather-most g k zero e = omega arith
 gather-most g k (suc n) e = rw length-append (omega (arith, gather-most g k n e, e n, suc-mul n k))
 
@@ -64,7 +64,7 @@ fact-most head t f value = cases (eqb value unknown)
 
 module _ (head t : ℕ) (state : List ℕ) where
   pub state-facts-none : stateFacts head t state 0 ≡ []
-  unfolding stateFacts joined
+  unfolding stateFacts concatBelow
   state-facts-none = refl
 
   pub state-facts-more : (n : ℕ) → stateFacts head t state (n + 1) ≡ stateFacts head t state n ++ factOf head t n (getD state n 0)
@@ -88,15 +88,15 @@ module _ (job starts : List ℕ) where
       omega (arith, gather-most (λ (f : ℕ). factOf (headWord job) t f (valueAt job starts t f)) 1 (fluents job) (λ f. fact-most (headWord job) t f (valueAt job starts t f)))
 
   -- at most 64 facts a moment
-  pub facts-few : WellFormed job → (t : ℕ) → length (joined (factsAt job starts) t) ≤ t * 64
+  pub facts-few : WellFormed job → (t : ℕ) → length (concatBelow (factsAt job starts) t) ≤ t * 64
   facts-few w t = gather-most (factsAt job starts) 64 t (λ i. omega (arith, moment-most i, w .few-fluents))
 
-  pub facts-none : joined (factsAt job starts) 0 ≡ []
-  unfolding joined
+  pub facts-none : concatBelow (factsAt job starts) 0 ≡ []
+  unfolding concatBelow
   facts-none = refl
 
   -- the facts of the last moment come last
-  pub facts-last : (t : ℕ) → t ≡ lastMoment job → factsOf job starts ≡ joined (factsAt job starts) t ++ factsAt job starts t
+  pub facts-last : (t : ℕ) → t ≡ lastMoment job → factsOf job starts ≡ concatBelow (factsAt job starts) t ++ factsAt job starts t
   unfolding factsOf
   facts-last t e = rw (← e) (gather-more (factsAt job starts) t)
 

@@ -8,7 +8,7 @@ use native.Mathlib.Omega.{arith}
 use borrow.Author.Count.{below-more}
 use lib.ListN.{length, getD, replicate, getD-replicate}
 use Rattle.words.specs.Fields.{unknown, startMoment, startAction}
-use Rattle.words.specs.Scan.{firstGives}
+use Rattle.words.specs.Scan.{findOr}
 use Rattle.job.specs.Parts.{headWord, fluents, actions, lawsOf}
 use Rattle.facts.specs.Actions.{makesFluent, lawValue, effect, finish, hides, finishes, affects}
 use Rattle.facts.specs.Values.{initially, hidesFluent, givesFluent, givenValue, nextValue, valueAt}
@@ -60,5 +60,5 @@ effects-more job {table} {new} a all o r b f l m =
     below-more (λ (k : ℕ). getD new (k * 64 + f) 0 ≡ effect job k f) a
     (λ k h. r .earlier (k * 64 + f) (omega arith) ∙ all k f h m)
     (r .here f m ∙ o .value f m
-    ∙ ap (λ (v : ℕ). firstGives (makesFluent (headWord job) f) (lawValue (headWord job)) v (lawsOf job a)) (getD-replicate 64 f unknown 0 m))
+    ∙ ap (λ (v : ℕ). findOr (makesFluent (headWord job) f) (lawValue (headWord job)) v (lawsOf job a)) (getD-replicate 64 f unknown 0 m))
     b l

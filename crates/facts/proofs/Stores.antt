@@ -9,7 +9,7 @@ use borrow.Author.Tests.{eqb-true, eqb-false}
 use lib.Dec.{eqb}
 use lib.ListN.{length, getD, drop, set, replicate, length-set}
 use lib.Seq.{getD-set-same, getD-set-other}
-use Rattle.words.specs.Scan.{someWord, firstGives}
+use Rattle.words.specs.Scan.{any, findOr}
 use Rattle.words.proofs.Scan.{drop-next, gives-end}
 use Rattle.facts.specs.Stores.{Overlaid, Mapped, RowStored}
 
@@ -21,24 +21,24 @@ module _ {n : ℕ} {test : ℕ → ℕ → Bool} {gives : ℕ → ℕ → ℕ} {
   -- one word more in front
   pub overlaid-back : {mid new : List ℕ} (ws : List ℕ) (i : ℕ) → 0 < i → i ≤ length ws → Overlaid n test gives old (drop i ws) mid
       → Overlaid n test gives mid (getD ws (i - 1) 0 ∷ []) new → Overlaid n test gives old (drop (i - 1) ws) new
-  unfolding firstGives
+  unfolding findOr
   overlaid-back {mid} {new} ws i p l m h = record { size = h .size ∙ m .size; value = value }
     where
       next : i - 1 + 1 ≡ i
       next = omega arith
 
-      value : (f : ℕ) → f < n → getD new f 0 ≡ firstGives (test f) (gives f) (getD old f 0) (drop (i - 1) ws)
+      value : (f : ℕ) → f < n → getD new f 0 ≡ findOr (test f) (gives f) (getD old f 0) (drop (i - 1) ws)
       value f b = rw (drop-next ws (i - 1) (omega arith), next, ← m .value f b) (h .value f b)
 
 -- one word, whose test is on itself and then on the fluent
 module _ (n : ℕ) (says : ℕ → Bool) (further : ℕ → ℕ → Bool) (gives : ℕ → ℕ → ℕ) (w : ℕ) {old : List ℕ} where
   pub overlaid-hit : {new : List ℕ} → says w ≡ true → length new ≡ length old → ((f : ℕ) → f < n → getD new f 0 ≡ cond (further f w) (gives f w) (getD old f 0))
       → Overlaid n (λ f v. says v && further f v) gives old (w ∷ []) new
-  unfolding firstGives
+  unfolding findOr
   overlaid-hit e s h = record { size = s; value = λ f l. rw e (h f l) }
 
   pub overlaid-skip : says w ≡ false → Overlaid n (λ f v. says v && further f v) gives old (w ∷ []) old
-  unfolding firstGives
+  unfolding findOr
   overlaid-skip e = record { size = refl; value = λ f l. rw e }
 
 -- a word that gives a value to the one fluent that it names
@@ -52,12 +52,12 @@ overlaid-store n says fluent gives w old e r =
     value f false q = getD-set-other old (fluent w) f (gives w) 0 (λ z. eqb-false (fluent w) f q (sym z))
 
 -- 'some word passes' as a value
-pub any-gives : (test : ℕ → Bool) (v other : ℕ) (ws : List ℕ) → firstGives test (λ w. v) other ws ≡ cond (someWord test ws) v other
-unfolding firstGives someWord
+pub any-gives : (test : ℕ → Bool) (v other : ℕ) (ws : List ℕ) → findOr test (λ w. v) other ws ≡ cond (any test ws) v other
+unfolding findOr any
 any-gives test v other [] = refl
 any-gives test v other (w ∷ ws) = cases (test w) (any-gives test v other ws)
   where
-    cases : (b : Bool) → firstGives test (λ w. v) other ws ≡ cond (someWord test ws) v other → cond b v (firstGives test (λ w. v) other ws) ≡ cond (b || someWord test ws) v other
+    cases : (b : Bool) → findOr test (λ w. v) other ws ≡ cond (any test ws) v other → cond b v (findOr test (λ w. v) other ws) ≡ cond (b || any test ws) v other
     cases true e = refl
     cases false e = e
 

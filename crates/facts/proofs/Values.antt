@@ -5,7 +5,7 @@ use Prim.Native.Nat.{ℕ, zero, suc, _≤_}
 use native.Mathlib.Omega.{arith}
 use lib.Dec.{eqb}
 use Rattle.words.specs.Fields.{field, unknown, holds, fails, roleOf, knownValue}
-use Rattle.words.specs.Scan.{someWord, firstGives}
+use Rattle.words.specs.Scan.{any, findOr}
 use Rattle.job.specs.Parts.{headWord}
 use Rattle.facts.specs.Actions.{effect, makesFluent, lawValue}
 use Rattle.facts.specs.Values.{lists, initially, hidesFluent, givesFluent, givenValue, nextValue, valueAt}
@@ -14,8 +14,8 @@ pub pick-most : (t : Bool) (a b : ℕ) {m : ℕ} → a ≤ m → b ≤ m → con
 pick-most true a b h l = h
 pick-most false a b h l = l
 
-gives-most : (test : ℕ → Bool) (gives : ℕ → ℕ) (other : ℕ) {m : ℕ} → ((w : ℕ) → gives w ≤ m) → other ≤ m → (ws : List ℕ) → firstGives test gives other ws ≤ m
-unfolding firstGives
+gives-most : (test : ℕ → Bool) (gives : ℕ → ℕ) (other : ℕ) {m : ℕ} → ((w : ℕ) → gives w ≤ m) → other ≤ m → (ws : List ℕ) → findOr test gives other ws ≤ m
+unfolding findOr
 gives-most test gives other g o [] = o
 gives-most test gives other g o (w ∷ ws) = pick-most (test w) _ _ (g w) (gives-most test gives other g o ws)
 
@@ -36,5 +36,5 @@ module _ (job : List ℕ) where
   unfolding valueAt nextValue
   value-most starts zero f = initial-most f
   value-most starts (suc t) f =
-      pick-most (someWord (hidesFluent job (suc t) f) starts) unknown _ (omega arith)
+      pick-most (any (hidesFluent job (suc t) f) starts) unknown _ (omega arith)
       (gives-most (givesFluent job (suc t) f) (givenValue job f) _ (λ s. effect-most _ f) (value-most starts t f) starts)

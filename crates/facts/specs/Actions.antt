@@ -4,7 +4,7 @@ use mathlib.Core.List.{List}
 use Prim.Native.Nat.{ℕ, _+_}
 use lib.Dec.{eqb, leb, ltb}
 use Rattle.words.specs.Fields.{unknown, fluentOf, roleOf, makes, madeValue, startMoment, startAction}
-use Rattle.words.specs.Scan.{firstGives}
+use Rattle.words.specs.Scan.{findOr}
 use Rattle.job.specs.Parts.{headWord, duration, lawsOf}
 
 -- a law makes fluent f true or false, and which
@@ -16,7 +16,7 @@ lawValue head w = madeValue (roleOf head w)
 
 -- the value that action a makes of fluent f: open where it makes none
 unfoldable pub effect : List ℕ → ℕ → ℕ → ℕ
-effect job a f = firstGives (makesFluent (headWord job) f) (lawValue (headWord job)) unknown (lawsOf job a)
+effect job a f = findOr (makesFluent (headWord job) f) (lawValue (headWord job)) unknown (lawsOf job a)
 
 -- u + d: the moment at which a start finishes
 abbrev pub finish : List ℕ → ℕ → ℕ

@@ -4,7 +4,7 @@ use mathlib.Core.List.{List, [], _∷_}
 use Prim.Native.Nat.{ℕ, _+_}
 use lib.Dec.{eqb}
 use Rattle.words.specs.Fields.{unknown, factWord}
-use Rattle.words.specs.Scan.{joined}
+use Rattle.words.specs.Scan.{concatBelow}
 use Rattle.job.specs.Parts.{headWord, fluents, lastMoment}
 use Rattle.facts.specs.Values.{valueAt}
 
@@ -14,7 +14,7 @@ factOf head t f value = cond (eqb value unknown) [] (factWord head t f value ∷
 
 -- the facts at moment t
 unfoldable pub factsAt : List ℕ → List ℕ → ℕ → List ℕ
-factsAt job starts t = joined (λ f. factOf (headWord job) t f (valueAt job starts t f)) (fluents job)
+factsAt job starts t = concatBelow (λ f. factOf (headWord job) t f (valueAt job starts t f)) (fluents job)
 
 unfoldable pub factsOf : List ℕ → List ℕ → List ℕ
-factsOf job starts = joined (factsAt job starts) (lastMoment job + 1)
+factsOf job starts = concatBelow (factsAt job starts) (lastMoment job + 1)

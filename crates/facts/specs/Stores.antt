@@ -6,13 +6,13 @@ use Prim.Native.Nat.{ℕ, _+_, _*_, _<_, _≤_}
 use lib.Dec.{eqb}
 use lib.ListN.{length, getD}
 use Rattle.words.specs.Fields.{unknown}
-use Rattle.words.specs.Scan.{firstGives}
+use Rattle.words.specs.Scan.{findOr}
 
 -- `size`, of each record: as long as before.
 -- each of the first n bytes is what the first word that passes its test gives it, or else as it was
 pub record Overlaid (n : ℕ) (test : ℕ → ℕ → Bool) (gives : ℕ → ℕ → ℕ) (old words new : List ℕ) : Type 0 where
   pub size : length new ≡ length old
-  pub value : (f : ℕ) → f < n → getD new f 0 ≡ firstGives (test f) (gives f) (getD old f 0) words
+  pub value : (f : ℕ) → f < n → getD new f 0 ≡ findOr (test f) (gives f) (getD old f 0) words
 
 -- each of the first n bytes is made of the old one, and the others are as they were
 pub record Mapped (n : ℕ) (make : ℕ → ℕ → ℕ) (old new : List ℕ) : Type 0 where

@@ -3,7 +3,7 @@ use mathlib.Core.List.{List}
 use mathlib.Core.Path.{_≡_}
 use Prim.Native.Nat.{ℕ, _+_, _*_, _<_, _≤_}
 use lib.ListN.{length, getD}
-use Rattle.words.specs.Scan.{joined}
+use Rattle.words.specs.Scan.{concatBelow}
 use Rattle.words.specs.Fields.{startAction}
 use Rattle.job.specs.Parts.{fluents, actions, duration}
 use Rattle.facts.specs.Actions.{effect}
@@ -31,4 +31,4 @@ pub record StateAt (job starts : List ℕ) (t : ℕ) (state : List ℕ) : Type 0
 
 -- the facts at moment t of the first n fluents, whose values are the bytes of a state
 unfoldable pub stateFacts : ℕ → ℕ → List ℕ → ℕ → List ℕ
-stateFacts head t state n = joined (λ f. factOf head t f (getD state f 0)) n
+stateFacts head t state n = concatBelow (λ f. factOf head t f (getD state f 0)) n

@@ -6,7 +6,7 @@ use Prim.Native.Nat.{ℕ, zero, suc, _<_, _≤_}
 use lib.Dec.{eqb}
 use lib.ListN.{length, getD}
 use Rattle.words.specs.Fields.{kind, unknown, fluentOf, knownValue, startAction}
-use Rattle.words.specs.Scan.{someWord, firstGives}
+use Rattle.words.specs.Scan.{any, findOr}
 use Rattle.job.specs.Parts.{headWord}
 use Rattle.facts.specs.Actions.{effect, hides, finishes, affects}
 
@@ -16,7 +16,7 @@ lists head f w = eqb (kind w) 2 && eqb (fluentOf head w) f
 
 -- the value at moment 0: that of the kind 2 word of f, or open
 unfoldable pub initially : List ℕ → ℕ → ℕ
-initially job f = firstGives (lists (headWord job) f) (knownValue (headWord job)) unknown job
+initially job f = findOr (lists (headWord job) f) (knownValue (headWord job)) unknown job
 
 -- a start hides fluent f at moment t; gives it a value then
 abbrev pub hidesFluent : List ℕ → ℕ → ℕ → ℕ → Bool
@@ -31,7 +31,7 @@ givenValue job f s = effect job (startAction s) f
 -- the value at moment t > 0, by that at t − 1: open if a start hides the fluent; else what a start that finishes gives; else as it was
 unfoldable pub nextValue : List ℕ → List ℕ → ℕ → ℕ → ℕ → ℕ
 nextValue job starts t f old =
-    cond (someWord (hidesFluent job t f) starts) unknown (firstGives (givesFluent job t f) (givenValue job f) old starts)
+    cond (any (hidesFluent job t f) starts) unknown (findOr (givesFluent job t f) (givenValue job f) old starts)
 
 unfoldable pub valueAt : List ℕ → List ℕ → ℕ → ℕ → ℕ
 valueAt job starts zero f = initially job f

@@ -5,7 +5,7 @@ ghost use mathlib.Core.List.{_∷_, []};
 ghost use lib.ListN.{length, getD, drop, replicate};
 ghost use Rattle.words.specs.Fields.{unknown};
 ghost use Rattle.job.specs.Parts.{actions, lawsOf};
-ghost use Rattle.job.specs.WellFormed.{WellFormed, Placed};
+ghost use Rattle.job.specs.WellFormed.{WellFormed, Indexed};
 ghost use Rattle.facts.specs.Actions.{makesFluent, lawValue};
 ghost use Rattle.facts.specs.Tables.{Durations, Effects};
 ghost use Rattle.facts.specs.Stores.{Overlaid, RowStored};
@@ -18,7 +18,7 @@ use words::role_of;
 use words::run_length;
 
 pub fn durations(job: &[u32], places: &[usize; 64]) -> [usize; 64]
-    requires { ⌜ WellFormed (now job) × Placed (now job) 3 (now places) ⌝ }
+    requires { ⌜ WellFormed (now job) × Indexed (now job) 3 (now places) ⌝ }
     ensures { λ r. ⌜ Durations (now (job .entry)) r ⌝ }
 {
     let n = actions_of(job[0]);
@@ -34,7 +34,7 @@ pub fn durations(job: &[u32], places: &[usize; 64]) -> [usize; 64]
 
 // The laws of action `a`: the words of kind 4 after its own.
 pub fn laws_of<'a>(job: &'a [u32], places: &[usize; 64], a: usize) -> &'a [u32]
-    requires { ⌜ WellFormed (now job) × Placed (now job) 3 (now places) × (a < actions (now job)) ⌝ }
+    requires { ⌜ WellFormed (now job) × Indexed (now job) 3 (now places) × (a < actions (now job)) ⌝ }
     ensures { λ r. ⌜ now r ≡ lawsOf (now (job .entry)) a ⌝ }
 {
     let from = places[a] + 1;
@@ -79,7 +79,7 @@ fn store_row(row: &[u8; 64], a: usize, table: &mut [u8; 4096])
 }
 
 pub fn effects(job: &[u32], places: &[usize; 64]) -> [u8; 4096]
-    requires { ⌜ WellFormed (now job) × Placed (now job) 3 (now places) ⌝ }
+    requires { ⌜ WellFormed (now job) × Indexed (now job) 3 (now places) ⌝ }
     ensures { λ r. ⌜ Effects (now (job .entry)) r ⌝ }
 {
     let head = job[0];

@@ -7,7 +7,7 @@ use mathlib.Core.List.{List, [], _∷_, _++_}
 use native.Mathlib.Omega.{arith}
 use lib.ListN.{length, getD, take, drop, set}
 use lib.Seq.{paste-suc, getD-drop, length-take-le, take-all, take-at, drop-at}
-use Rattle.files.specs.Files.{wordOf, wordAt, wordsOf, Decoded}
+use Rattle.files.specs.Files.{wordOf, wordOfBytes, wordsOf, Decoded}
 
 -- d with the first n elements of s over its own first n
 abbrev pub over : List ℕ → ℕ → List ℕ → List ℕ
@@ -28,7 +28,7 @@ length-words (a ∷ b ∷ c ∷ d ∷ rest) = omega (arith, length-words rest)
 past-four : (a b c d : ℕ) (rest : List ℕ) (m n : ℕ) → n ≡ 4 + m → getD (a ∷ b ∷ c ∷ d ∷ rest) n 0 ≡ getD rest m 0
 past-four a b c d rest m n e = rw e (sym (getD-drop 4 (a ∷ b ∷ c ∷ d ∷ rest) m 0))
 
-pub word-at : (bytes : List ℕ) (i : ℕ) → i < length bytes / 4 → getD (wordsOf bytes) i 0 ≡ wordAt bytes (i * 4)
+pub word-at : (bytes : List ℕ) (i : ℕ) → i < length bytes / 4 → getD (wordsOf bytes) i 0 ≡ wordOfBytes bytes (i * 4)
 unfolding wordsOf
 word-at [] i h = omega arith
 word-at (a ∷ []) i h = omega arith

@@ -5,16 +5,16 @@ use mathlib.Core.List.{List}
 use native.Mathlib.Omega.{arith}
 use lib.ListN.{length, take, drop, length-drop}
 use lib.Seq.{take-all}
-use Rattle.words.proofs.Scan.{beyond-drop, leading-fits, leading-take}
-use Rattle.files.specs.Files.{isStart, startsOf, givenFacts}
+use Rattle.words.proofs.Scan.{dropWhile-drop, takeWhile-fits, takeWhile-take}
+use Rattle.files.specs.Files.{isStartWord, startsOf, givenFacts}
 
 module _ (plan : List ℕ) (s : ℕ) (ends : s ≡ length (startsOf plan)) where
   pub starts-fit : s ≤ length plan
-  starts-fit = rw ends (leading-fits isStart plan)
+  starts-fit = rw ends (takeWhile-fits isStartWord plan)
 
   pub starts-before : take s plan ≡ startsOf plan
-  starts-before = rw ends (leading-take isStart plan)
+  starts-before = rw ends (takeWhile-take isStartWord plan)
 
   -- the part `&plan[s..]`
   pub facts-after : take (length plan - s) (drop s plan) ≡ givenFacts plan
-  facts-after = take-all (length plan - s) (drop s plan) (omega (arith, length-drop s plan)) ∙ rw ends (sym (beyond-drop isStart plan))
+  facts-after = take-all (length plan - s) (drop s plan) (omega (arith, length-drop s plan)) ∙ rw ends (sym (dropWhile-drop isStartWord plan))

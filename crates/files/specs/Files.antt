@@ -6,29 +6,29 @@ use mathlib.Core.List.{List, [], _∷_}
 use lib.Dec.{eqb, leb}
 use lib.ListN.{length, getD, take, drop}
 use Rattle.words.specs.Fields.{ofKind}
-use Rattle.words.specs.Scan.{leading, beyond}
+use Rattle.words.specs.Scan.{takeWhile, dropWhile}
 
 -- at most 32 KiB, and whole words
 abbrev pub sized : ℕ → Bool
 sized n = leb n 32768 && eqb (n % 4) 0
 
-abbrev pub isStart : ℕ → Bool
-isStart = ofKind 9
+abbrev pub isStartWord : ℕ → Bool
+isStartWord = ofKind 9
 
 -- the leading kind 9 words of a plan are its starts, the rest its facts
 abbrev pub startsOf : List ℕ → List ℕ
-startsOf plan = leading isStart plan
+startsOf plan = takeWhile isStartWord plan
 
 abbrev pub givenFacts : List ℕ → List ℕ
-givenFacts plan = beyond isStart plan
+givenFacts plan = dropWhile isStartWord plan
 
 -- the word of four bytes, the lowest first
 abbrev pub wordOf : ℕ → ℕ → ℕ → ℕ → ℕ
 wordOf a b c d = a + b * 256 + c * 65536 + d * 16777216
 
 -- the word whose bytes begin at an index
-abbrev pub wordAt : List ℕ → ℕ → ℕ
-wordAt bytes at = wordOf (getD bytes at 0) (getD bytes (at + 1) 0) (getD bytes (at + 2) 0) (getD bytes (at + 3) 0)
+abbrev pub wordOfBytes : List ℕ → ℕ → ℕ
+wordOfBytes bytes at = wordOf (getD bytes at 0) (getD bytes (at + 1) 0) (getD bytes (at + 2) 0) (getD bytes (at + 3) 0)
 
 -- the words of a list of bytes; up to three bytes at the end that make no word are left out
 unfoldable pub wordsOf : List ℕ → List ℕ

@@ -2,7 +2,7 @@
 ghost use mathlib.Core.Path.{_≡_};
 ghost use Prim.Native.Nat.{_+_, _<_, _≤_, _/_};
 ghost use lib.ListN.{length};
-ghost use Rattle.files.specs.Files.{sized, startsOf, wordAt, Decoded};
+ghost use Rattle.files.specs.Files.{sized, startsOf, wordOfBytes, Decoded};
 
 pub fn is_sized(n: usize) -> bool
     ensures { λ r. ⌜ r ≡ sized n ⌝ }
@@ -33,7 +33,7 @@ pub fn decode(bytes: &[u8], out: &mut [u32]) -> usize
 
 fn word_at(bytes: &[u8], at: usize) -> u32
     requires { ⌜ at + 3 < length (now bytes) ⌝ }
-    ensures { λ r. ⌜ r ≡ wordAt (now (bytes .entry)) at ⌝ }
+    ensures { λ r. ⌜ r ≡ wordOfBytes (now (bytes .entry)) at ⌝ }
 {
     wide(bytes[at])
         + wide(bytes[at + 1]) * 256

@@ -5,10 +5,10 @@ use native.Mathlib.Omega.{arith}
 use lib.ListN.{length, drop, length-append}
 use Rattle.answers.specs.declared.Answer.{Answer}
 use Rattle.answers.specs.Packed.{lengthOf}
-use Rattle.finder.specs.Find.{Sought, unread, read, Outcome, refused, sought}
+use Rattle.finder.specs.Find.{Searched, unread, read, Outcome, refused, sought}
 
 -- its words stand in the buffer
-sought-length : {job starts before : List ℕ} {a : Answer} {after : List ℕ} → Sought job starts before a after → lengthOf a ≤ length after
+sought-length : {job starts before : List ℕ} {a : Answer} {after : List ℕ} → Searched job starts before a after → lengthOf a ≤ length after
 sought-length (unread t n) = omega arith
 sought-length {before = before} (read {ws = ws} t r) = omega (arith, length-append ws (drop (length ws) before))
 

@@ -15,7 +15,7 @@ use Rattle.answers.specs.Packed.{lengthOf, answerOf}
 use Rattle.answers.proofs.Rows.{or-none}
 use Rattle.theory.specs.Answers.{planRefusal, factsRefusal, checkRefusal, checkAnswer}
 use Rattle.facts.specs.Facts.{factsOf}
-use Rattle.finder.specs.Find.{findRefusal, Sought, Outcome, refused, sought}
+use Rattle.finder.specs.Find.{findRefusal, Searched, Outcome, refused, sought}
 
 -- an answer that is a refusal is that of its rows; one that is none has no row
 row-of-refused : (r : Refusal) {n p k : ℕ} → answerOf r 0 0 ≡ Refused n p k → (r .number ≡ 0 → ⊥) × (answerOf r 0 0 ≡ Refused (r .number) (r .position) 0)
@@ -65,5 +65,5 @@ module _ (job starts facts buffer : List ℕ) where
       rw (e, q .1) (refused {n = r .number} {p = r .position} (same-row room) (q .0))
 
   pub then-sought : {a b : Answer} {after : List ℕ} {l k : ℕ} → 4096 ≤ length buffer → a ≡ checkAnswer job starts facts → a ≡ Accepted l k
-      → Sought job starts buffer b after → Outcome job starts facts buffer b after
+      → Searched job starts buffer b after → Outcome job starts facts buffer b after
   then-sought room e h s = sought (rw (same-row room) (check-none job starts facts e h)) s

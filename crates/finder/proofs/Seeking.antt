@@ -14,11 +14,11 @@ use Rattle.job.specs.Parts.{nodeCount, lastMoment}
 use Rattle.job.specs.WellFormed.{WellFormed}
 use Rattle.job.proofs.WellFormed.{well-formed}
 use Rattle.trajectory.specs.declared.World.{World}
-use Rattle.trajectory.specs.Carried.{Carried}
+use Rattle.trajectory.specs.Carried.{Represents}
 use Rattle.theory.specs.Trajectory.{trajectoryOf}
 use Rattle.theory.specs.Procedure.{procedureOf}
-use Rattle.reading.specs.World.{Ready}
-use Rattle.reading.specs.Reading.{Ends}
+use Rattle.reading.specs.World.{WorldReady}
+use Rattle.reading.specs.Reading.{HasReading}
 use Rattle.reading.specs.Table.{rowAt, Found}
 use Rattle.reading.specs.Table.{Tabulated}
 use Rattle.reading.proofs.Transfer.{transfer}
@@ -26,14 +26,14 @@ use Rattle.reading.proofs.Agreement.{extends, found-same, counted-same}
 use Rattle.parts.specs.Parts.{Prepared}
 use Rattle.extract.specs.Contract.{Emittable, Emitted}
 use Rattle.extract.proofs.Whole.{emittable}
-use Rattle.finder.specs.Find.{RootReading, Triples, Sought, unread, read}
+use Rattle.finder.specs.Find.{RootReading, Triples, Searched, unread, read}
 use Rattle.finder.proofs.World.{procedureIn, trajectoryIn, ready, agrees, once}
 
-module _ (job starts : List ℕ) (w : World) (ok : jobRefusal job .number ≡ 0) (c : Carried job starts w) where
+module _ (job starts : List ℕ) (w : World) (ok : jobRefusal job .number ≡ 0) (c : Represents job starts w) where
   formed : WellFormed job
   formed = well-formed job ok
 
-  pub world-ready : Ready (procedureIn job w) (trajectoryIn w) (length job) (w .places) (w .sizes) (w .limits)
+  pub world-ready : WorldReady (procedureIn job w) (trajectoryIn w) (length job) (w .places) (w .sizes) (w .limits)
   world-ready = ready job starts w formed c
 
   pub some-node : 0 < w .count
@@ -55,7 +55,7 @@ module _ (job starts : List ℕ) (w : World) (ok : jobRefusal job .number ≡ 0)
     emit-ready h l = emittable (record { ready = world-ready; found = t .table }) (once job starts w formed c ok) some-node (record { yes = h }) (omega arith)
 
     -- what it wrote is a reading of the root
-    pub written-reading : {before after : List ℕ} {l : ℕ} → Emitted (procedureIn job w) (trajectoryIn w) before after l → Sought job starts before (Accepted l r) after
+    pub written-reading : {before after : List ℕ} {l : ℕ} → Emitted (procedureIn job w) (trajectoryIn w) before after l → Searched job starts before (Accepted l r) after
     written-reading {before} e =
         let some = some-node in
         let whole : RootReading job starts (e .words)
@@ -63,7 +63,7 @@ module _ (job starts : List ℕ) (w : World) (ok : jobRefusal job .number ≡ 0)
         rw (e .buffer, e .counted) (read {ws = e .words} triples whole)
 
     -- the root's last bit is not set: no list of words is a reading
-    pub no-reading : {before : List ℕ} → has (rowAt table (w .count - 1) 0) (w .last) ≡ false → Sought job starts before (Refused 13 0 r) before
+    pub no-reading : {before : List ℕ} → has (rowAt table (w .count - 1) 0) (w .last) ≡ false → Searched job starts before (Refused 13 0 r) before
     no-reading h = unread triples none
       where
         count-is : procedureOf job .count ≡ w .count

@@ -13,12 +13,12 @@ use lib.Dec.{eqb}
 use lib.ListN.{length, getD, take, drop, length-map, length-drop, List·getD-map}
 use lib.Seq.{getD-drop}
 use Rattle.words.specs.Fields.{ofKind, kind, form, nodeX, nodeY, nodeM, isSet, memberNode}
-use Rattle.words.specs.Scan.{times}
-use Rattle.words.proofs.Scan.{leading-take}
+use Rattle.words.specs.Scan.{count}
+use Rattle.words.proofs.Scan.{takeWhile-take}
 use Rattle.words.proofs.Choices.{true-false, eqb-swap}
-use Rattle.bitset.specs.Members.{sum}
+use Rattle.bitset.specs.Members.{sumBelow}
 use Rattle.job.specs.Rules.{names}
-use Rattle.job.specs.Before.{last}
+use Rattle.job.specs.Before.{previous}
 use Rattle.job.specs.Refusal.{jobRefusal}
 use Rattle.job.specs.Parts.{actions, formulaCount, nodeCount, nodeWord, memberWords, conditionWords}
 use Rattle.job.specs.WellFormed.{WellFormed}
@@ -31,7 +31,7 @@ use Rattle.promise.specs.Procedure.{Procedure}
 use Rattle.theory.specs.Procedure.{procedureOf}
 use Rattle.theory.proofs.Followers.{members-at, conditions-at, conditions-fit}
 use Rattle.reading.specs.Forms.{formNumber, formAt, fieldX, FormedAs}
-use Rattle.reading.specs.World.{procedureAt, trajectoryAt, Ready}
+use Rattle.reading.specs.World.{procedureAt, trajectoryAt, WorldReady}
 use Rattle.reading.proofs.Forms.{form-number}
 use Rattle.reading.proofs.Transfer.{Asks}
 use Rattle.reading.proofs.Agreement.{Agrees, agrees-back, formed-there}
@@ -40,7 +40,7 @@ use Rattle.lengths.proofs.Sums.{sum-cong}
 use Rattle.naming.specs.Naming.{childTimes}
 use Rattle.naming.proofs.Naming.{leads-none, follows, once-by-nodes}
 use Rattle.trajectory.specs.declared.World.{World}
-use Rattle.trajectory.specs.Carried.{Carried}
+use Rattle.trajectory.specs.Carried.{Represents}
 
 -- the procedure and the trajectory that the arrays carry
 abbrev pub procedureIn : List ℕ → World → Procedure
@@ -81,7 +81,7 @@ module _ (job starts : List ℕ) (formed : WellFormed job) where
   unfolding procedureOf
   formed-job p h = formed-by p h (form (nodeWord job p)) refl
 
-module _ (job starts : List ℕ) (w : World) (formed : WellFormed job) (c : Carried job starts w) where
+module _ (job starts : List ℕ) (w : World) (formed : WellFormed job) (c : Represents job starts w) where
   abbrev P : Procedure
   P = procedureIn job w
 
@@ -100,12 +100,12 @@ module _ (job starts : List ℕ) (w : World) (formed : WellFormed job) (c : Carr
     members-are : memberWords job p ≡ take (getD (w .sizes) p 0) (drop (getD (w .places) p 0 + 1) job)
     members-are =
         let e = members-at (c .places) p h in
-        e ∙ sym (leading-take (ofKind 7) (drop (getD (w .places) p 0 + 1) job)) ∙ rw (c .sizes p h, e)
+        e ∙ sym (takeWhile-take (ofKind 7) (drop (getD (w .places) p 0 + 1) job)) ∙ rw (c .sizes p h, e)
 
     conditions-are : conditionWords job p ≡ take (getD (w .limits) p 0) (drop (getD (w .places) p 0 + 1 + getD (w .sizes) p 0) job)
     conditions-are =
         let e = conditions-at (c .places) p h in
-        e ∙ sym (leading-take (ofKind 8) (drop (getD (w .places) p 0 + 1 + length (memberWords job p)) job)) ∙ rw (c .limits p h, c .sizes p h, e)
+        e ∙ sym (takeWhile-take (ofKind 8) (drop (getD (w .places) p 0 + 1 + length (memberWords job p)) job)) ∙ rw (c .limits p h, c .sizes p h, e)
 
     -- an action is the job's, and so is each formula that the node asks for
     action : form (P .node p) ≡ 0 → nodeX (P .node p) < actions job
@@ -129,7 +129,7 @@ module _ (job starts : List ℕ) (w : World) (formed : WellFormed job) (c : Carr
   unfolding procedureOf trajectoryOf
   agrees = record {
     count = sym (c .count);
-    last = sym (c .last);
+    previous = sym (c .last);
     node = λ p h. node-word p (here h);
     members = λ p h. ap (map memberNode) (members-are p (here h));
     conditions = λ p h. conditions-are p (here h);
@@ -138,7 +138,7 @@ module _ (job starts : List ℕ) (w : World) (formed : WellFormed job) (c : Carr
     values = λ p k t h a l. sym (c .values k t (asked p (here h) k (form (P .node p)) refl a) (let q = c .last in omega arith));
   }
 
-  pub ready : Ready P T (length job) (w .places) (w .sizes) (w .limits)
+  pub ready : WorldReady P T (length job) (w .places) (w .sizes) (w .limits)
   ready = record {
     few = rw (c .count) (formed .few-nodes);
     moments = let q = c .last in omega (arith, formed .few-moments);
@@ -154,8 +154,8 @@ module _ (job starts : List ℕ) (w : World) (formed : WellFormed job) (c : Carr
     node-kind = let i = word job ok 6 p h in ap kind (sym (node-word p h) ∙ word-at job ok 6 p (i .0) (i .1)) ∙ i .1 .of-kind
 
     -- no member follows a node that is no task set
-    no-members : (v : ℕ) → (form (P .node p) ≡ 8 → ⊥) → times v (map memberNode (memberWords job p)) ≡ 0
-    unfolding memberWords last
+    no-members : (v : ℕ) → (form (P .node p) ≡ 8 → ⊥) → count v (map memberNode (memberWords job p)) ≡ 0
+    unfolding memberWords previous
     no-members v other =
         let at = getD (w .places) p 0 in
         let none : (isSet (getD job at 0) || eqb (kind (getD job at 0)) 7) ≡ false = rw (node-kind, ne-eqb (form (P .node p)) 8 other) in
@@ -164,8 +164,8 @@ module _ (job starts : List ℕ) (w : World) (formed : WellFormed job) (c : Carr
         (λ l z. true-false (sym (rw (before-more job at) at (follows job ok (at + 1) (omega (arith, length-drop (at + 1) job)) (rw (getD-drop, add-zero) at z))) ∙ none)))
 
     -- what its own word names are its children
-    own : (v n : ℕ) → form (P .node p) ≡ n → n < 8 → times v (childrenAs P (formNumber n) p) ≡ names v (P .node p)
-    unfolding times
+    own : (v n : ℕ) → form (P .node p) ≡ n → n < 8 → count v (childrenAs P (formNumber n) p) ≡ names v (P .node p)
+    unfolding count
     own v zero e l = rw (node-kind, e)
     own v (suc zero) e l = rw (node-kind, e)
     own v (suc (suc zero)) e l = rw (node-kind, e, eqb-swap v (nodeX (P .node p)), eqb-swap v (nodeY (P .node p))) (omega arith)
@@ -179,7 +179,7 @@ module _ (job starts : List ℕ) (w : World) (formed : WellFormed job) (c : Carr
     -- the node names v as often as it has v as a child
     module _ (v : ℕ) where
       abbrev Alike : Type 0
-      Alike = times v (children P p) ≡ names v (P .node p) + times v (map memberNode (memberWords job p))
+      Alike = count v (children P p) ≡ names v (P .node p) + count v (map memberNode (memberWords job p))
 
       set-alike : form (P .node p) ≡ 8 → Alike
       set-alike e = rw (node-kind, e) (rw (members-are p h) (omega arith))
@@ -189,10 +189,10 @@ module _ (job starts : List ℕ) (w : World) (formed : WellFormed job) (c : Carr
           let low : form (P .node p) ≤ 8 = rw (node-word p h) at (formed .node p h .forms) in
           own v (form (P .node p)) refl (omega arith) ∙ rw (no-members v ne, add-zero)
 
-      child-times : times v (children P p) ≡ childTimes job v p
+      child-times : count v (children P p) ≡ childTimes job v p
       unfolding childTimes
       child-times = rw (node-word p h) (by-cases (ℕ-discrete (form (P .node p)) 8) set-alike other-alike)
 
   pub once : jobRefusal job .number ≡ 0 → NamedOnce P
   once ok q h =
-      ap (sum (λ p. times q (children P p))) (c .count) ∙ sum-cong (nodeCount job) (λ p l. child-times ok p l q) ∙ once-by-nodes job ok q (here h)
+      ap (sumBelow (λ p. count q (children P p))) (c .count) ∙ sum-cong (nodeCount job) (λ p l. child-times ok p l q) ∙ once-by-nodes job ok q (here h)

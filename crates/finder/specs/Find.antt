@@ -6,7 +6,7 @@ use lib.ListN.{length, drop}
 use Rattle.answers.specs.declared.Refusal.{Refusal}
 use Rattle.answers.specs.declared.Answer.{Answer}
 use Rattle.answers.specs.declared.Answer.the-variants.{Accepted, Refused}
-use Rattle.answers.specs.Rows.{refusal, orElse}
+use Rattle.answers.specs.Rows.{refusal, firstRefusal}
 use Rattle.job.specs.Parts.{lastMoment, nodeCount}
 use Rattle.theory.specs.Answers.{bufferRefusal, checkRefusal}
 use Rattle.theory.specs.Trajectory.{trajectoryOf}
@@ -16,7 +16,7 @@ use Rattle.reading.specs.Count.{Counted}
 
 -- rows 12 and 1 to 11
 unfoldable pub findRefusal : ℕ → List ℕ → List ℕ → List ℕ → Refusal
-findRefusal room job starts facts = orElse (bufferRefusal room) (checkRefusal job starts facts)
+findRefusal room job starts facts = firstRefusal (bufferRefusal room) (checkRefusal job starts facts)
 
 -- the words are a reading of the root from 0 to n
 abbrev pub RootReading : List ℕ → List ℕ → List ℕ → Type 0
@@ -27,16 +27,16 @@ abbrev pub Triples : List ℕ → List ℕ → ℕ → Type 0
 Triples job starts c = Counted (procedureOf job) (trajectoryOf job starts) c
 
 -- of a plan that passes: the answer, and the buffer afterwards
-pub data Sought (job starts before : List ℕ) : Answer → List ℕ → Type 0 where
+pub data Searched (job starts before : List ℕ) : Answer → List ℕ → Type 0 where
   -- 13: no list of words whatever is a reading of the root; the true count; the buffer as it was
-  unread : {c : ℕ} → Triples job starts c → ((ws : List ℕ) → RootReading job starts ws → ⊥) → Sought job starts before (Refused 13 0 c) before
+  unread : {c : ℕ} → Triples job starts c → ((ws : List ℕ) → RootReading job starts ws → ⊥) → Searched job starts before (Refused 13 0 c) before
   -- a reading's words at the front, the rest as it was; their number and the true count
   read : {c : ℕ} {ws : List ℕ} → Triples job starts c → RootReading job starts ws
-      → Sought job starts before (Accepted (length ws) c) (ws ++ drop (length ws) before)
+      → Searched job starts before (Accepted (length ws) c) (ws ++ drop (length ws) before)
 
 -- of any lists: a row fits, and the answer is its refusal, the buffer as it was; or no row does, and a reading is sought
 pub data Outcome (job starts facts before : List ℕ) : Answer → List ℕ → Type 0 where
   refused : {n p : ℕ} → findRefusal (length before) job starts facts ≡ refusal n p → (n ≡ 0 → ⊥)
       → Outcome job starts facts before (Refused n p 0) before
-  sought : {a : Answer} {after : List ℕ} → findRefusal (length before) job starts facts .number ≡ 0 → Sought job starts before a after
+  sought : {a : Answer} {after : List ℕ} → findRefusal (length before) job starts facts .number ≡ 0 → Searched job starts before a after
       → Outcome job starts facts before a after

@@ -4,8 +4,8 @@ ghost use Prim.Native.Nat.{_≤_};
 ghost use lib.ListN.{length};
 ghost use Rattle.answers.specs.Packed.{InRange, lengthOf};
 ghost use Rattle.job.specs.Refusal.{jobRefusal};
-ghost use Rattle.trajectory.specs.Carried.{Carried};
-ghost use Rattle.finder.specs.Find.{Sought, Outcome};
+ghost use Rattle.trajectory.specs.Carried.{Represents};
+ghost use Rattle.finder.specs.Find.{Searched, Outcome};
 use answers::Answer;
 use theory::check_plan;
 use trajectory::World;
@@ -13,8 +13,8 @@ use trajectory::world_of;
 
 // Of a plan that passes: fills the table, counts, and writes a reading of the root where there is one.
 fn seek(job: &[u32], starts: &[u32], world: World, buffer: &mut [u32]) -> Answer
-    requires { ⌜ (jobRefusal (now job) .number ≡ 0) × Carried (now job) (now starts) world × (4096 ≤ length (now buffer)) ⌝ }
-    ensures { λ r. ⌜ Sought (now (job .entry)) (now (starts .entry)) (now (buffer .entry)) r (now (buffer .exit)) ⌝ }
+    requires { ⌜ (jobRefusal (now job) .number ≡ 0) × Represents (now job) (now starts) world × (4096 ≤ length (now buffer)) ⌝ }
+    ensures { λ r. ⌜ Searched (now (job .entry)) (now (starts .entry)) (now (buffer .entry)) r (now (buffer .exit)) ⌝ }
     ensures { λ r. ⌜ InRange r × (lengthOf r ≤ 4032) ⌝ }
 {
     let nodes = world.count;

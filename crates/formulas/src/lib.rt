@@ -2,9 +2,9 @@
 ghost use mathlib.Core.Path.{_≡_};
 ghost use Prim.Native.Nat.{_+_, _*_, _<_, _≤_};
 ghost use lib.ListN.{getD};
-ghost use Rattle.words.specs.Tests.{one};
+ghost use Rattle.words.specs.Tests.{indicator};
 ghost use Rattle.job.specs.Parts.{headWord, formulaCount};
-ghost use Rattle.job.specs.WellFormed.{WellFormed, Placed};
+ghost use Rattle.job.specs.WellFormed.{WellFormed, Indexed};
 ghost use Rattle.facts.specs.Values.{valueAt};
 ghost use Rattle.facts.specs.Tables.{Durations, Effects, Named, StateAt};
 ghost use Rattle.formulas.specs.Values.{andTable, orTable, byTable, formValue};
@@ -57,7 +57,7 @@ fn form_value(
 }
 
 fn one_if(t: bool) -> usize
-    ensures { λ r. ⌜ r ≡ one t ⌝ }
+    ensures { λ r. ⌜ r ≡ indicator t ⌝ }
 {
     if t { 1 } else { 0 }
 }
@@ -90,7 +90,7 @@ fn fill_moment(
     state: &mut [u8; 64],
     values: &mut [u8; 4096],
 )
-    requires { ⌜ Small (now and) × Small (now or) × WellFormed (now job) × Placed (now job) 5 (now formulas) × (n ≡ formulaCount (now job))
+    requires { ⌜ Small (now and) × Small (now or) × WellFormed (now job) × Indexed (now job) 5 (now formulas) × (n ≡ formulaCount (now job))
         × Durations (now job) (now durations) × Effects (now job) (now effects) × Named (now job) (now starts)
         × (t < 64) × StateAt (now job) (now starts) t (now state)
         × ColumnsBefore (now and) (now or) (now job) (valueAt (now job) (now starts)) t (now values) ⌝ }
@@ -118,7 +118,7 @@ pub fn formula_values(
     effects: &[u8; 4096],
     starts: &[u32],
 ) -> [u8; 4096]
-    requires { ⌜ Small (now and) × Small (now or) × WellFormed (now job) × Placed (now job) 5 (now formulas)
+    requires { ⌜ Small (now and) × Small (now or) × WellFormed (now job) × Indexed (now job) 5 (now formulas)
         × Durations (now job) (now durations) × Effects (now job) (now effects) × Named (now job) (now starts) ⌝ }
     ensures { λ r. ⌜ FormulaTable (now (and .entry)) (now (or .entry)) (now (job .entry)) (valueAt (now (job .entry)) (now (starts .entry))) r ⌝ }
 {
@@ -154,7 +154,7 @@ pub fn standard_values(
     effects: &[u8; 4096],
     starts: &[u32],
 ) -> [u8; 4096]
-    requires { ⌜ WellFormed (now job) × Placed (now job) 5 (now formulas)
+    requires { ⌜ WellFormed (now job) × Indexed (now job) 5 (now formulas)
         × Durations (now job) (now durations) × Effects (now job) (now effects) × Named (now job) (now starts) ⌝ }
     ensures { λ r. ⌜ FormulaTable andTable orTable (now (job .entry)) (valueAt (now (job .entry)) (now (starts .entry))) r ⌝ }
 {

@@ -9,14 +9,14 @@ use native.Mathlib.Omega.{arith}
 use borrow.Author.Tests.{ne-eqb}
 use lib.Dec.{eqb}
 use lib.ListN.{length, getD}
-use Rattle.words.specs.Tests.{one}
+use Rattle.words.specs.Tests.{indicator}
 use Rattle.words.specs.Fields.{kind}
 use Rattle.job.specs.Rules.{names}
-use Rattle.words.specs.Scan.{someWord}
+use Rattle.words.specs.Scan.{any}
 use Rattle.job.specs.Before.{before, countOfKind, since, latest, named}
 use Rattle.job.specs.Refusal.{nameRefusal}
 use Rattle.job.specs.State.{Tied}
-use Rattle.words.proofs.Choices.{one-le}
+use Rattle.words.proofs.Choices.{indicator-le}
 
 pub before-suc : (job : List ℕ) (i : ℕ) → before job (suc i) ≡ getD job i 0 ∷ before job i
 unfolding before
@@ -40,7 +40,7 @@ length-before job (suc i) = ap suc (length-before job i)
 pub count-le : (k : ℕ) (p : List ℕ) → countOfKind k p ≤ length p
 unfolding countOfKind
 count-le k [] = omega arith
-count-le k (w ∷ p) = omega (arith, count-le k p, one-le (eqb (kind w) k))
+count-le k (w ∷ p) = omega (arith, count-le k p, indicator-le (eqb (kind w) k))
 
 since-le : (k : ℕ) (p : List ℕ) → length (since k p) ≤ length p
 unfolding since
@@ -68,7 +68,7 @@ named-none job v = refl
 
 -- what one word more makes of each fact
 module _ (job : List ℕ) (i : ℕ) where
-  pub count-more : (k : ℕ) → countOfKind k (before job (i + 1)) ≡ countOfKind k (before job i) + one (eqb (kind (getD job i 0)) k)
+  pub count-more : (k : ℕ) → countOfKind k (before job (i + 1)) ≡ countOfKind k (before job i) + indicator (eqb (kind (getD job i 0)) k)
   unfolding countOfKind
   count-more k = rw (before-more job i)
 
@@ -81,28 +81,28 @@ module _ (job : List ℕ) (i : ℕ) where
   named-more v = rw (before-more job i)
 
   pub count-since-more : (k m : ℕ) → countOfKind k (since m (before job (i + 1)))
-      ≡ cond (eqb (kind (getD job i 0)) m) 0 (countOfKind k (since m (before job i)) + one (eqb (kind (getD job i 0)) k))
+      ≡ cond (eqb (kind (getD job i 0)) m) 0 (countOfKind k (since m (before job i)) + indicator (eqb (kind (getD job i 0)) k))
   unfolding since countOfKind
   count-since-more k m = rw (before-more job i) (cases (eqb (kind (getD job i 0)) m))
     where
       cases : (t : Bool) → countOfKind k (cond t [] (getD job i 0 ∷ since m (before job i)))
-          ≡ cond t 0 (countOfKind k (since m (before job i)) + one (eqb (kind (getD job i 0)) k))
+          ≡ cond t 0 (countOfKind k (since m (before job i)) + indicator (eqb (kind (getD job i 0)) k))
       cases true = refl
       cases false = refl
 
 -- one word less: what is listed since a word of kind k
-pub since-any : (t : ℕ → Bool) (k : ℕ) (job : List ℕ) (j : ℕ) → 0 < j → someWord t (since k (before job j))
-    ≡ cond (eqb (kind (getD job (j - 1) 0)) k) false (t (getD job (j - 1) 0) || someWord t (since k (before job (j - 1))))
-unfolding since someWord
+pub since-any : (t : ℕ → Bool) (k : ℕ) (job : List ℕ) (j : ℕ) → 0 < j → any t (since k (before job j))
+    ≡ cond (eqb (kind (getD job (j - 1) 0)) k) false (t (getD job (j - 1) 0) || any t (since k (before job (j - 1))))
+unfolding since any
 since-any t k job j h = rw (before-less job j h) (cases (eqb (kind (getD job (j - 1) 0)) k))
   where
-    cases : (b : Bool) → someWord t (cond b [] (getD job (j - 1) 0 ∷ since k (before job (j - 1))))
-        ≡ cond b false (t (getD job (j - 1) 0) || someWord t (since k (before job (j - 1))))
+    cases : (b : Bool) → any t (cond b [] (getD job (j - 1) 0 ∷ since k (before job (j - 1))))
+        ≡ cond b false (t (getD job (j - 1) 0) || any t (since k (before job (j - 1))))
     cases true = refl
     cases false = refl
 
-pub since-none : (t : ℕ → Bool) (k : ℕ) (job : List ℕ) → someWord t (since k (before job 0)) ≡ false
-unfolding before since someWord
+pub since-none : (t : ℕ → Bool) (k : ℕ) (job : List ℕ) → any t (since k (before job 0)) ≡ false
+unfolding before since any
 since-none t k job = refl
 
 -- counts only grow

@@ -13,14 +13,14 @@ use lib.ListN.{length, getD, drop}
 use lib.Seq.{getD-drop}
 use Rattle.words.specs.Tests.{implies, within}
 use Rattle.words.specs.Fields.{kind, form, actionsOf, fluentOf, actionNumber, durationOf, isSet, formulaX, formulaY, atomFluent, atomSpare, nodeX, nodeY, nodeM, nodeN}
-use Rattle.words.proofs.Choices.{true-false, both-true, either-true, implies-true, pick-same, within-true, true-within}
+use Rattle.words.proofs.Choices.{true-false, both-true, either-true, implies-true, cond-same, within-true, true-within}
 use Rattle.answers.specs.Rows.{row}
 use Rattle.answers.proofs.Rows.{first-none, or-none, row-none}
-use Rattle.job.specs.Rules.{grade, formulaShape, formulaRange, nodeShape, nodeRange, childX, childY, childM}
-use Rattle.job.specs.Before.{before, last, countOfKind, named}
-use Rattle.job.specs.Refusal.{lookup, rules, wordRefusal, refusalOf, nameRefusal, emptySet, endRefusal, jobRefusal}
+use Rattle.job.specs.Rules.{wordRefusalOf, formulaShape, formulaRange, nodeShape, nodeRange, childX, childY, childM}
+use Rattle.job.specs.Before.{before, previous, countOfKind, named}
+use Rattle.job.specs.Refusal.{refusalByKind, rules, wordRefusal, refusalOf, nameRefusal, emptySet, endRefusal, jobRefusal}
 use Rattle.job.specs.Index.{positions}
-use Rattle.job.specs.Parts.{headWord, fluents, actions, lastMoment, total, wordsFrom, wordAt, duration, formulaCount, formulaWord, nodeCount, nodeWord}
+use Rattle.job.specs.Parts.{headWord, fluents, actions, lastMoment, total, wordsFrom, wordOfKind, duration, formulaCount, formulaWord, nodeCount, nodeWord}
 use Rattle.job.specs.WellFormed.{FormulaFormed, NodeFormed}
 use Rattle.job.proofs.Laws.{count-grows}
 use Rattle.job.proofs.Table.{graded, within-limit, rule-passed, few, limits-actions, limits-formulas, limits-nodes, Clear, clear, EndClear, end-clear}
@@ -64,17 +64,17 @@ module _ (job : List ℕ) (ok : jobRefusal job .number ≡ 0) where
   size = within-true 1 2048 (length job) (not-false _ (row-none _ 1 0 (omega arith) (c .size)))
 
   -- the rule of its kind refuses no word
-  pub rule : (k i : ℕ) → i < length job → kind (getD job i 0) ≡ k → lookup k (rules (getD job 0 0) (before job i) (getD job i 0)) ≡ 0
+  pub rule : (k i : ℕ) → i < length job → kind (getD job i 0) ≡ k → refusalByKind k (rules (getD job 0 0) (before job i) (getD job i 0)) ≡ 0
   rule = rule-passed job (c .words)
 
   -- word 0 is the head: any other kind follows a word
   head : kind (getD job 0 0) ≡ 1
-  unfolding refusalOf wordRefusal before last grade
+  unfolding refusalOf wordRefusal before previous wordRefusalOf
   head = cases (eqb (kind (getD job 0 0)) 1) refl (first-none (refusalOf job) (length job) (c .words) 0 (size .0))
     where
       cases : (b : Bool) → eqb (kind (getD job 0 0)) 1 ≡ b → refusalOf job 0 ≡ 0 → kind (getD job 0 0) ≡ 1
       cases true e h = eqb-true (kind (getD job 0 0)) 1 e
-      cases false e h = let two = simp (e, pick-same) at h in absurd (omega arith)
+      cases false e h = let two = simp (e, cond-same) at h in absurd (omega arith)
 
   pub ranges : ((1 ≤ fluents job) × (fluents job ≤ 64)) × ((1 ≤ actions job) × (actions job ≤ 64)) × (lastMoment job ≤ 63)
   ranges =
@@ -94,7 +94,7 @@ module _ (job : List ℕ) (ok : jobRefusal job .number ≡ 0) where
       (getD (positions k job (length job)) j 0, is-word k job (length job) (omega arith) j (omega arith))
 
   -- and what it is
-  pub word-at : (k j i : ℕ) → IsWord job k j i → wordAt k job j ≡ getD job i 0
+  pub word-at : (k j i : ℕ) → IsWord job k j i → wordOfKind k job j ≡ getD job i 0
   word-at k j i w = rw (from-position k job i j (w .inside) (w .of-kind) (w .numbered), getD-drop, add-zero)
 
   -- an action lasts
@@ -111,8 +111,8 @@ module _ (job : List ℕ) (ok : jobRefusal job .number ≡ 0) where
       let w = getD job i 0 in
       let e = word-at 5 k i at in
       let n = countOfKind 5 (before job i) in
-      let g = within-limit 64 n (within 1 5 (kind (last (before job i))) && formulaShape (headWord job) w) (formulaRange (headWord job) n w) (rule 5 i (at .inside) (at .of-kind)) in
-      let low = formula-low (headWord job) w (both-true (within 1 5 (kind (last (before job i)))) (formulaShape (headWord job) w) (g .0) .1) in
+      let g = within-limit 64 n (within 1 5 (kind (previous (before job i))) && formulaShape (headWord job) w) (formulaRange (headWord job) n w) (rule 5 i (at .inside) (at .of-kind)) in
+      let low = formula-low (headWord job) w (both-true (within 1 5 (kind (previous (before job i)))) (formulaShape (headWord job) w) (g .0) .1) in
       let a = implies (eqb (form w) 1) (ltb (atomFluent (headWord job) w) (fluents job)) in
       let x = implies (within 2 4 (form w)) (ltb (formulaX w) n) in
       let y = implies (within 3 4 (form w)) (ltb (formulaY w) n) in
@@ -130,7 +130,7 @@ module _ (job : List ℕ) (ok : jobRefusal job .number ≡ 0) where
   node {p} {i} at =
       let w = getD job i 0 in
       let f = form w in
-      let v = last (before job i) in
+      let v = previous (before job i) in
       let e = word-at 6 p i at in
       let acts = countOfKind 3 (before job i) in
       let forms = countOfKind 5 (before job i) in

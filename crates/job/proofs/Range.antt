@@ -9,9 +9,9 @@ use lib.ListN.{length, getD}
 use Rattle.words.specs.Tests.{within}
 use Rattle.words.specs.Fields.{kind, actionsOf}
 use Rattle.words.proofs.Choices.{within-true}
-use Rattle.answers.specs.Rows.{row, orElse, firstOf}
+use Rattle.answers.specs.Rows.{row, firstRefusal, firstOf}
 use Rattle.answers.proofs.Range.{Fitting, or-fits, row-fits, first-fits}
-use Rattle.job.specs.Rules.{grade}
+use Rattle.job.specs.Rules.{wordRefusalOf}
 use Rattle.job.specs.Before.{before, countOfKind, named}
 use Rattle.job.specs.Refusal.{wordRefusal, refusalOf, nameRefusal, emptySet, endRefusal, jobRefusal}
 use Rattle.job.proofs.Laws.{count-before}
@@ -20,8 +20,8 @@ pick-le : (t : Bool) (a b : ℕ) → a ≤ 13 → b ≤ 13 → cond t a b ≤ 13
 pick-le true a b h l = h
 pick-le false a b h l = l
 
-grade-le : (a b c : Bool) → grade a b c ≤ 13
-unfolding grade
+grade-le : (a b c : Bool) → wordRefusalOf a b c ≤ 13
+unfolding wordRefusalOf
 grade-le a b c = pick-le a _ 2 (pick-le b _ 3 (pick-le c 0 4 (omega arith) (omega arith)) (omega arith)) (omega arith)
 
 word-le : (head : ℕ) (p : List ℕ) (w : ℕ) → wordRefusal head p w ≤ 13
@@ -58,7 +58,7 @@ unfolding jobRefusal
 job-fits job = cases (within 1 2048 (length job)) refl
   where
     cases : (t : Bool) → within 1 2048 (length job) ≡ t
-        → Fitting (orElse (row (not t) 1 0) (orElse (firstOf (refusalOf job) (length job)) (endRefusal (getD job 0 0) (length job) (before job (length job)))))
+        → Fitting (firstRefusal (row (not t) 1 0) (firstRefusal (firstOf (refusalOf job) (length job)) (endRefusal (getD job 0 0) (length job) (before job (length job)))))
     cases false e = row-fits true 1 0 (omega arith) (omega arith)
     cases true e =
         let l = within-true 1 2048 (length job) e .1 in

@@ -8,20 +8,20 @@ use native.Mathlib.Omega.{arith}
 use lib.Dec.{eqb, ltb}
 use lib.ListN.{getD, length}
 use borrow.Author.Tests.{ne-eqb, eq-eqb, ltb-true, eqb-true, not-false}
-use Rattle.words.specs.Tests.{one, within}
+use Rattle.words.specs.Tests.{indicator, within}
 use Rattle.words.specs.Fields.{kind, actionNumber, actionsOf}
 use Rattle.words.proofs.Choices.{both-true}
-use Rattle.answers.specs.Rows.{refusal, row, orElse, firstOf}
+use Rattle.answers.specs.Rows.{refusal, row, firstRefusal, firstOf}
 use Rattle.answers.proofs.Rows.{first-none, or-none, row-none}
-use Rattle.job.specs.Rules.{grade, limited}
+use Rattle.job.specs.Rules.{wordRefusalOf, limited}
 use Rattle.job.specs.Before.{before, countOfKind}
-use Rattle.job.specs.Refusal.{lookup, rules, wordRefusal, refusalOf, nameRefusal, emptySet, endRefusal, jobRefusal}
+use Rattle.job.specs.Refusal.{refusalByKind, rules, wordRefusal, refusalOf, nameRefusal, emptySet, endRefusal, jobRefusal}
 use Rattle.job.proofs.Laws.{count-more, count-none}
 
 module _ (job : List ℕ) (i : ℕ) where
-  pub at-kind : (k : ℕ) → kind (getD job i 0) ≡ k → refusalOf job i ≡ lookup k (rules (getD job 0 0) (before job i) (getD job i 0))
+  pub at-kind : (k : ℕ) → kind (getD job i 0) ≡ k → refusalOf job i ≡ refusalByKind k (rules (getD job 0 0) (before job i) (getD job i 0))
   unfolding refusalOf wordRefusal
-  at-kind k h = ap (λ (m : ℕ). lookup m (rules (getD job 0 0) (before job i) (getD job i 0))) h
+  at-kind k h = ap (λ (m : ℕ). refusalByKind m (rules (getD job 0 0) (before job i) (getD job i 0))) h
 
   abbrev pub Not : ℕ → Type 0
   Not k = kind (getD job i 0) ≡ k → ⊥
@@ -32,8 +32,8 @@ module _ (job : List ℕ) (i : ℕ) where
       rw (ne-eqb _ 1 h1, ne-eqb _ 2 h2, ne-eqb _ 3 h3, ne-eqb _ 4 h4, ne-eqb _ 5 h5, ne-eqb _ 6 h6, ne-eqb _ 7 h7, ne-eqb _ 8 h8)
 
 -- what a word that is not refused passes
-pub graded : (shape range fresh : Bool) → grade shape range fresh ≡ 0 → (shape ≡ true) × (range ≡ true) × (fresh ≡ true)
-unfolding grade
+pub graded : (shape range fresh : Bool) → wordRefusalOf shape range fresh ≡ 0 → (shape ≡ true) × (range ≡ true) × (fresh ≡ true)
+unfolding wordRefusalOf
 graded false b c e = absurd (omega arith)
 graded true false c e = absurd (omega arith)
 graded true true false e = absurd (omega arith)
@@ -53,7 +53,7 @@ module _ (job : List ℕ) where
       cases (eqb (kind (getD job n 0)) k) refl (bounded k n (λ i l. h i (omega arith))) (rw (add-one n) at (count-more job n k))
     where
       cases : (t : Bool) → eqb (kind (getD job n 0)) k ≡ t → countOfKind k (before job n) ≤ 64
-          → countOfKind k (before job (suc n)) ≡ countOfKind k (before job n) + one (eqb (kind (getD job n 0)) k) → countOfKind k (before job (suc n)) ≤ 64
+          → countOfKind k (before job (suc n)) ≡ countOfKind k (before job n) + indicator (eqb (kind (getD job n 0)) k) → countOfKind k (before job (suc n)) ≤ 64
       cases true e ih more =
           let here : countOfKind k (before job n) < 64 = h n (omega arith) (eqb-true (kind (getD job n 0)) k e) in
           omega (arith, rw e at more)
@@ -61,12 +61,12 @@ module _ (job : List ℕ) where
 
   module _ (none : firstOf (refusalOf job) (length job) .number ≡ 0) where
     -- the rule of its kind refuses no word
-    pub rule-passed : (k i : ℕ) → i < length job → kind (getD job i 0) ≡ k → lookup k (rules (getD job 0 0) (before job i) (getD job i 0)) ≡ 0
+    pub rule-passed : (k i : ℕ) → i < length job → kind (getD job i 0) ≡ k → refusalByKind k (rules (getD job 0 0) (before job i) (getD job i 0)) ≡ 0
     rule-passed k i l h = sym (at-kind job i k h) ∙ first-none (refusalOf job) (length job) none i l
 
     -- a kind whose rule lets a word pass only with fewer than 64 before it
     abbrev pub Limits : ℕ → Type 0
-    Limits k = (p : List ℕ) (w : ℕ) → lookup k (rules (getD job 0 0) p w) ≡ 0 → countOfKind k p < 64
+    Limits k = (p : List ℕ) (w : ℕ) → refusalByKind k (rules (getD job 0 0) p w) ≡ 0 → countOfKind k p < 64
 
     pub few : (k : ℕ) → Limits k → countOfKind k (before job (length job)) ≤ 64
     few k limits = bounded k (length job) (λ i l h. limits (before job i) (getD job i 0) (rule-passed k i l h))
@@ -124,8 +124,8 @@ end-clear job c =
     let r2 = row (eqb (countOfKind 6 p) 0) 5 0 in
     let r3 = row (emptySet p) 5 (countOfKind 6 p - 1) in
     let r4 = firstOf (nameRefusal p) (countOfKind 6 p - 1) in
-    let a = or-none r1 (orElse r2 (orElse r3 r4)) (c .end) in
-    let b = or-none r2 (orElse r3 r4) (a .1) in
+    let a = or-none r1 (firstRefusal r2 (firstRefusal r3 r4)) (c .end) in
+    let b = or-none r2 (firstRefusal r3 r4) (a .1) in
     let d = or-none r3 r4 (b .1) in
     record {
       counted = eqb-true _ _ (not-false _ (row-none miscounted 3 (length job) (omega arith) (a .0)));

@@ -13,14 +13,14 @@ use borrow.Author.Tests.{eqb-true, eqb-false, leb-true, ltb-true, eq-eqb, ne-eqb
 use lib.Dec.{eqb, leb, ltb}
 use lib.ListN.{length, getD, drop, length-drop}
 use lib.Seq.{getD-drop, drop-drop}
-use Rattle.words.specs.Tests.{implies, one, within}
+use Rattle.words.specs.Tests.{implies, indicator, within}
 use Rattle.words.specs.Fields.{ofKind, kind, form, spare, isSet, memberNode, conditionFormula, conditionI, conditionJ, conditionM, conditionN}
-use Rattle.words.specs.Scan.{leading, beyond}
-use Rattle.words.proofs.Choices.{true-false, both-true, either-true, implies-true, pick-same, true-within}
-use Rattle.words.proofs.Scan.{leading-entry, leading-stop, beyond-drop}
+use Rattle.words.specs.Scan.{takeWhile, dropWhile}
+use Rattle.words.proofs.Choices.{true-false, both-true, either-true, implies-true, cond-same, true-within}
+use Rattle.words.proofs.Scan.{takeWhile-entry, takeWhile-stop, dropWhile-drop}
 use Rattle.answers.proofs.Rows.{first-none}
-use Rattle.job.specs.Rules.{grade, conditionShape, conditionRange}
-use Rattle.job.specs.Before.{before, last, countOfKind, since, latest}
+use Rattle.job.specs.Rules.{wordRefusalOf, conditionShape, conditionRange}
+use Rattle.job.specs.Before.{before, previous, countOfKind, since, latest}
 use Rattle.job.specs.Refusal.{wordRefusal, refusalOf, nameRefusal, emptySet, endRefusal, jobRefusal}
 use Rattle.job.specs.Parts.{total, nodeWord, memberWords, conditionWords, formulaCount}
 use Rattle.job.specs.WellFormed.{ConditionFormed, SetFormed}
@@ -36,7 +36,7 @@ Run job k s n = (i : ℕ) → i < n → kind (getD job (s + i) 0) ≡ k
 module _ (job : List ℕ) (k : ℕ) (s : ℕ) where
   -- what they add to the counts of kind j, in all and since the last node
   run-since : (j n : ℕ) → (k ≡ 6 → ⊥) → Run job k s n
-      → countOfKind j (since 6 (before job (s + n))) ≡ countOfKind j (since 6 (before job s)) + n * one (eqb k j)
+      → countOfKind j (since 6 (before job (s + n))) ≡ countOfKind j (since 6 (before job s)) + n * indicator (eqb k j)
   run-since j zero h r = rw (add-zero s) (omega arith)
   run-since j (suc n) h r =
       let more = count-since-more job (s + n) j 6 in
@@ -44,7 +44,7 @@ module _ (job : List ℕ) (k : ℕ) (s : ℕ) where
       let e : s + suc n ≡ s + n + 1 = omega arith in
       rw e (more ∙ rw (here, ne-eqb k 6 h) (omega (arith, run-since j n h (λ i l. r i (omega arith)))))
 
-  run-count : (j n : ℕ) → Run job k s n → countOfKind j (before job (s + n)) ≡ countOfKind j (before job s) + n * one (eqb k j)
+  run-count : (j n : ℕ) → Run job k s n → countOfKind j (before job (s + n)) ≡ countOfKind j (before job s) + n * indicator (eqb k j)
   run-count j zero r = rw (add-zero s) (omega arith)
   run-count j (suc n) r =
       let more = count-more job (s + n) j in
@@ -61,10 +61,10 @@ condition-low w e = by-cases (decLt 4 (form w)) (λ h. absurd (true-false (sym e
 -- a word after a set that is no member is refused
 after-set : (job : List ℕ) (at : ℕ) → kind (getD job at 0) ≡ 6 → form (getD job at 0) ≡ 8 → eqb (kind (getD job (at + 1) 0)) 7 ≡ false
     → refusalOf job (at + 1) ≡ 0 → ⊥
-unfolding refusalOf wordRefusal last grade
+unfolding refusalOf wordRefusal previous wordRefusalOf
 after-set job at k f other h =
     let first : eqb (length (getD job at 0 ∷ before job at)) 0 ≡ false = ne-eqb (length (getD job at 0 ∷ before job at)) 0 not-zero in
-    let two = simp (before-more job at, k, f, other, first, pick-same) at h in
+    let two = simp (before-more job at, k, f, other, first, cond-same) at h in
     omega arith
   where
     not-zero : length (getD job at 0 ∷ before job at) ≡ 0 → ⊥
@@ -98,25 +98,25 @@ module _ (job : List ℕ) (ok : jobRefusal job .number ≡ 0) {p at : ℕ} (node
   from = drop-drop 1 at job
 
   m : ℕ
-  m = length (leading (ofKind 7) (drop (at + 1) job))
+  m = length (takeWhile (ofKind 7) (drop (at + 1) job))
 
-  members-are : memberWords job p ≡ leading (ofKind 7) (drop (at + 1) job)
+  members-are : memberWords job p ≡ takeWhile (ofKind 7) (drop (at + 1) job)
   unfolding memberWords
   members-are = rw (from-position 6 job at p (node .inside) (node .of-kind) (node .numbered), from)
 
-  conditions-are : conditionWords job p ≡ leading (ofKind 8) (drop (at + 1 + m) job)
+  conditions-are : conditionWords job p ≡ takeWhile (ofKind 8) (drop (at + 1 + m) job)
   unfolding conditionWords m
-  conditions-are = rw (from-position 6 job at p (node .inside) (node .of-kind) (node .numbered), from, beyond-drop (ofKind 7) (drop (at + 1) job), drop-drop)
+  conditions-are = rw (from-position 6 job at p (node .inside) (node .of-kind) (node .numbered), from, dropWhile-drop (ofKind 7) (drop (at + 1) job), drop-drop)
 
   -- a word of a run that leads what follows position s
-  led : (k s i : ℕ) → i < length (leading (ofKind k) (drop s job))
-      → (getD (leading (ofKind k) (drop s job)) i 0 ≡ getD job (s + i) 0) × (kind (getD job (s + i) 0) ≡ k) × (s + i < length job)
+  led : (k s i : ℕ) → i < length (takeWhile (ofKind k) (drop s job))
+      → (getD (takeWhile (ofKind k) (drop s job)) i 0 ≡ getD job (s + i) 0) × (kind (getD job (s + i) 0) ≡ k) × (s + i < length job)
   led k s i h =
-      let r = leading-entry (ofKind k) (drop s job) i h in
+      let r = takeWhile-entry (ofKind k) (drop s job) i h in
       let e = getD-drop s job i 0 in
       (r .0 ∙ e, eqb-true (kind (getD job (s + i) 0)) k (rw e at (r .1)), omega (arith, r .2, length-drop s job))
 
-  run : (k s : ℕ) → Run job k s (length (leading (ofKind k) (drop s job)))
+  run : (k s : ℕ) → Run job k s (length (takeWhile (ofKind k) (drop s job)))
   run k s i h = led k s i h .1
 
   -- the counts at the set's first word after it
@@ -150,7 +150,7 @@ module _ (job : List ℕ) (ok : jobRefusal job .number ≡ 0) {p at : ℕ} (node
       follows : m ≡ 0 → at + 1 < length job → ⊥
       follows z l =
           let w = getD job (at + 1) 0 in
-          let stop = leading-stop (ofKind 7) (drop (at + 1) job) (omega (arith, length-drop (at + 1) job)) in
+          let stop = takeWhile-stop (ofKind 7) (drop (at + 1) job) (omega (arith, length-drop (at + 1) job)) in
           let other : eqb (kind w) 7 ≡ false = rw (z, getD-drop, add-zero) at stop in
           after-set job at (node .of-kind) set other (first-none (refusalOf job) (length job) (c .words) (at + 1) l)
 
@@ -164,7 +164,7 @@ module _ (job : List ℕ) (ok : jobRefusal job .number ≡ 0) {p at : ℕ} (node
       none z = by-cases (decLt (at + 1) (length job)) (follows z) (ends z)
 
   -- what the rule of its kind says of condition i
-  condition : (i : ℕ) → i < length (leading (ofKind 8) (drop (at + 1 + m) job)) → (i < 8) × ConditionFormed job m (getD job (at + 1 + m + i) 0)
+  condition : (i : ℕ) → i < length (takeWhile (ofKind 8) (drop (at + 1 + m) job)) → (i < 8) × ConditionFormed job m (getD job (at + 1 + m + i) 0)
   unfolding m
   condition i h =
       let pos = at + 1 + m + i in
@@ -173,7 +173,7 @@ module _ (job : List ℕ) (ok : jobRefusal job .number ≡ 0) {p at : ℕ} (node
       let q = before job pos in
       let n = countOfKind 7 (since 6 q) in
       let forms = countOfKind 5 q in
-      let g = within-limit 8 (countOfKind 8 (since 6 q)) (within 7 8 (kind (last q)) && conditionShape w) (conditionRange forms n w) (rule-passed job (c .words) 8 pos (a .2) (a .1)) in
+      let g = within-limit 8 (countOfKind 8 (since 6 q)) (within 7 8 (kind (previous q)) && conditionShape w) (conditionRange forms n w) (rule-passed job (c .words) 8 pos (a .2) (a .1)) in
       let members : Run job 7 (at + 1) m = run 7 (at + 1) in
       let sofar : Run job 8 (at + 1 + m) i = λ j l. led 8 (at + 1 + m) j (omega arith) .1 in
       let sevens = run-since job 7 (at + 1) 7 m (λ z. omega arith) members in
@@ -182,7 +182,7 @@ module _ (job : List ℕ) (ok : jobRefusal job .number ≡ 0) {p at : ℕ} (node
       let eights2 = run-since job 8 (at + 1 + m) 8 i (λ z. omega arith) sofar in
       let same : n ≡ m = omega (arith, sevens, sevens2, start-since 7) in
       let inside = a .2 in
-      let shape = both-true (within 7 8 (kind (last q))) (conditionShape w) (g .0) .1 in
+      let shape = both-true (within 7 8 (kind (previous q))) (conditionShape w) (g .0) .1 in
       let low = condition-low w shape in
       let f = implies (within 2 4 (form w)) (ltb (conditionFormula w) forms) in
       let x = ltb (conditionI w) n in
@@ -200,8 +200,8 @@ module _ (job : List ℕ) (ok : jobRefusal job .number ≡ 0) {p at : ℕ} (node
         },
       )
 
-  few-conditions : length (leading (ofKind 8) (drop (at + 1 + m) job)) ≤ 8
-  few-conditions = by-cases (decLt 8 (length (leading (ofKind 8) (drop (at + 1 + m) job)))) (λ h. absurd (let z = condition 8 h in omega (arith, z .0))) (λ h. omega arith)
+  few-conditions : length (takeWhile (ofKind 8) (drop (at + 1 + m) job)) ≤ 8
+  few-conditions = by-cases (decLt 8 (length (takeWhile (ofKind 8) (drop (at + 1 + m) job)))) (λ h. absurd (let z = condition 8 h in omega (arith, z .0))) (λ h. omega arith)
 
   pub set-formed : SetFormed job p
   unfolding m

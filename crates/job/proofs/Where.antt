@@ -12,14 +12,14 @@ use borrow.Author.Tests.{eq-eqb, ne-eqb}
 use lib.Dec.{eqb}
 use lib.ListN.{length, getD, drop, set, replicate, length-append, length-set, List·getD-append}
 use lib.Seq.{sets, sets-eq, getD-at}
-use Rattle.words.specs.Tests.{one}
+use Rattle.words.specs.Tests.{indicator}
 use Rattle.words.specs.Fields.{ofKind, kind}
 use Rattle.words.proofs.Choices.{same-or-not}
 use Rattle.job.specs.Before.{before, countOfKind}
-use Rattle.words.specs.Scan.{fromNumber}
+use Rattle.words.specs.Scan.{fromNth}
 use Rattle.job.specs.Index.{positions, placesUpto}
 use Rattle.job.specs.Parts.{total}
-use Rattle.job.specs.WellFormed.{Placed}
+use Rattle.job.specs.WellFormed.{Indexed}
 use Rattle.job.proofs.Laws.{count-more, count-none, count-grows}
 
 -- one more word stored after others
@@ -46,13 +46,13 @@ module _ (k : ℕ) (job : List ℕ) where
   -- there are as many as words of the kind
   pub positions-count : (i : ℕ) → length (positions k job i) ≡ countOfKind k (before job i)
   positions-count zero = rw (positions-none, count-none job k)
-  positions-count (suc i) = rw (← (add-one i)) (positions-length ∙ ap (λ (n : ℕ). n + one (eqb (kind (getD job i 0)) k)) (positions-count i) ∙ sym (count-more job i k))
+  positions-count (suc i) = rw (← (add-one i)) (positions-length ∙ ap (λ (n : ℕ). n + indicator (eqb (kind (getD job i 0)) k)) (positions-count i) ∙ sym (count-more job i k))
     where
-      length-pick : (t : Bool) → length (cond t (i ∷ []) []) ≡ one t
+      length-pick : (t : Bool) → length (cond t (i ∷ []) []) ≡ indicator t
       length-pick true = refl
       length-pick false = refl
 
-      positions-length : length (positions k job (i + 1)) ≡ length (positions k job i) + one (eqb (kind (getD job i 0)) k)
+      positions-length : length (positions k job (i + 1)) ≡ length (positions k job i) + indicator (eqb (kind (getD job i 0)) k)
       positions-length = ap length (positions-more i) ∙ length-append (positions k job i) _ ∙ ap (λ (n : ℕ). length (positions k job i) + n) (length-pick (eqb (kind (getD job i 0)) k))
 
 -- the array and the number are those of the words of kind k before i
@@ -111,22 +111,22 @@ is-word k job (suc i) l j h = cases (same-or-not (kind (getD job i 0)) k) (is-wo
         (record { inside = omega arith; of-kind = y; numbered = sym (positions-count k job i) ∙ last }))
 
 -- a count of the words before, with the first word apart
-pub count-cons : (k w : ℕ) (ws : List ℕ) (i : ℕ) → countOfKind k (before (w ∷ ws) (suc i)) ≡ one (eqb (kind w) k) + countOfKind k (before ws i)
+pub count-cons : (k w : ℕ) (ws : List ℕ) (i : ℕ) → countOfKind k (before (w ∷ ws) (suc i)) ≡ indicator (eqb (kind w) k) + countOfKind k (before ws i)
 unfolding countOfKind before
 count-cons k w ws zero = omega arith
 count-cons k w ws (suc i) = omega (arith, count-cons k w ws i)
 
 -- the words from number j of a kind on begin at its position
 pub from-position : (k : ℕ) (ws : List ℕ) (i j : ℕ) → i < length ws → kind (getD ws i 0) ≡ k → countOfKind k (before ws i) ≡ j
-    → fromNumber (ofKind k) j ws ≡ drop i ws
-unfolding fromNumber
+    → fromNth (ofKind k) j ws ≡ drop i ws
+unfolding fromNth
 from-position k [] i j l h c = absurd (omega arith)
 from-position k (w ∷ ws) zero zero l h c = rw (eq-eqb (kind w) k h)
 from-position k (w ∷ ws) zero (suc j) l h c = absurd (omega (arith, count-none (w ∷ ws) k))
 from-position k (w ∷ ws) (suc i) j l h c = cases (eqb (kind w) k) refl j (rw (count-cons k w ws i) at c) (λ j. from-position k ws i j (omega arith) h)
   where
-    cases : (t : Bool) → eqb (kind w) k ≡ t → (j : ℕ) → one (eqb (kind w) k) + countOfKind k (before ws i) ≡ j
-        → ((j : ℕ) → countOfKind k (before ws i) ≡ j → fromNumber (ofKind k) j ws ≡ drop i ws) → fromNumber (ofKind k) j (w ∷ ws) ≡ drop i ws
+    cases : (t : Bool) → eqb (kind w) k ≡ t → (j : ℕ) → indicator (eqb (kind w) k) + countOfKind k (before ws i) ≡ j
+        → ((j : ℕ) → countOfKind k (before ws i) ≡ j → fromNth (ofKind k) j ws ≡ drop i ws) → fromNth (ofKind k) j (w ∷ ws) ≡ drop i ws
     cases true e zero c ih = absurd (let z = rw e at c in omega arith)
     cases true e (suc j) c ih = rw e (ih j (let z = rw e at c in omega arith))
     cases false e zero c ih = rw e (ih zero (let z = rw e at c in omega arith))
@@ -136,7 +136,7 @@ from-position k (w ∷ ws) (suc i) j l h c = cases (eqb (kind w) k) refl j (rw (
 pub in-front : (l : List ℕ) (j : ℕ) → j < length l → length l ≤ 64 → getD (sets (replicate 64 0) 0 l) j 0 ≡ getD l j 0
 in-front l j h few = rw (sets-eq l (replicate 64 0) 0 (omega arith)) (List·getD-append l _ 0 j h)
 
-pub placed : (job : List ℕ) (k : ℕ) → total k job ≤ 64 → Placed job k (placesUpto k job (length job) .position)
+pub placed : (job : List ℕ) (k : ℕ) → total k job ≤ 64 → Indexed job k (placesUpto k job (length job) .position)
 unfolding placesUpto
 placed job k few = record { inside = λ j h. at j h .inside; words = λ j h. from-position k job _ j (at j h .inside) (at j h .of-kind) (at j h .numbered) }
   where

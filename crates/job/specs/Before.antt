@@ -4,7 +4,7 @@ use mathlib.Core.List.{List, [], _∷_}
 use Prim.Native.Nat.{ℕ, zero, suc, _+_}
 use lib.Dec.{eqb}
 use lib.ListN.{getD}
-use Rattle.words.specs.Tests.{one}
+use Rattle.words.specs.Tests.{indicator}
 use Rattle.words.specs.Fields.{kind}
 use Rattle.job.specs.Rules.{names}
 
@@ -14,14 +14,14 @@ before job zero = []
 before job (suc i) = getD job i 0 ∷ before job i
 
 -- the word directly before; 0, which is of no kind, where there is none
-unfoldable pub last : List ℕ → ℕ
-last [] = 0
-last (w ∷ p) = w
+unfoldable pub previous : List ℕ → ℕ
+previous [] = 0
+previous (w ∷ p) = w
 
 -- how many words are of kind k
 unfoldable pub countOfKind : ℕ → List ℕ → ℕ
 countOfKind k [] = 0
-countOfKind k (w ∷ p) = countOfKind k p + one (eqb (kind w) k)
+countOfKind k (w ∷ p) = countOfKind k p + indicator (eqb (kind w) k)
 
 -- the words after the last one of kind k
 unfoldable pub since : ℕ → List ℕ → List ℕ

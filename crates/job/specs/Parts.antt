@@ -5,7 +5,7 @@ use Prim.Native.Nat.{ℕ}
 use lib.Dec.{eqb}
 use lib.ListN.{getD, length, drop}
 use Rattle.words.specs.Fields.{ofKind, fluentsOf, actionsOf, lastOf, durationOf, memberNode}
-use Rattle.words.specs.Scan.{leading, beyond, fromNumber}
+use Rattle.words.specs.Scan.{takeWhile, dropWhile, fromNth}
 use Rattle.job.specs.Before.{before, countOfKind}
 
 abbrev pub headWord : List ℕ → ℕ
@@ -25,34 +25,34 @@ abbrev pub total : ℕ → List ℕ → ℕ
 total k job = countOfKind k (before job (length job))
 
 abbrev pub wordsFrom : ℕ → List ℕ → ℕ → List ℕ
-wordsFrom k job j = fromNumber (ofKind k) j job
+wordsFrom k job j = fromNth (ofKind k) j job
 
-abbrev pub wordAt : ℕ → List ℕ → ℕ → ℕ
-wordAt k job j = getD (wordsFrom k job j) 0 0
+abbrev pub wordOfKind : ℕ → List ℕ → ℕ → ℕ
+wordOfKind k job j = getD (wordsFrom k job j) 0 0
 
 -- action a: its duration, and its laws, the words of kind 4 after its own
 unfoldable pub duration : List ℕ → ℕ → ℕ
-duration job a = durationOf (wordAt 3 job a)
+duration job a = durationOf (wordOfKind 3 job a)
 
 unfoldable pub lawsOf : List ℕ → ℕ → List ℕ
-lawsOf job a = leading (ofKind 4) (drop 1 (wordsFrom 3 job a))
+lawsOf job a = takeWhile (ofKind 4) (drop 1 (wordsFrom 3 job a))
 
 -- how many formulas there are, and the word of formula k
 abbrev pub formulaCount : List ℕ → ℕ
 formulaCount job = total 5 job
 
 unfoldable pub formulaWord : List ℕ → ℕ → ℕ
-formulaWord job k = wordAt 5 job k
+formulaWord job k = wordOfKind 5 job k
 
 -- how many nodes there are, and the word of node p; of a task set the nodes of its members, and its condition words
 abbrev pub nodeCount : List ℕ → ℕ
 nodeCount job = total 6 job
 
 unfoldable pub nodeWord : List ℕ → ℕ → ℕ
-nodeWord job p = wordAt 6 job p
+nodeWord job p = wordOfKind 6 job p
 
 unfoldable pub memberWords : List ℕ → ℕ → List ℕ
-memberWords job p = leading (ofKind 7) (drop 1 (wordsFrom 6 job p))
+memberWords job p = takeWhile (ofKind 7) (drop 1 (wordsFrom 6 job p))
 
 unfoldable pub conditionWords : List ℕ → ℕ → List ℕ
-conditionWords job p = leading (ofKind 8) (beyond (ofKind 7) (drop 1 (wordsFrom 6 job p)))
+conditionWords job p = takeWhile (ofKind 8) (dropWhile (ofKind 7) (drop 1 (wordsFrom 6 job p)))

@@ -6,32 +6,32 @@ use lib.Dec.{eqb}
 use lib.ListN.{getD, length}
 use Rattle.words.specs.Tests.{within}
 use Rattle.words.specs.Fields.{kind, form, actionsOf}
-use Rattle.words.specs.Scan.{someWord}
+use Rattle.words.specs.Scan.{any}
 use Rattle.job.specs.Rules.{headRefusal, knownRefusal, actionRefusal, lawRefusal, sameFluent, formulaShape, formulaRange, formulaRefusal, nodeShape, nodeRange, nodeRefusal, memberRefusal, conditionShape, conditionRange, conditionRefusal}
-use Rattle.job.specs.Before.{before, last, countOfKind, since, latest, named}
+use Rattle.job.specs.Before.{before, previous, countOfKind, since, latest, named}
 use Rattle.answers.specs.declared.Refusal.{Refusal}
-use Rattle.answers.specs.Rows.{row, orElse, firstOf}
+use Rattle.answers.specs.Rows.{row, firstRefusal, firstOf}
 
 -- the number that a table has at a key; 2, a kind that is not allowed, where it has none
-abbrev pub lookup : ℕ → List (ℕ × ℕ) → ℕ
-lookup k [] = 2
-lookup k (e ∷ rest) = cond (eqb k (e .0)) (e .1) (lookup k rest)
+abbrev pub refusalByKind : ℕ → List (ℕ × ℕ) → ℕ
+refusalByKind k [] = 2
+refusalByKind k (e ∷ rest) = cond (eqb k (e .0)) (e .1) (refusalByKind k rest)
 
 -- the refusal of word w after the words p of a job with that head, by each kind that it may be of; 0 for none
 abbrev pub rules : ℕ → List ℕ → ℕ → List (ℕ × ℕ)
 rules head p w =
     (1, headRefusal (length p) w)
-    ∷ (2, knownRefusal head (last p) (someWord (sameFluent head w) (since 1 p)) w)
-    ∷ (3, actionRefusal (last p) (countOfKind 3 p) w)
-    ∷ (4, lawRefusal head (last p) (someWord (sameFluent head w) (since 3 p)) w)
-    ∷ (5, formulaRefusal (last p) (countOfKind 5 p) (formulaShape head w) (formulaRange head (countOfKind 5 p) w))
-    ∷ (6, nodeRefusal (last p) (countOfKind 6 p) (nodeShape w) (nodeRange (countOfKind 3 p) (countOfKind 5 p) (countOfKind 6 p) w))
-    ∷ (7, memberRefusal (last p) (countOfKind 6 p) (countOfKind 7 (since 6 p)) w)
-    ∷ (8, conditionRefusal (last p) (countOfKind 8 (since 6 p)) (conditionShape w) (conditionRange (countOfKind 5 p) (countOfKind 7 (since 6 p)) w))
+    ∷ (2, knownRefusal head (previous p) (any (sameFluent head w) (since 1 p)) w)
+    ∷ (3, actionRefusal (previous p) (countOfKind 3 p) w)
+    ∷ (4, lawRefusal head (previous p) (any (sameFluent head w) (since 3 p)) w)
+    ∷ (5, formulaRefusal (previous p) (countOfKind 5 p) (formulaShape head w) (formulaRange head (countOfKind 5 p) w))
+    ∷ (6, nodeRefusal (previous p) (countOfKind 6 p) (nodeShape w) (nodeRange (countOfKind 3 p) (countOfKind 5 p) (countOfKind 6 p) w))
+    ∷ (7, memberRefusal (previous p) (countOfKind 6 p) (countOfKind 7 (since 6 p)) w)
+    ∷ (8, conditionRefusal (previous p) (countOfKind 8 (since 6 p)) (conditionShape w) (conditionRange (countOfKind 5 p) (countOfKind 7 (since 6 p)) w))
     ∷ []
 
 unfoldable pub wordRefusal : ℕ → List ℕ → ℕ → ℕ
-wordRefusal head p w = lookup (kind w) (rules head p w)
+wordRefusal head p w = refusalByKind (kind w) (rules head p w)
 
 -- the refusal of the word at position i
 unfoldable pub refusalOf : List ℕ → ℕ → ℕ
@@ -49,12 +49,12 @@ nameRefusal p v = cond (eqb (named v p) 1) 0 5
 -- number, or 0 where there is no node.
 unfoldable pub endRefusal : ℕ → ℕ → List ℕ → Refusal
 endRefusal head len p =
-    orElse (row (not (eqb (countOfKind 3 p) (actionsOf head))) 3 len)
-    (orElse (row (eqb (countOfKind 6 p) 0) 5 0)
-    (orElse (row (emptySet p) 5 (countOfKind 6 p - 1))
+    firstRefusal (row (not (eqb (countOfKind 3 p) (actionsOf head))) 3 len)
+    (firstRefusal (row (eqb (countOfKind 6 p) 0) 5 0)
+    (firstRefusal (row (emptySet p) 5 (countOfKind 6 p - 1))
     (firstOf (nameRefusal p) (countOfKind 6 p - 1))))
 
 unfoldable pub jobRefusal : List ℕ → Refusal
 jobRefusal job =
-    orElse (row (not (within 1 2048 (length job))) 1 0)
-    (orElse (firstOf (refusalOf job) (length job)) (endRefusal (getD job 0 0) (length job) (before job (length job))))
+    firstRefusal (row (not (within 1 2048 (length job))) 1 0)
+    (firstRefusal (firstOf (refusalOf job) (length job)) (endRefusal (getD job 0 0) (length job) (before job (length job))))

@@ -3,39 +3,39 @@
 use mathlib.Core.Bool.{Bool, true, not, cond, _&&_, _||_}
 use Prim.Native.Nat.{ℕ, _+_, _/_}
 use lib.Dec.{leb, ltb, eqb}
-use Rattle.words.specs.Tests.{implies, one, within}
+use Rattle.words.specs.Tests.{implies, indicator, within}
 use Rattle.words.specs.Fields.{field, spare, kind, form, fluentsOf, actionsOf, lastOf, fluentOf, knownSpare, actionNumber, durationOf, roleOf, lawSpare, formulaX, formulaY, atomFluent, atomSpare, nodeX, nodeY, nodeM, nodeN, isSet, memberNode, conditionFormula, conditionI, conditionJ, conditionM, conditionN}
 
 -- rows 2, 3 and 4 on a word, in turn: what is allowed by kind, form, predecessor and spare bits; by numbers, references and
 -- ranges; and as a fluent not listed already
-unfoldable pub grade : Bool → Bool → Bool → ℕ
-grade shape range fresh = cond shape (cond range (cond fresh 0 4) 3) 2
+unfoldable pub wordRefusalOf : Bool → Bool → Bool → ℕ
+wordRefusalOf shape range fresh = cond shape (cond range (cond fresh 0 4) 3) 2
 
 -- a word of a kind of which there are at most `most`, with `count` of them before it
 abbrev pub limited : ℕ → ℕ → Bool → Bool → ℕ
-limited most count shape range = grade shape (ltb count most && range) true
+limited most count shape range = wordRefusalOf shape (ltb count most && range) true
 
 -- kind 1, head: at which position it stands
 abbrev pub headRefusal : ℕ → ℕ → ℕ
 headRefusal position w =
-    grade (eqb position 0 && spare w 27 24)
+    wordRefusalOf (eqb position 0 && spare w 27 24)
     (within 1 64 (fluentsOf w) && within 1 64 (actionsOf w) && leb (lastOf w) 63)
     true
 
 -- kind 2, initially known: the word before it, whether its fluent is listed already
 abbrev pub knownRefusal : ℕ → ℕ → Bool → ℕ → ℕ
 knownRefusal head last listed w =
-    grade (within 1 2 (kind last) && knownSpare head w) (ltb (fluentOf head w) (fluentsOf head)) (not listed)
+    wordRefusalOf (within 1 2 (kind last) && knownSpare head w) (ltb (fluentOf head w) (fluentsOf head)) (not listed)
 
 -- kind 3, action: the word before it, and how many actions are declared
 abbrev pub actionRefusal : ℕ → ℕ → ℕ → ℕ
 actionRefusal last actions w =
-    grade (within 1 4 (kind last) && spare w 27 12) (eqb (actionNumber w) actions && leb 1 (durationOf w)) true
+    wordRefusalOf (within 1 4 (kind last) && spare w 27 12) (eqb (actionNumber w) actions && leb 1 (durationOf w)) true
 
 -- kind 4, law: the word before it, whether its fluent is listed in this action, in roles of its pair
 abbrev pub lawRefusal : ℕ → ℕ → Bool → ℕ → ℕ
 lawRefusal head last listed w =
-    grade (within 3 4 (kind last) && lawSpare head w) (ltb (fluentOf head w) (fluentsOf head)) (not listed)
+    wordRefusalOf (within 3 4 (kind last) && lawSpare head w) (ltb (fluentOf head w) (fluentsOf head)) (not listed)
 
 -- two words of one kind list the same fluent; of laws, in the same pair of roles: needs (0, 1) or makes (2, 3). In words of kind 2 the bit
 -- that `roleOf / 2` reads is spare, so that the fluent alone counts.
@@ -122,7 +122,7 @@ conditionRefusal last conditions shape range = limited 8 conditions (within 7 8 
 -- how often a word names node v as a child: as X, Y or M of a node, or as a member
 abbrev pub names : ℕ → ℕ → ℕ
 names v w =
-    one (eqb (kind w) 6 && childX w && eqb (nodeX w) v)
-    + one (eqb (kind w) 6 && childY w && eqb (nodeY w) v)
-    + one (eqb (kind w) 6 && childM w && eqb (nodeM w) v)
-    + one (eqb (kind w) 7 && eqb (memberNode w) v)
+    indicator (eqb (kind w) 6 && childX w && eqb (nodeX w) v)
+    + indicator (eqb (kind w) 6 && childY w && eqb (nodeY w) v)
+    + indicator (eqb (kind w) 6 && childM w && eqb (nodeM w) v)
+    + indicator (eqb (kind w) 7 && eqb (memberNode w) v)

@@ -10,7 +10,7 @@ use Rattle.job.specs.Before.{before, named}
 use Rattle.job.specs.Parts.{headWord, fluents, actions, lastMoment, total, wordsFrom, duration, formulaCount, formulaWord, nodeCount, nodeWord, memberWords, conditionWords}
 
 -- `places` has the position of each word of kind k
-pub record Placed (job : List ℕ) (k : ℕ) (places : List ℕ) : Type 0 where
+pub record Indexed (job : List ℕ) (k : ℕ) (places : List ℕ) : Type 0 where
   pub inside : (j : ℕ) → j < total k job → getD places j 0 < length job
   pub words : (j : ℕ) → j < total k job → wordsFrom k job j ≡ drop (getD places j 0) job
 

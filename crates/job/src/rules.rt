@@ -2,11 +2,11 @@
 ghost use mathlib.Core.Bool.{cond};
 ghost use mathlib.Core.Path.{_≡_};
 ghost use Prim.Native.Nat.{_≤_};
-ghost use Rattle.words.specs.Tests.{one};
-ghost use Rattle.job.specs.Rules.{grade, limited, headRefusal, knownRefusal, actionRefusal, lawRefusal, sameFluent, formulaShape, formulaRange, formulaRefusal, nodeShape, nodeRange, nodeRefusal, memberRefusal, conditionShape, conditionRange, conditionRefusal, names};
+ghost use Rattle.words.specs.Tests.{indicator};
+ghost use Rattle.job.specs.Rules.{wordRefusalOf, limited, headRefusal, knownRefusal, actionRefusal, lawRefusal, sameFluent, formulaShape, formulaRange, formulaRefusal, nodeShape, nodeRange, nodeRefusal, memberRefusal, conditionShape, conditionRange, conditionRefusal, names};
 
 pub fn grade_of(shape: bool, range: bool, fresh: bool) -> u32
-    ensures { λ r. ⌜ r ≡ grade shape range fresh ⌝ }
+    ensures { λ r. ⌜ r ≡ wordRefusalOf shape range fresh ⌝ }
 {
     if shape {
         if range { if fresh { 0 } else { 4 } } else { 3 }
@@ -28,7 +28,7 @@ pub fn pick_word(t: bool, a: u32, b: u32) -> u32
 }
 
 pub fn one_if(t: bool) -> usize
-    ensures { λ r. ⌜ (r ≡ one t) × (r ≤ 1) ⌝ }
+    ensures { λ r. ⌜ (r ≡ indicator t) × (r ≤ 1) ⌝ }
 {
     if t { 1 } else { 0 }
 }

@@ -2,10 +2,10 @@
 ghost use mathlib.Core.Path.{_≡_};
 ghost use Prim.Native.Nat.{_+_, _<_, _≤_};
 ghost use lib.ListN.{length};
-ghost use Rattle.words.specs.Scan.{someWord};
+ghost use Rattle.words.specs.Scan.{any};
 ghost use Rattle.answers.specs.Rows.{firstOf};
 ghost use Rattle.job.specs.Rules.{sameFluent};
-ghost use Rattle.job.specs.Before.{before, last, since};
+ghost use Rattle.job.specs.Before.{before, previous, since};
 ghost use Rattle.job.specs.Refusal.{refusalOf};
 ghost use Rattle.job.specs.State.{Tied};
 use crate::Scanned;
@@ -15,7 +15,7 @@ use answers::Refusal;
 
 fn previous(job: &[u32], i: usize) -> u32
     requires { ⌜ i ≤ length (now job) ⌝ }
-    ensures { λ r. ⌜ r ≡ last (before (now (job .entry)) i) ⌝ }
+    ensures { λ r. ⌜ r ≡ previous (before (now (job .entry)) i) ⌝ }
 {
     if i == 0 { 0 } else { job[i - 1] }
 }
@@ -23,7 +23,7 @@ fn previous(job: &[u32], i: usize) -> u32
 // Whether a word since the last one of kind `k` lists what `w` lists.
 fn listed(job: &[u32], i: usize, k: u32, head: u32, w: u32) -> bool
     requires { ⌜ i ≤ length (now job) ⌝ }
-    ensures { λ r. ⌜ r ≡ someWord (sameFluent head w) (since k (before (now (job .entry)) i)) ⌝ }
+    ensures { λ r. ⌜ r ≡ any (sameFluent head w) (since k (before (now (job .entry)) i)) ⌝ }
 {
     let mut j = i;
     while 0 < j {

@@ -9,7 +9,7 @@ ghost use Rattle.job.specs.State.{Tied};
 use crate::State;
 use crate::rules;
 use answers::Refusal;
-use answers::or_else;
+use answers::first_refusal;
 use answers::row_of;
 
 fn less_one(n: usize) -> usize
@@ -61,5 +61,5 @@ pub fn end_refusal(job: &[u32], s: State) -> Refusal
     let none = row_of(s.nodes == 0, 5, 0);
     let empty = row_of((s.node / 16777216 % 16 == 8) & (s.members == 0), 5, root);
     let names = name_refusal(job, root);
-    or_else(count, or_else(none, or_else(empty, names)))
+    first_refusal(count, first_refusal(none, first_refusal(empty, names)))
 }

@@ -12,7 +12,7 @@ use Rattle.promise.specs.Procedure.{Procedure}
 use Rattle.reading.specs.Forms.{Form, Act, Test, Sequence, Choice, If, While, StartWindow, EndWindow, Set, formAt, fieldX, fieldY, fieldM}
 use Rattle.reading.specs.Reading.{whole, Reading, act, test, sequence, first, second, taken, otherwise, loop, startWindow, endWindow, set}
 use Rattle.reading.proofs.Step.{onward}
-use Rattle.words.specs.Scan.{times}
+use Rattle.words.specs.Scan.{count}
 use Rattle.lengths.specs.Children.{childrenAs, children, NamedOnce}
 use Rattle.lengths.specs.Bound.{isWhile, loopAbove, weight, lengthBound}
 use Rattle.lengths.proofs.Sums.{total, times-first, times-second, times-at, below-times, sum-le, total-cong, total-mul, joined-le}
@@ -22,10 +22,10 @@ use Rattle.lengths.proofs.Loops.{root-free, child-above}
 
 module _ {P : Procedure} (low : Lower P) (once : NamedOnce P) (n : ℕ) where
   -- a child's number is lower, and a loop is above it where its parent is one or is below one
-  child : {p : ℕ} (k : Form) → formAt P p ≡ k → p < P .count → (q : ℕ) → 0 < times q (childrenAs P k p)
+  child : {p : ℕ} (k : Form) → formAt P p ≡ k → p < P .count → (q : ℕ) → 0 < count q (childrenAs P k p)
       → (q < p) × (loopAbove P q ≡ (isWhile k || loopAbove P p))
   child {p} k f l q h =
-      let here : 0 < times q (children P p) = rw f h in
+      let here : 0 < count q (children P p) = rw f h in
       (below-times q (children P p) (low .at p l) here, child-above low once p q l here ∙ ap (λ (g : Form). isWhile g || loopAbove P p) f)
 
   -- the nodes from p down weigh n each, where a loop is above p
@@ -48,7 +48,7 @@ module _ {P : Procedure} (low : Lower P) (once : NamedOnce P) (n : ℕ) where
     light : branch P (weight P n) p ≡ 1 + total (branch P (weight P n)) (childrenAs P k p)
     light = let own : weight P n p ≡ 1 = rw t refl in branch-is low (weight P n) p l ∙ ap₂ _+_ own (ap (λ (g : Form). total (branch P (weight P n)) (childrenAs P g p)) f)
 
-    free : isWhile k ≡ false → (q : ℕ) → 0 < times q (childrenAs P k p) → (q < P .count) × (loopAbove P q ≡ false)
+    free : isWhile k ≡ false → (q : ℕ) → 0 < count q (childrenAs P k p) → (q < P .count) × (loopAbove P q ≡ false)
     free w q h = let (lower, above) = child k f l q h in (omega arith, above ∙ ap₂ (w || t))
 
   -- the words of a node that no loop is above

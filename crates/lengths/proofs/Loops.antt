@@ -10,15 +10,15 @@ use borrow.Author.Tests.{lt-ltb, le-ltb}
 use Rattle.promise.specs.Procedure.{Procedure}
 use Rattle.reading.specs.Forms.{formAt}
 use Rattle.lengths.specs.Children.{children, NamedOnce}
-use Rattle.lengths.specs.Bound.{isWhile, names, loopWithin, loopAbove}
-use Rattle.words.specs.Scan.{someBelow, times}
+use Rattle.lengths.specs.Bound.{isWhile, isChild, loopWithin, loopAbove}
+use Rattle.words.specs.Scan.{anyBelow, count}
 use Rattle.lengths.proofs.Sums.{below-times, sum-two}
 use Rattle.lengths.proofs.Tree.{Lower}
 
 -- ---- tests of the numbers below n
 
-someBelow-cong : {f g : ℕ → Bool} (n : ℕ) → ((i : ℕ) → i < n → f i ≡ g i) → someBelow f n ≡ someBelow g n
-unfolding someBelow
+someBelow-cong : {f g : ℕ → Bool} (n : ℕ) → ((i : ℕ) → i < n → f i ≡ g i) → anyBelow f n ≡ anyBelow g n
+unfolding anyBelow
 someBelow-cong zero h = refl
 someBelow-cong (suc n) h = ap₂ (someBelow-cong n (λ i l. h i (omega arith)) || h n (omega arith))
 
@@ -26,14 +26,14 @@ either-false : (t : Bool) → (t || false) ≡ t
 either-false true = refl
 either-false false = refl
 
-someBelow-none : {f : ℕ → Bool} (n : ℕ) → ((i : ℕ) → i < n → f i ≡ false) → someBelow f n ≡ false
-unfolding someBelow
+someBelow-none : {f : ℕ → Bool} (n : ℕ) → ((i : ℕ) → i < n → f i ≡ false) → anyBelow f n ≡ false
+unfolding anyBelow
 someBelow-none zero h = refl
 someBelow-none (suc n) h = ap₂ (someBelow-none n (λ i l. h i (omega arith)) || h n (omega arith))
 
 -- where one number alone may pass, it decides
-someBelow-one : {f : ℕ → Bool} (n i : ℕ) → i < n → ((j : ℕ) → j < n → (j ≡ i → ⊥) → f j ≡ false) → someBelow f n ≡ f i
-unfolding someBelow
+someBelow-one : {f : ℕ → Bool} (n i : ℕ) → i < n → ((j : ℕ) → j < n → (j ≡ i → ⊥) → f j ≡ false) → anyBelow f n ≡ f i
+unfolding anyBelow
 someBelow-one zero i l h = absurd (omega arith)
 someBelow-one {f} (suc n) i l h =
     by-cases (ℕ-discrete n i)
@@ -44,11 +44,11 @@ someBelow-one {f} (suc n) i l h =
 
 module _ {P : Procedure} (low : Lower P) where
   -- a node names lower nodes alone
-  unnamed : (p q : ℕ) → p < P .count → p ≤ q → names P p q ≡ false
+  unnamed : (p q : ℕ) → p < P .count → p ≤ q → isChild P p q ≡ false
   unnamed p q l h =
-      by-cases (decLt 0 (times q (children P p)))
+      by-cases (decLt 0 (count q (children P p)))
       (λ g. let k = below-times q (children P p) (low .at p l) g in absurd (omega arith))
-      (λ g. le-ltb 0 (times q (children P p)) (omega arith))
+      (λ g. le-ltb 0 (count q (children P p)) (omega arith))
 
   -- more steps than there are nodes above q lead to no more
   steady : (k q : ℕ) → P .count ≤ q + k → loopWithin P (suc k) q ≡ loopWithin P k q
@@ -56,7 +56,7 @@ module _ {P : Procedure} (low : Lower P) where
   steady zero q h = someBelow-none (P .count) (λ p l. ap (λ (t : Bool). t && (isWhile (formAt P p) || false)) (unnamed p q l (omega arith)))
   steady (suc k) q h =
       someBelow-cong (P .count) (λ p l. by-cases (decLt q p)
-      (λ g. ap (λ (t : Bool). names P p q && (isWhile (formAt P p) || t)) (steady k p (omega arith)))
+      (λ g. ap (λ (t : Bool). isChild P p q && (isWhile (formAt P p) || t)) (steady k p (omega arith)))
       (λ g. let none = unnamed p q l (omega arith) in rw none refl))
 
   -- no loop is above the root
@@ -65,20 +65,20 @@ module _ {P : Procedure} (low : Lower P) where
   root-free r e = sym (steady (P .count) r (omega arith)) ∙ someBelow-none (P .count) (λ p l. rw (unnamed p r l (omega arith)) refl)
 
   -- node p is the one parent of q
-  sole : NamedOnce P → (p q : ℕ) → p < P .count → 0 < times q (children P p) → (j : ℕ) → j < P .count → (j ≡ p → ⊥) → names P j q ≡ false
+  sole : NamedOnce P → (p q : ℕ) → p < P .count → 0 < count q (children P p) → (j : ℕ) → j < P .count → (j ≡ p → ⊥) → isChild P j q ≡ false
   sole once p q l h j k ne =
       let low-q = below-times q (children P p) (low .at p l) h in
       let all = once q (omega arith) in
-      by-cases (decLt 0 (times q (children P j)))
+      by-cases (decLt 0 (count q (children P j)))
       (λ g. by-cases (decLt j p)
-      (λ a. let two = sum-two (λ i. times q (children P i)) (P .count) j p a l in absurd (omega arith))
-      (λ a. let two = sum-two (λ i. times q (children P i)) (P .count) p j (omega arith) k in absurd (omega arith)))
-      (λ g. le-ltb 0 (times q (children P j)) (omega arith))
+      (λ a. let two = sum-two (λ i. count q (children P i)) (P .count) j p a l in absurd (omega arith))
+      (λ a. let two = sum-two (λ i. count q (children P i)) (P .count) p j (omega arith) k in absurd (omega arith)))
+      (λ g. le-ltb 0 (count q (children P j)) (omega arith))
 
-  pub child-above : NamedOnce P → (p q : ℕ) → p < P .count → 0 < times q (children P p)
+  pub child-above : NamedOnce P → (p q : ℕ) → p < P .count → 0 < count q (children P p)
       → loopAbove P q ≡ (isWhile (formAt P p) || loopAbove P p)
   unfolding loopWithin
   child-above once p q l h =
       sym (steady (P .count) q (omega arith))
       ∙ someBelow-one (P .count) p l (λ j k ne. rw (sole once p q l h j k ne) refl)
-      ∙ ap (λ (t : Bool). t && (isWhile (formAt P p) || loopAbove P p)) (lt-ltb 0 (times q (children P p)) h)
+      ∙ ap (λ (t : Bool). t && (isWhile (formAt P p) || loopAbove P p)) (lt-ltb 0 (count q (children P p)) h)

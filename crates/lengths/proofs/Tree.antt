@@ -4,9 +4,9 @@ use mathlib.Core.Path.{_≡_, refl, sym, ap, ap₂, _∙_}
 use Prim.Native.Nat.{ℕ, zero, suc, _+_, _*_, _≤_, _<_}
 use native.Mathlib.Nat.{le-refl, le-of-eq, one-mul, add-mul}
 use native.Mathlib.Omega.{arith}
-use Rattle.bitset.specs.Members.{sum}
+use Rattle.bitset.specs.Members.{sumBelow}
 use Rattle.promise.specs.Procedure.{Procedure}
-use Rattle.words.specs.Scan.{times}
+use Rattle.words.specs.Scan.{count}
 use Rattle.lengths.specs.Children.{children, NamedOnce}
 use Rattle.lengths.proofs.Sums.{total, Below, below-le, below-times, sum-cong, sum-both, total-cong, total-times}
 
@@ -38,24 +38,24 @@ module _ {P : Procedure} (lower : Lower P) where
     -- ---- the root
 
     named-sum : (f : ℕ → ℕ) (r n : ℕ) → n ≤ suc r → n ≤ P .count
-        → sum (λ p. total f (children P p)) n ≡ sum (λ q. sum (λ p. times q (children P p)) n * f q) r
-    unfolding sum
+        → sumBelow (λ p. total f (children P p)) n ≡ sumBelow (λ q. sumBelow (λ p. count q (children P p)) n * f q) r
+    unfolding sumBelow
     named-sum f r zero h l = sym (zeros r)
       where
-        zeros : (k : ℕ) → sum (λ q. 0 * f q) k ≡ 0
+        zeros : (k : ℕ) → sumBelow (λ q. 0 * f q) k ≡ 0
         zeros zero = refl
         zeros (suc k) = omega (arith, zeros k)
     named-sum f r (suc n) h l =
         ap₂ _+_ (named-sum f r n (omega arith) (omega arith)) (total-times f r (children P n) (below-le (children P n) (omega arith) (lower .at n l)))
-        ∙ sym (sum-both (λ q. sum (λ p. times q (children P p)) n * f q) (λ q. times q (children P n) * f q) r (λ q k. add-mul (sum (λ p. times q (children P p)) n) (times q (children P n)) (f q)))
+        ∙ sym (sum-both (λ q. sumBelow (λ p. count q (children P p)) n * f q) (λ q. count q (children P n) * f q) r (λ q k. add-mul (sumBelow (λ p. count q (children P p)) n) (count q (children P n)) (f q)))
 
-    pub root-is : (r : ℕ) → suc r ≡ P .count → NamedOnce P → branch P w r ≡ sum w (P .count)
-    unfolding sum
+    pub root-is : (r : ℕ) → suc r ≡ P .count → NamedOnce P → branch P w r ≡ sumBelow w (P .count)
+    unfolding sumBelow
     root-is r e once =
-        let all : sum (branch P w) (suc r) ≡ sum w (suc r) + sum (λ p. total (branch P w) (children P p)) (suc r)
+        let all : sumBelow (branch P w) (suc r) ≡ sumBelow w (suc r) + sumBelow (λ p. total (branch P w) (children P p)) (suc r)
         = sum-both w (λ p. total (branch P w) (children P p)) (suc r) (λ p l. branch-is p (omega arith)) in
-        let named : sum (λ p. total (branch P w) (children P p)) (suc r) ≡ sum (branch P w) r
+        let named : sumBelow (λ p. total (branch P w) (children P p)) (suc r) ≡ sumBelow (branch P w) r
         = named-sum (branch P w) r (suc r) (le-refl (suc r)) (le-of-eq e)
-        ∙ sum-cong r (λ q l. ap (λ (k : ℕ). k * branch P w q) (ap (λ (c : ℕ). sum (λ p. times q (children P p)) c) e ∙ once q (omega arith)) ∙ one-mul (branch P w q)) in
-        let whole : sum w (suc r) ≡ sum w (P .count) = ap (sum w) e in
+        ∙ sum-cong r (λ q l. ap (λ (k : ℕ). k * branch P w q) (ap (λ (c : ℕ). sumBelow (λ p. count q (children P p)) c) e ∙ once q (omega arith)) ∙ one-mul (branch P w q)) in
+        let whole : sumBelow w (suc r) ≡ sumBelow w (P .count) = ap (sumBelow w) e in
         omega arith

@@ -6,7 +6,7 @@ use Prim.Native.Nat.{ℕ, suc, _+_, _-_, _*_, _≤_, _<_, max, zero-le}
 use native.Mathlib.Nat.{le-trans, mul-le-mul-left, le-max-left, le-max-right}
 use native.Mathlib.Omega.{arith}
 use lib.ListN.{length, getD, length-append}
-use Rattle.words.specs.Scan.{joined}
+use Rattle.words.specs.Scan.{concatBelow}
 use Rattle.promise.specs.Trajectory.{Trajectory}
 use Rattle.promise.specs.Procedure.{Procedure}
 use Rattle.reading.specs.Forms.{Form, Act, Test, Sequence, Choice, If, While, StartWindow, EndWindow, Set, Reserved, formAt, fieldY, FormedAs}
@@ -99,7 +99,7 @@ module _ {P : Procedure} (low : Lower P) where
       rw length-append (two _ _ _ _ _ _ _ _ s (le-max-left 1 (e - b)) (longer (omega arith)) (longer (omega arith)) (words-le x (l .0)) (words-le y (l .1 .0)))
   words-le {p = p} {b = b} {e = e} (set {us = us} f rs pl) = λ n.
       let (s, l) = nodes-as Set f n in
-      let members : length (joined us (length (P .members p))) ≤ total (λ q. nodes P q * max 1 (e - b)) (P .members p)
+      let members : length (concatBelow us (length (P .members p))) ≤ total (λ q. nodes P q * max 1 (e - b)) (P .members p)
       = joined-le us (λ q. nodes P q * max 1 (e - b)) (P .members p)
       (λ i h. let g = pl .inside i h in
       le-trans (words-le (rs i h) (at-below (P .members p) l i h)) (mul-le-mul-left (nodes P (getD (P .members p) i 0)) (longer (omega arith)))) in

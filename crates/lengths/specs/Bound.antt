@@ -2,8 +2,8 @@
 use Prim.Native.Nat.{ℕ, zero, suc}
 use mathlib.Core.Bool.{Bool, true, false, cond, _&&_, _||_}
 use lib.Dec.{ltb}
-use Rattle.words.specs.Scan.{someBelow, times}
-use Rattle.bitset.specs.Members.{sum}
+use Rattle.words.specs.Scan.{anyBelow, count}
+use Rattle.bitset.specs.Members.{sumBelow}
 use Rattle.promise.specs.Procedure.{Procedure}
 use Rattle.reading.specs.Forms.{Form, Act, Test, Sequence, Choice, If, While, StartWindow, EndWindow, Set, Reserved, formAt}
 use Rattle.lengths.specs.Children.{children}
@@ -21,13 +21,13 @@ isWhile Set = false
 isWhile Reserved = false
 
 -- node p names q as a child
-abbrev pub names : Procedure → ℕ → ℕ → Bool
-names P p q = ltb 0 (times q (children P p))
+abbrev pub isChild : Procedure → ℕ → ℕ → Bool
+isChild P p q = ltb 0 (count q (children P p))
 
 -- at most k steps above node q there is a loop: a node that names q is one, or has one above it
 unfoldable pub loopWithin : Procedure → ℕ → ℕ → Bool
 loopWithin P zero q = false
-loopWithin P (suc k) q = someBelow (λ p. names P p q && (isWhile (formAt P p) || loopWithin P k p)) (P .count)
+loopWithin P (suc k) q = anyBelow (λ p. isChild P p q && (isWhile (formAt P p) || loopWithin P k p)) (P .count)
 
 -- a loop is above node q: a parent's number is higher than its child's, so that there are fewer steps than nodes
 abbrev pub loopAbove : Procedure → ℕ → Bool
@@ -37,4 +37,4 @@ abbrev pub weight : Procedure → ℕ → ℕ → ℕ
 weight P n q = cond (loopAbove P q) n 1
 
 unfoldable pub lengthBound : Procedure → ℕ → ℕ
-lengthBound P n = sum (weight P n) (P .count)
+lengthBound P n = sumBelow (weight P n) (P .count)

@@ -2,8 +2,8 @@
 use Prim.Native.Nat.{ℕ, suc, _<_}
 use mathlib.Core.Path.{_≡_}
 use mathlib.Core.List.{List, [], _∷_}
-use Rattle.words.specs.Scan.{times}
-use Rattle.bitset.specs.Members.{sum}
+use Rattle.words.specs.Scan.{count}
+use Rattle.bitset.specs.Members.{sumBelow}
 use Rattle.promise.specs.Procedure.{Procedure}
 use Rattle.reading.specs.Forms.{Form, Act, Test, Sequence, Choice, If, While, StartWindow, EndWindow, Set, Reserved, formAt, fieldX, fieldY, fieldM}
 
@@ -25,4 +25,4 @@ children P p = childrenAs P (formAt P p) p
 
 -- each node but the root is named as a child exactly once
 abbrev pub NamedOnce : Procedure → Type 0
-NamedOnce P = (q : ℕ) → suc q < P .count → sum (λ p. times q (children P p)) (P .count) ≡ 1
+NamedOnce P = (q : ℕ) → suc q < P .count → sumBelow (λ p. count q (children P p)) (P .count) ≡ 1

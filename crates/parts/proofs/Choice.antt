@@ -5,13 +5,13 @@ use mathlib.Core.Logic.{_⊎_, inl, inr, ⊎-elim}
 use mathlib.Core.List.{List, [], _∷_, _++_}
 use native.Mathlib.Omega.{arith}
 use lib.ListN.{length, getD, take, drop, length-map, length-take, length-drop, List·getD-map}
-use Rattle.words.specs.Scan.{joined}
+use Rattle.words.specs.Scan.{concatBelow}
 use Rattle.words.specs.Fields.{holds, memberNode, readingWord}
 use Rattle.promise.specs.Trajectory.{Trajectory}
 use Rattle.promise.specs.Procedure.{Procedure}
-use Rattle.sets.specs.Ends.{taskset, at, Placeable, Placed, InTable}
+use Rattle.sets.specs.Ends.{taskSetOf, entryAt, Placeable, Placed, InTable}
 use Rattle.reading.specs.Forms.{Form, Act, Test, Sequence, Choice, If, While, StartWindow, EndWindow, Set, Reserved, formNumber, formAt, fieldX, fieldY, fieldM, fieldN, FormedAs, taskSet}
-use Rattle.reading.specs.Reading.{whole, Reading, act, test, sequence, first, second, taken, otherwise, startWindow, endWindow, set, Ends}
+use Rattle.reading.specs.Reading.{whole, Reading, act, test, sequence, first, second, taken, otherwise, startWindow, endWindow, set, HasReading}
 use Rattle.reading.specs.Rule.{Rule}
 use Rattle.reading.proofs.Step.{step, carry}
 use Rattle.parts.specs.Search.{CutAt, StartAt}
@@ -33,16 +33,16 @@ module _ {P : Procedure} {T : Trajectory} {size : ℕ} {places sizes limits tabl
   abbrev Reads : ℕ → ℕ → ℕ → List ℕ → Type 0
   Reads = Reading P T whole
 
-  reading : Ends P T p b e
+  reading : HasReading P T p b e
   reading = s .found .right p b e node begin .0 here
 
   formed : (k : Form) → formAt P p ≡ k → FormedAs P T k p
-  formed k f = rw f at (s .ready .formed p node)
+  formed k f = rw f entryAt (s .ready .formed p node)
 
   -- the rule of the node's form, by the table
   pub rule : (k : Form) → formAt P p ≡ k → Rule P T (InTable table) k p b e
   rule k f =
-      rw f at (carry P T e (formAt P p) (s .ready .formed p node) begin (λ q c d filled l r. s .found .right q c d (lower q c filled) l .1 r) (step begin .0 reading))
+      rw f entryAt (carry P T e (formAt P p) (s .ready .formed p node) begin (λ q c d filled l r. s .found .right q c d (lower q c filled) l .1 r) (step begin .0 reading))
     where
       lower : (q c : ℕ) → (q < p) ⊎ ((q ≡ p) × (b + 1 ≤ c)) → q < P .count
       lower q c (inl h) = omega arith
@@ -58,7 +58,7 @@ module _ {P : Procedure} {T : Trajectory} {size : ℕ} {places sizes limits tabl
   -- ---- no part
 
   chosen-none : Reads p b e (readingWord p b e ∷ []) → Chosen P T table p b e noParts
-  unfolding joined
+  unfolding concatBelow
   chosen-none r =
       record {
         few = omega arith;
@@ -91,7 +91,7 @@ module _ {P : Procedure} {T : Trajectory} {size : ℕ} {places sizes limits tabl
   -- ---- one part
 
   chosen-one : {q : ℕ} → q < p → InTable table q b e → ((us : List ℕ) → Reads q b e us → Reads p b e (readingWord p b e ∷ us)) → Chosen P T table p b e (onePart q b e)
-  unfolding joined
+  unfolding concatBelow
   chosen-one {q} l t r =
       record {
         few = omega arith;
@@ -106,23 +106,23 @@ module _ {P : Procedure} {T : Trajectory} {size : ℕ} {places sizes limits tabl
     choice-some = rw (ex, ey) (rule Choice f)
 
     pub choice-chosen : {q : ℕ} → (q ≡ x) ⊎ (q ≡ y) → InTable table q b e → Chosen P T table p b e (onePart q b e)
-    choice-chosen (inl h) t = let k = formed Choice f in let l = k .0 in chosen-one (omega arith) t (λ us r. first f (rw (h, ex) at r))
-    choice-chosen (inr h) t = let k = formed Choice f in let l = k .1 in chosen-one (omega arith) t (λ us r. second f (rw (h, ey) at r))
+    choice-chosen (inl h) t = let k = formed Choice f in let l = k .0 in chosen-one (omega arith) t (λ us r. first f (rw (h, ex) entryAt r))
+    choice-chosen (inr h) t = let k = formed Choice f in let l = k .1 in chosen-one (omega arith) t (λ us r. second f (rw (h, ey) entryAt r))
 
   module _ {v y z : ℕ} (f : formAt P p ≡ If) (ev : v ≡ T .value (fieldX P p) b) (ey : y ≡ fieldY P p) (ez : z ≡ fieldM P p) where
     pub if-chosen : {r : Parts} → ((v ≡ holds) × (r ≡ onePart y b e)) ⊎ ((v ≡ holds → ⊥) × (r ≡ onePart z b e)) → Chosen P T table p b e r
     if-chosen (inl h) = rw (h .1) (⊎-elim
-        (λ g. let l = formed If f .0 in chosen-one (omega arith) (rw ey (g .1)) (λ us r. taken f (g .0) (rw ey at r)))
+        (λ g. let l = formed If f .0 in chosen-one (omega arith) (rw ey (g .1)) (λ us r. taken f (g .0) (rw ey entryAt r)))
         (λ g. absurd (omega (arith, h .0, g .0))) (rule If f))
     if-chosen (inr h) = rw (h .1) (⊎-elim
         (λ g. absurd (h .0 (ev ∙ g .0)))
-        (λ g. let l = formed If f .1 in chosen-one (omega arith) (rw ez (g .1)) (λ us r. otherwise f (g .0) (rw ez at r))) (rule If f))
+        (λ g. let l = formed If f .1 in chosen-one (omega arith) (rw ez (g .1)) (λ us r. otherwise f (g .0) (rw ez entryAt r))) (rule If f))
 
   -- ---- two parts
 
   chosen-two : {x k y m l : ℕ} → x < p → y < p → InTable table x b k → InTable table y m l → m ≤ T .last
       → ((us vs : List ℕ) → Reads x b k us → Reads y m l vs → Reads p b e (readingWord p b e ∷ (us ++ vs))) → Chosen P T table p b e (twoParts x b k y m l)
-  unfolding joined
+  unfolding concatBelow
   chosen-two {x} {k} {y} {m} {l} hx hy tx ty hm r =
       record {
         few = omega arith;
@@ -145,7 +145,7 @@ module _ {P : Procedure} {T : Trajectory} {size : ℕ} {places sizes limits tabl
         let h = c .early in
         let g = c .late in
         let q : m ≡ k = omega arith in
-        chosen-two (omega arith) (omega arith) (c .ends) (c .begins) (moment _ _ _ (c .begin) (c .begins)) (λ us vs r t. sequence f (rw ex at r) (rw (ey, q) at t))
+        chosen-two (omega arith) (omega arith) (c .ends) (c .begins) (moment _ _ _ (c .begin) (c .begins)) (λ us vs r t. sequence f (rw ex entryAt r) (rw (ey, q) entryAt t))
 
   module _ {x y low high : ℕ} (f : formAt P p ≡ EndWindow) (ex : x ≡ fieldX P p) (ey : y ≡ fieldY P p) (em : low ≡ fieldM P p) (en : high ≡ fieldN P p) where
     pub end-some : (k : ℕ) × (m : ℕ) × CutAt table x y b e low high b k m
@@ -158,7 +158,7 @@ module _ {P : Procedure} {T : Trajectory} {size : ℕ} {places sizes limits tabl
     end-chosen c =
         let (lx, ly) = formed EndWindow f in
         chosen-two (omega arith) (omega arith) (c .ends) (c .begins) (moment _ _ _ (c .begin) (c .begins))
-        (λ us vs r t. endWindow f (rw ex at r) (rw ey at t) (rw em at (c .early)) (rw en at (c .late)))
+        (λ us vs r t. endWindow f (rw ex entryAt r) (rw ey entryAt t) (rw em entryAt (c .early)) (rw en entryAt (c .late)))
 
   module _ {x y low high : ℕ} (f : formAt P p ≡ StartWindow) (ex : x ≡ fieldX P p) (ey : y ≡ fieldY P p) (em : low ≡ fieldM P p) (en : high ≡ fieldN P p) where
     pub start-some : (k : ℕ) × (m : ℕ) × (l : ℕ) × StartAt table x y b e low high k m l
@@ -172,7 +172,7 @@ module _ {P : Procedure} {T : Trajectory} {size : ℕ} {places sizes limits tabl
     start-chosen c =
         let (lx, ly) = formed StartWindow f in
         chosen-two (omega arith) (omega arith) (c .ends .first) (c .ends .second) (moment _ _ _ (c .begin) (c .ends .second))
-        (λ us vs r t. startWindow f (rw ex at r) (rw ey at t) (rw em at (c .early)) (rw en at (c .late)) (c .ends .greater))
+        (λ us vs r t. startWindow f (rw ex entryAt r) (rw ey entryAt t) (rw em entryAt (c .early)) (rw en entryAt (c .late)) (c .ends .greater))
 
   -- ---- a task set
 
@@ -194,25 +194,25 @@ module _ {P : Procedure} {T : Trajectory} {size : ℕ} {places sizes limits tabl
         let within = pl .within in
         record {
           few = rw (c .count) (k .few);
-          lower = λ i h. let g = rw (c .count) at h in rw (c .nodes i g) (l i g);
-          begin = λ i h. let g = pl .inside i (rw (c .count) at h) in omega arith;
-          found = λ i h. let g = rw (c .count) at h in rw (c .nodes i g) (c .placed .reads i g);
-          reads = λ us rs. rw (c .count) (set f (λ i h. rw (c .nodes i h) at (rs i (rw (c .count) h))) pl);
+          lower = λ i h. let g = rw (c .count) entryAt h in rw (c .nodes i g) (l i g);
+          begin = λ i h. let g = pl .inside i (rw (c .count) entryAt h) in omega arith;
+          found = λ i h. let g = rw (c .count) entryAt h in rw (c .nodes i g) (c .placed .reads i g);
+          reads = λ us rs. rw (c .count) (set f (λ i h. rw (c .nodes i h) entryAt (rs i (rw (c .count) h))) pl);
         }
 
 -- the members' nodes with a placement
 pub placed-parts : (ms cs vs table : List ℕ) (n b e count : ℕ) {nodes begins ends : List ℕ} → length ms ≡ count
-    → ((i : ℕ) → i < length ms → getD nodes i 0 ≡ memberNode (getD ms i 0)) → Placed (taskset ms cs vs n) (InTable table) b e (at begins) (at ends)
-    → PlacedParts (taskset ms cs vs n) table b e (record { count = count; nodes = nodes; begins = begins; ends = ends })
+    → ((i : ℕ) → i < length ms → getD nodes i 0 ≡ memberNode (getD ms i 0)) → Placed (taskSetOf ms cs vs n) (InTable table) b e (entryAt begins) (entryAt ends)
+    → PlacedParts (taskSetOf ms cs vs n) table b e (record { count = count; nodes = nodes; begins = begins; ends = ends })
 placed-parts ms cs vs table n b e count h f pl =
     record {
       count = sym h ∙ sym (length-map ms memberNode);
-      nodes = λ i l. f i (rw (length-map ms memberNode) at l) ∙ sym (List·getD-map memberNode ms i 0);
+      nodes = λ i l. f i (rw (length-map ms memberNode) entryAt l) ∙ sym (List·getD-map memberNode ms i 0);
       placed = pl;
     }
 
 pub part-length : (ws : List ℕ) (i k : ℕ) → i + k ≤ length ws → length (take k (drop i ws)) ≡ k
 part-length ws i k h = simp (length-take, length-drop) (omega arith)
 
-pub few-members : (ms cs vs table : List ℕ) (n b e : ℕ) → Placeable (taskset ms cs vs n) table b e → length ms ≤ 4
-few-members ms cs vs table n b e s = rw (length-map ms memberNode) at (s .formed .few)
+pub few-members : (ms cs vs table : List ℕ) (n b e : ℕ) → Placeable (taskSetOf ms cs vs n) table b e → length ms ≤ 4
+few-members ms cs vs table n b e s = rw (length-map ms memberNode) entryAt (s .formed .few)

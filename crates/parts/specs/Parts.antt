@@ -3,15 +3,15 @@ use Prim.Native.Nat.{ℕ, _≤_, _<_}
 use mathlib.Core.Path.{_≡_}
 use mathlib.Core.List.{List, [], _∷_}
 use lib.ListN.{getD}
-use Rattle.words.specs.Scan.{joined}
+use Rattle.words.specs.Scan.{concatBelow}
 use Rattle.words.specs.Fields.{readingWord}
 use Rattle.promise.specs.Trajectory.{Trajectory}
 use Rattle.promise.specs.Procedure.{Procedure}
-use Rattle.sets.specs.Set.{TaskSet, size, member}
+use Rattle.sets.specs.Set.{TaskSet, memberCount, member}
 use Rattle.sets.specs.Ends.{Placed, InTable}
 use Rattle.reading.specs.Reading.{whole, Reading}
 use Rattle.reading.specs.Table.{Found}
-use Rattle.reading.specs.World.{Ready}
+use Rattle.reading.specs.World.{WorldReady}
 use Rattle.parts.specs.declared.Parts.{Parts}
 
 -- no part, one part, two parts
@@ -36,13 +36,13 @@ endOf r i = getD (r .ends) i 0
 
 -- the parts are the members of the set s, with begins and ends that are lawful from b to e
 pub record PlacedParts (s : TaskSet) (table : List ℕ) (b e : ℕ) (r : Parts) : Type 0 where
-  pub count : r .count ≡ size s
-  pub nodes : (i : ℕ) → i < size s → nodeOf r i ≡ member s i
+  pub count : r .count ≡ memberCount s
+  pub nodes : (i : ℕ) → i < memberCount s → nodeOf r i ≡ member s i
   pub placed : Placed s (InTable table) b e (beginOf r) (endOf r)
 
 -- what choosing parts, and writing them, needs: the procedure and the trajectory are there, and the table is theirs
-pub record Prepared (P : Procedure) (T : Trajectory) (size : ℕ) (places sizes limits table : List ℕ) : Type 0 where
-  pub ready : Ready P T size places sizes limits
+pub record Prepared (P : Procedure) (T : Trajectory) (memberCount : ℕ) (places sizes limits table : List ℕ) : Type 0 where
+  pub ready : WorldReady P T memberCount places sizes limits
   pub found : Found P T table
 
 -- the parts are lower nodes that the table says can be read so, and readings of them, in order, make a reading of p from b to e
@@ -52,4 +52,4 @@ pub record Chosen (P : Procedure) (T : Trajectory) (table : List ℕ) (p b e : �
   pub begin : (i : ℕ) → i < r .count → beginOf r i ≤ T .last
   pub found : (i : ℕ) → i < r .count → InTable table (nodeOf r i) (beginOf r i) (endOf r i)
   pub reads : (us : ℕ → List ℕ) → ((i : ℕ) → i < r .count → Reading P T whole (nodeOf r i) (beginOf r i) (endOf r i) (us i))
-      → Reading P T whole p b e (readingWord p b e ∷ joined us (r .count))
+      → Reading P T whole p b e (readingWord p b e ∷ concatBelow us (r .count))

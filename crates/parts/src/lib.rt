@@ -6,7 +6,7 @@ ghost use Prim.Native.Nat.{ℕ, _+_, _*_, _<_, _≤_};
 ghost use Rattle.bitset.specs.Members.{Max};
 ghost use lib.ListN.{length, getD, take, drop};
 ghost use Rattle.words.specs.Fields.{holds, memberNode};
-ghost use Rattle.sets.specs.Ends.{taskset, Placeable};
+ghost use Rattle.sets.specs.Ends.{taskSetOf, Placeable};
 ghost use Rattle.reading.specs.Forms.{While, formAt};
 ghost use Rattle.reading.specs.World.{procedureAt, trajectoryAt};
 ghost use Rattle.sets.specs.Ends.{InTable};
@@ -216,8 +216,8 @@ fn placed(
     n: usize,
 ) -> Parts
     requires { ⌜ first + size + limit ≤ length (now words) ⌝ }
-    requires { ⌜ Placeable (taskset (take size (drop first (now words))) (take limit (drop (first + size) (now words))) (now values) n) (now table) b e ⌝ }
-    ensures { λ r. ⌜ PlacedParts (taskset (take size (drop first (now (words .entry)))) (take limit (drop (first + size) (now (words .entry)))) (now (values .entry)) n) (now (table .entry)) b e r ⌝ }
+    requires { ⌜ Placeable (taskSetOf (take size (drop first (now words))) (take limit (drop (first + size) (now words))) (now values) n) (now table) b e ⌝ }
+    ensures { λ r. ⌜ PlacedParts (taskSetOf (take size (drop first (now (words .entry)))) (take limit (drop (first + size) (now (words .entry)))) (now (values .entry)) n) (now (table .entry)) b e r ⌝ }
 {
     let middle = first + size;
     let members = &words[first..middle];

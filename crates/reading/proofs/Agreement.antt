@@ -9,9 +9,9 @@ use lib.ListN.{length, getD}
 use Rattle.words.specs.Fields.{form}
 use Rattle.promise.specs.Trajectory.{Trajectory}
 use Rattle.promise.specs.Procedure.{Procedure}
-use Rattle.sets.specs.Set.{TaskSet, size, Formed}
+use Rattle.sets.specs.Set.{TaskSet, memberCount, Formed}
 use Rattle.reading.specs.Forms.{Form, Act, Test, Sequence, Choice, If, While, StartWindow, EndWindow, Set, Reserved, formNumber, formAt, fieldX, taskSet, FormedAs}
-use Rattle.reading.specs.Reading.{Ends}
+use Rattle.reading.specs.Reading.{HasReading}
 use Rattle.reading.specs.Table.{Found, Tabulated}
 use Rattle.reading.specs.Count.{Triple, Read, Counted}
 use Rattle.reading.proofs.Transfer.{Asks, Extends, ends-transfer}
@@ -101,7 +101,7 @@ module _ {P : Procedure} {T : Trajectory} {P′ : Procedure} {T′ : Trajectory}
 
 module _ {P : Procedure} {T : Trajectory} {P′ : Procedure} {T′ : Trajectory} (x : Agrees P T P′ T′)
     (formed : (p : ℕ) → p < P .count → FormedAs P T (formAt P p) p) where
-  pub ends-same : {p b e : ℕ} → p < P .count → Ends P T p b e ↔ Ends P′ T′ p b e
+  pub ends-same : {p b e : ℕ} → p < P .count → HasReading P T p b e ↔ HasReading P′ T′ p b e
   ends-same h = (
     ends-transfer (extends x) formed h,
     ends-transfer (extends (agrees-back x)) (formed-there x formed) (let q = x .count in omega arith),
@@ -109,7 +109,7 @@ module _ {P : Procedure} {T : Trajectory} {P′ : Procedure} {T′ : Trajectory}
 
   pub found-same : {t : List ℕ} → Found P T t → Found P′ T′ t
   found-same h = let q = x .count in let r = x .last in record {
-    size = h .size;
+    memberCount = h .size;
     right = λ p b e l m. let k : p < P .count = omega arith in Iff·trans (h .right p b e k (omega arith)) (ends-same k);
     beyond = λ p b e l i. let k = h .beyond p b e l i in (omega (arith, k .0), omega (arith, k .1));
   }

@@ -9,15 +9,15 @@ use native.Mathlib.Omega.{arith}
 use lib.Dec.{eqb, leb}
 use lib.ListN.{length, getD}
 use borrow.Author.Tests.{eqb-true, eq-eqb, leb-true, le-leb}
-use Rattle.sets.specs.Ends.{at}
+use Rattle.sets.specs.Ends.{entryAt}
 use Rattle.words.specs.Tests.{implies}
 use Rattle.words.proofs.Choices.{implies-true}
 use Rattle.words.specs.Fields.{form, fails, holds, conditionFormula, conditionI, conditionJ, conditionM, conditionN}
 use Rattle.promise.specs.Trajectory.{Trajectory}
 use Rattle.promise.specs.Procedure.{Procedure}
-use Rattle.sets.specs.Set.{TaskSet, size, member, MetAs, Met, Placing, SetRule, Formed}
+use Rattle.sets.specs.Set.{TaskSet, memberCount, member, MetAs, Met, Placing, SetRule, Formed}
 use Rattle.reading.specs.Forms.{Form, Act, Test, Sequence, Choice, If, While, StartWindow, EndWindow, Set, Reserved, formAt, fieldX, fieldY, fieldM, fieldN, taskSet, FormedAs}
-use Rattle.reading.specs.Reading.{Ends}
+use Rattle.reading.specs.Reading.{HasReading}
 use Rattle.reading.specs.Rule.{Rule}
 use Rattle.reading.specs.Decision.{some, each, through, metb, insideb, coveredb, conditionb, placingb, tried, setb, ruleb, reads}
 use Rattle.reading.proofs.Step.{step, Filled, carry}
@@ -54,7 +54,7 @@ unfolding some
 some-law f zero = (λ h. absurd (false≢true h), λ h. absurd (omega (arith, h .1)))
 some-law f (suc k) = Iff·trans (or-law (f k) (some f k) Iff·rfl (some-law f k)) (
   ⊎-elim (λ h. (k, omega arith, h)) (λ h. (h .0, omega (arith, h .1), h .2)),
-  λ h. by-cases (decLt (h .0) k) (λ l. inr (h .0, l, h .2)) (λ l. let q : h .0 ≡ k = omega (arith, h .1) in inl (rw q at (h .2))),
+  λ h. by-cases (decLt (h .0) k) (λ l. inr (h .0, l, h .2)) (λ l. let q : h .0 ≡ k = omega (arith, h .1) in inl (rw q entryAt (h .2))),
 )
 
 pub each-law : (f : ℕ → Bool) (k : ℕ) → Tells (each f k) ((m : ℕ) → m < k → f m ≡ true)
@@ -117,11 +117,11 @@ module _ (b e : ℕ) (bs es : ℕ → ℕ) where
   unfolding placingb
   placing-law {s} g = Iff·trans
       (and-given _ _ (and-law (leb b e) (leb e (s .last)) (le-law b e) (le-law e (s .last)))
-      (λ o. and-given _ _ (each-tells (insideb b e bs es) (size s) (λ i l. inside-law i))
-      (λ i. and-law _ _ (covers-law (size s)) (each-tells (conditionb s bs es) (length (s .conditions)) (condition o i)))))
+      (λ o. and-given _ _ (each-tells (insideb b e bs es) (memberCount s) (λ i l. inside-law i))
+      (λ i. and-law _ _ (covers-law (memberCount s)) (each-tells (conditionb s bs es) (length (s .conditions)) (condition o i)))))
       (λ h. record { onward = h .0 .0; within = h .0 .1; inside = h .1 .0; covers = h .1 .1 .0; met = h .1 .1 .1 }, λ p. ((p .onward, p .within), (p .inside, (p .covers, p .met))))
     where
-      condition : (b ≤ e) × (e ≤ s .last) → ((i : ℕ) → i < size s → (b ≤ bs i) × (bs i ≤ es i) × (es i ≤ e))
+      condition : (b ≤ e) × (e ≤ s .last) → ((i : ℕ) → i < memberCount s → (b ≤ bs i) × (bs i ≤ es i) × (es i ≤ e))
           → (c : ℕ) → c < length (s .conditions) → Tells (conditionb s bs es c) (Met s (getD (s .conditions) c 0) bs es)
       condition o inside c l =
           let w = getD (s .conditions) c 0 in
@@ -159,27 +159,27 @@ module _ (R : ℕ → ℕ → ℕ → Bool) (n : ℕ) where
             (y, k, and-law (R m x y) (tried R n ms (λ xs ys. f (x ∷ xs) (y ∷ ys))) Iff·rfl Iff·rfl .1 (r, found-tried (λ xs ys. f (x ∷ xs) (y ∷ ys)) c h)),
       )
 
-  chosen-reads : {ms xs ys : List ℕ} → Chosen R n ms xs ys → (i : ℕ) → i < length ms → R (at ms i) (at xs i) (at ys i) ≡ true
+  chosen-reads : {ms xs ys : List ℕ} → Chosen R n ms xs ys → (i : ℕ) → i < length ms → R (entryAt ms i) (entryAt xs i) (entryAt ys i) ≡ true
   chosen-reads none i l = absurd (omega arith)
   chosen-reads (more a b r c) zero l = r
   chosen-reads (more a b r c) (suc i) l = chosen-reads c i (omega arith)
 
   -- begins and ends as lists
-  listed : (ms : List ℕ) (bs es : ℕ → ℕ) → ((i : ℕ) → i < length ms → (bs i < n) × (es i < n) × (R (at ms i) (bs i) (es i) ≡ true))
-      → (xs : List ℕ) × (ys : List ℕ) × Chosen R n ms xs ys × ((i : ℕ) → i < length ms → (at xs i ≡ bs i) × (at ys i ≡ es i))
+  listed : (ms : List ℕ) (bs es : ℕ → ℕ) → ((i : ℕ) → i < length ms → (bs i < n) × (es i < n) × (R (entryAt ms i) (bs i) (es i) ≡ true))
+      → (xs : List ℕ) × (ys : List ℕ) × Chosen R n ms xs ys × ((i : ℕ) → i < length ms → (entryAt xs i ≡ bs i) × (entryAt ys i ≡ es i))
   listed [] bs es h = ([], [], none, λ i l. absurd (omega arith))
   listed (m ∷ ms) bs es h =
       let a = h 0 (omega arith) in
       let r = listed ms (λ i. bs (suc i)) (λ i. es (suc i)) (λ i l. h (suc i) (omega arith)) in
       (bs 0 ∷ r .0, es 0 ∷ r .1, more (a .0) (a .1) (a .2) (r .2), same (r .0) (r .1) (r .3))
     where
-      same : (xs ys : List ℕ) → ((i : ℕ) → i < length ms → (at xs i ≡ bs (suc i)) × (at ys i ≡ es (suc i)))
-          → (i : ℕ) → i < length (m ∷ ms) → (at (bs 0 ∷ xs) i ≡ bs i) × (at (es 0 ∷ ys) i ≡ es i)
+      same : (xs ys : List ℕ) → ((i : ℕ) → i < length ms → (entryAt xs i ≡ bs (suc i)) × (entryAt ys i ≡ es (suc i)))
+          → (i : ℕ) → i < length (m ∷ ms) → (entryAt (bs 0 ∷ xs) i ≡ bs i) × (entryAt (es 0 ∷ ys) i ≡ es i)
       same xs ys g zero l = (refl, refl)
       same xs ys g (suc i) l = g i (omega arith)
 
 -- a placing asks only for the begins and ends of the members
-placing-same : {s : TaskSet} {b e : ℕ} {bs es bs′ es′ : ℕ → ℕ} → Formed s → ((i : ℕ) → i < size s → (bs′ i ≡ bs i) × (es′ i ≡ es i))
+placing-same : {s : TaskSet} {b e : ℕ} {bs es bs′ es′ : ℕ → ℕ} → Formed s → ((i : ℕ) → i < memberCount s → (bs′ i ≡ bs i) × (es′ i ≡ es i))
     → Placing s b e bs es → Placing s b e bs′ es′
 placing-same {s} g q h = record {
   onward = h .onward;
@@ -194,11 +194,11 @@ set-law : {s : TaskSet} (R : ℕ → ℕ → ℕ → Bool) (b e : ℕ) → Forme
 unfolding setb
 set-law {s} R b e g = (
   λ h.
-      let r = tried-found R (suc (s .last)) (s .members) (λ xs ys. placingb s b e (at xs) (at ys)) h in
-      record { begins = at (r .0); ends = at (r .1); reads = chosen-reads R (suc (s .last)) (r .2); placing = placing-law b e (at (r .0)) (at (r .1)) g .0 (r .3) },
+      let r = tried-found R (suc (s .last)) (s .members) (λ xs ys. placingb s b e (entryAt xs) (entryAt ys)) h in
+      record { begins = entryAt (r .0); ends = entryAt (r .1); reads = chosen-reads R (suc (s .last)) (r .2); placing = placing-law b e (entryAt (r .0)) (entryAt (r .1)) g .0 (r .3) },
   λ h.
       let r = listed R (suc (s .last)) (s .members) (h .begins) (h .ends) (λ i l. let k = h .placing .inside i l in let m = h .placing .within in (omega arith, omega arith, h .reads i l)) in
-      found-tried R (suc (s .last)) (λ xs ys. placingb s b e (at xs) (at ys)) (r .2) (placing-law b e (at (r .0)) (at (r .1)) g .1 (placing-same g (r .3) (h .placing))),
+      found-tried R (suc (s .last)) (λ xs ys. placingb s b e (entryAt xs) (entryAt ys)) (r .2) (placing-law b e (entryAt (r .0)) (entryAt (r .1)) g .1 (placing-same g (r .3) (h .placing))),
 )
 
 -- ---- the rule of each form, and the test k steps deep
@@ -302,7 +302,7 @@ nearer b small h d m (inl f) = (omega arith, omega arith)
 nearer b small h d m (inr f) = (omega (arith, f .0), omega (arith, f .0, f .1))
 
 pub decides : {P : Procedure} {T : Trajectory} → ((p : ℕ) → p < P .count → FormedAs P T (formAt P p) p) → T .last < 64
-    → (k p b e : ℕ) → p < P .count → b ≤ T .last → p * 64 + (63 - b) < k → (reads k P T p b e ≡ true) ↔ Ends P T p b e
+    → (k p b e : ℕ) → p < P .count → b ≤ T .last → p * 64 + (63 - b) < k → (reads k P T p b e ≡ true) ↔ HasReading P T p b e
 unfolding reads
 decides g small zero p b e h l d = absurd (omega arith)
 decides {P} {T} g small (suc k) p b e h l d = Iff·trans (rule-law P T (reads k P T) (formAt P p) p b e (g p h)) (

@@ -8,8 +8,8 @@ use native.Mathlib.Decide.{decLt}
 use native.Mathlib.Omega.{arith}
 use lib.ListN.{length, getD, length-append}
 use Rattle.sets.specs.Ends.{InTable}
-use Rattle.words.specs.Tests.{one}
-use Rattle.bitset.specs.Members.{has, In, count, sum, pairs, size}
+use Rattle.words.specs.Tests.{indicator}
+use Rattle.bitset.specs.Members.{has, In, countBelow, sumBelow, pairs, popCount}
 use Rattle.bitset.proofs.Counts.{count-le}
 use Rattle.promise.specs.Trajectory.{Trajectory}
 use Rattle.promise.specs.Procedure.{Procedure}
@@ -30,8 +30,8 @@ module _ {A : Type 0} where
   gather f (suc k) = gather f k ++ f k
 
   module _ (f : ℕ → List A) where
-    length-gather : (k : ℕ) → length (gather f k) ≡ sum (λ i. length (f i)) k
-    unfolding gather sum
+    length-gather : (k : ℕ) → length (gather f k) ≡ sumBelow (λ i. length (f i)) k
+    unfolding gather sumBelow
     length-gather zero = refl
     length-gather (suc k) = length-append (gather f k) (f k) ∙ ap (λ (n : ℕ). n + length (f k)) (length-gather k)
 
@@ -60,7 +60,7 @@ module _ {A : Type 0} where
   only true x = x ∷ []
   only false x = []
 
-  length-only : (t : Bool) (x : A) → length (only t x) ≡ one t
+  length-only : (t : Bool) (x : A) → length (only t x) ≡ indicator t
   unfolding only
   length-only true x = refl
   length-only false x = refl
@@ -80,21 +80,21 @@ module _ {A : Type 0} where
   picks true x e = List·Memᴰ·head refl
   picks false x e = absurd (false≢true e)
 
-sum-same : {f g : ℕ → ℕ} (k : ℕ) → ((i : ℕ) → f i ≡ g i) → sum f k ≡ sum g k
-unfolding sum
+sum-same : {f g : ℕ → ℕ} (k : ℕ) → ((i : ℕ) → f i ≡ g i) → sumBelow f k ≡ sumBelow g k
+unfolding sumBelow
 sum-same zero h = refl
 sum-same (suc k) h = ap₂ _+_ (sum-same k h) (h k)
 
-sum-le : {f : ℕ → ℕ} (m k : ℕ) → ((i : ℕ) → f i ≤ m) → sum f k ≤ m * k
-unfolding sum
+sum-le : {f : ℕ → ℕ} (m k : ℕ) → ((i : ℕ) → f i ≤ m) → sumBelow f k ≤ m * k
+unfolding sumBelow
 sum-le m zero h = omega arith
 sum-le m (suc k) h = let r = sum-le m k h in let l = h k in omega arith
 
 -- how many pass a test, as a sum
-count-sum : (p : ℕ → Bool) (n : ℕ) → count p n ≡ sum (λ e. one (p e)) n
-unfolding count sum
+count-sum : (p : ℕ → Bool) (n : ℕ) → countBelow p n ≡ sumBelow (λ e. indicator (p e)) n
+unfolding countBelow sumBelow
 count-sum p zero = refl
-count-sum p (suc n) = ap (λ (k : ℕ). k + one (p n)) (count-sum p n)
+count-sum p (suc n) = ap (λ (k : ℕ). k + indicator (p n)) (count-sum p n)
 
 pairs-le : (t : List ℕ) → pairs t ≤ 64 * length t
 unfolding pairs
@@ -127,7 +127,7 @@ unfolding row ends triple
 distinct-row t i =
     distinct-gather (ends t i) (λ s. s .end) (λ e s m. ap (λ (s : Triple). s .end) (in-ends t i e m .1)) (λ e. distinct-only (has (getD t i 0) e) (triple i e)) 64
 
-length-row : (t : List ℕ) (i : ℕ) → length (row t i) ≡ size (getD t i 0)
+length-row : (t : List ℕ) (i : ℕ) → length (row t i) ≡ popCount (getD t i 0)
 unfolding row ends
 length-row t i =
     length-gather (ends t i) 64 ∙ sum-same 64 (λ e. length-only (has (getD t i 0) e) (triple i e)) ∙ sym (count-sum (has (getD t i 0)) 64)

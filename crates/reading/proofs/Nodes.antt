@@ -11,7 +11,7 @@ use Rattle.words.specs.Fields.{form}
 use Rattle.promise.specs.Trajectory.{Trajectory}
 use Rattle.promise.specs.Procedure.{Procedure}
 use Rattle.sets.specs.Set.{TaskSet, member, SetRule}
-use Rattle.sets.specs.Ends.{taskset, SetReady, SetRows, InTable}
+use Rattle.sets.specs.Ends.{taskSetOf, SetReady, SetRows, InTable}
 use Rattle.sets.proofs.Stored.{rule-map}
 use Rattle.reading.specs.Forms.{Form, Act, Test, Sequence, Choice, If, While, StartWindow, EndWindow, Set, Reserved, formNumber, formAt, taskSet, FormedAs}
 use Rattle.reading.specs.Rule.{Rule}
@@ -102,7 +102,7 @@ part ws ps ss ls vs n p =
     let a = getD ps p 0 + 1 in
     let m = getD ss p 0 in
     let l = getD ls p 0 in
-    taskset (take (a + m - a) (drop a ws)) (take (a + m + l - (a + m)) (drop (a + m) ws)) vs n
+    taskSetOf (take (a + m - a) (drop a ws)) (take (a + m + l - (a + m)) (drop (a + m) ws)) vs n
 
 module _ (ws ps ss ls starts durations vs : List ℕ) (n p : ℕ) (f : form (getD ws (getD ps p 0) 0) ≡ 8) where
   pub part-ready : {t : List ℕ} → NodeReady (procedureAt 64 ws ps ss ls) (trajectoryAt n starts durations vs) p t

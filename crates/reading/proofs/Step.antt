@@ -7,9 +7,9 @@ use native.Mathlib.Decide.{decLt}
 use native.Mathlib.Omega.{arith}
 use Rattle.promise.specs.Trajectory.{Trajectory}
 use Rattle.promise.specs.Procedure.{Procedure}
-use Rattle.sets.specs.Set.{TaskSet, size, member, SetRule}
+use Rattle.sets.specs.Set.{TaskSet, memberCount, member, SetRule}
 use Rattle.reading.specs.Forms.{Form, Act, Test, Sequence, Choice, If, While, StartWindow, EndWindow, Set, Reserved, formAt, FormedAs}
-use Rattle.reading.specs.Reading.{Mode, whole, passes, Reading, act, test, sequence, first, second, taken, otherwise, loop, done, pass, startWindow, endWindow, set, Ends}
+use Rattle.reading.specs.Reading.{Mode, whole, passes, Reading, act, test, sequence, first, second, taken, otherwise, loop, done, pass, startWindow, endWindow, set, HasReading}
 use Rattle.reading.specs.Rule.{Rule}
 
 -- a reading ends no sooner than it begins
@@ -57,7 +57,7 @@ module _ {P : Procedure} {T : Trajectory} where
   passing (set f r h) = rw f tt
 
   -- What a reading was made of
-  parts : {p b e : ℕ} {ws : List ℕ} → e ≤ T .last → Reading P T whole p b e ws → Rule P T (Ends P T) (formAt P p) p b e
+  parts : {p b e : ℕ} {ws : List ℕ} → e ≤ T .last → Reading P T whole p b e ws → Rule P T (HasReading P T) (formAt P p) p b e
   parts h (act f s d) = rw f (s, d, h)
   parts h (test f t d) = rw f (t, d)
   parts h (sequence f l r) = let hl = onward l in let hr = onward r in rw f (_, hl, omega arith, (omega arith, (_, l)), (h, (_, r)))
@@ -80,12 +80,12 @@ module _ {P : Procedure} {T : Trajectory} where
   })
 
   -- the words of each member, and of any other number none
-  chosen : {s : TaskSet} {b e : ℕ} (r : SetRule s (Ends P T) b e) (i : ℕ)
-      → (ws : List ℕ) × (i < size s → Reading P T whole (member s i) (r .begins i) (r .ends i) ws)
-  chosen {s = s} r i = by-cases (decLt i (size s)) (λ l. (r .reads i l .1 .0, λ k. r .reads i l .1 .1)) (λ l. ([], λ k. absurd (l k)))
+  chosen : {s : TaskSet} {b e : ℕ} (r : SetRule s (HasReading P T) b e) (i : ℕ)
+      → (ws : List ℕ) × (i < memberCount s → Reading P T whole (member s i) (r .begins i) (r .ends i) ws)
+  chosen {s = s} r i = by-cases (decLt i (memberCount s)) (λ l. (r .reads i l .1 .0, λ k. r .reads i l .1 .1)) (λ l. ([], λ k. absurd (l k)))
 
   -- and a reading made of it
-  made : {p b e : ℕ} (k : Form) → formAt P p ≡ k → b ≤ T .last → Rule P T (Ends P T) k p b e → Ends P T p b e
+  made : {p b e : ℕ} (k : Form) → formAt P p ≡ k → b ≤ T .last → Rule P T (HasReading P T) k p b e → HasReading P T p b e
   unfolding Passing
   made Act f h r = (r .2, (_, act f (r .0) (r .1)))
   made Test f h r = let d = r .1 in (omega arith, (_, test f (r .0) d))
@@ -106,7 +106,7 @@ module _ {P : Procedure} {T : Trajectory} where
   made Reserved f h r = absurd r
 
   -- the rule is sound and complete
-  pub step : {p b e : ℕ} → b ≤ T .last → Ends P T p b e ↔ Rule P T (Ends P T) (formAt P p) p b e
+  pub step : {p b e : ℕ} → b ≤ T .last → HasReading P T p b e ↔ Rule P T (HasReading P T) (formAt P p) p b e
   step {p = p} h = (λ r. parts (r .0) (r .1 .1), made (formAt P p) refl h)
 
 -- the order of the rows: those of the lower nodes, and those of p from k on, stand before

@@ -13,9 +13,9 @@ use Rattle.bitset.proofs.Laws.{not-both, has-zero}
 use Rattle.promise.specs.Trajectory.{Trajectory}
 use Rattle.promise.specs.Procedure.{Procedure}
 use Rattle.reading.specs.Forms.{Set, formAt, FormedAs}
-use Rattle.reading.specs.Reading.{Ends}
+use Rattle.reading.specs.Reading.{HasReading}
 use Rattle.reading.specs.Rule.{Rule}
-use Rattle.reading.specs.World.{Ready}
+use Rattle.reading.specs.World.{WorldReady}
 use Rattle.reading.specs.Table.{rowAt, Inside, RowReady, RowOf, NodeReady, NodeRows, Blank, Found}
 use Rattle.reading.proofs.Step.{onward, step, Filled, carry}
 
@@ -101,7 +101,7 @@ blank k q = record { size = length-replicate k 0 ∙ q; empty = empty-entry k }
 -- the rows of the nodes below p are right, and every other row is empty
 pub record Built (P : Procedure) (T : Trajectory) (t : List ℕ) (p : ℕ) : Type 0 where
   pub size : length t ≡ 4096
-  pub right : (q b e : ℕ) → q < p → b ≤ T .last → InTable t q b e ↔ Ends P T q b e
+  pub right : (q b e : ℕ) → q < p → b ≤ T .last → InTable t q b e ↔ HasReading P T q b e
   pub empty : (q b : ℕ) → b < 64 → (p ≤ q) ⊎ (T .last < b) → rowAt t q b ≡ 0
 
 module _ {P : Procedure} {T : Trajectory} where
@@ -111,21 +111,21 @@ module _ {P : Procedure} {T : Trajectory} where
   pub built-inside : {t : List ℕ} {p : ℕ} → Built P T t p → (q b : ℕ) → q < p → b ≤ T .last → Inside t q b (T .last)
   built-inside h q b k l e i = let r = h .right q b e k l .0 i in (onward (r .1 .1), r .0)
 
-  pub built-ready : {size : ℕ} {places sizes limits t : List ℕ} {p : ℕ} → Ready P T size places sizes limits → p < P .count → Built P T t p → NodeReady P T p t
+  pub built-ready : {size : ℕ} {places sizes limits t : List ℕ} {p : ℕ} → WorldReady P T size places sizes limits → p < P .count → Built P T t p → NodeReady P T p t
   built-ready g l h = record { formed = g .formed _ l; moments = g .moments; room = omega (arith, g .few, h .size); inside = built-inside h }
 
   module _ {t u : List ℕ} {p : ℕ} (small : T .last < 64) (formed : FormedAs P T (formAt P p) p) (h : Built P T t p) (new : NodeRows P T p t u) where
-    lower : (q b e : ℕ) → q < p → b ≤ T .last → InTable u q b e ↔ Ends P T q b e
+    lower : (q b e : ℕ) → q < p → b ≤ T .last → InTable u q b e ↔ HasReading P T q b e
     lower q b e k l = rw (new .others (q * 64 + b) (inl (omega arith))) (h .right q b e k l)
 
     -- the rows before row b of p are right, where the later rows of p are
-    before : {b : ℕ} → ((c d : ℕ) → b < c → c ≤ T .last → InTable u p c d ↔ Ends P T p c d)
-        → (q c d : ℕ) → Filled p (b + 1) q c → c ≤ T .last → InTable u q c d ↔ Ends P T q c d
+    before : {b : ℕ} → ((c d : ℕ) → b < c → c ≤ T .last → InTable u p c d ↔ HasReading P T p c d)
+        → (q c d : ℕ) → Filled p (b + 1) q c → c ≤ T .last → InTable u q c d ↔ HasReading P T q c d
     before later q c d (inl f) m = lower q c d f m
     before later q c d (inr f) m = rw (f .0) (later c d (omega (arith, f .1)) m)
 
     -- the rows of p that lie less than k before the last
-    right-rows : (k b e : ℕ) → b ≤ T .last → T .last < b + k → InTable u p b e ↔ Ends P T p b e
+    right-rows : (k b e : ℕ) → b ≤ T .last → T .last < b + k → InTable u p b e ↔ HasReading P T p b e
     right-rows zero b e l d = absurd (omega arith)
     right-rows (suc k) b e l d =
         let r = before {b = b} (λ c j i m. right-rows k c j m (omega arith)) in (

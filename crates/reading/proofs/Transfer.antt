@@ -7,13 +7,13 @@ use mathlib.Core.Logic.{_⊎_, inl, inr}
 use mathlib.Core.List.{List, _∷_}
 use native.Mathlib.Omega.{arith}
 use lib.ListN.{length, getD}
-use Rattle.words.specs.Scan.{joined}
+use Rattle.words.specs.Scan.{concatBelow}
 use Rattle.words.specs.Fields.{form, fails, unknown, holds, readingWord, conditionFormula, conditionI, conditionJ, conditionM, conditionN}
 use Rattle.promise.specs.Trajectory.{Trajectory}
 use Rattle.promise.specs.Procedure.{Procedure}
-use Rattle.sets.specs.Set.{TaskSet, size, Placing, MetAs, Met, Formed}
+use Rattle.sets.specs.Set.{TaskSet, memberCount, Placing, MetAs, Met, Formed}
 use Rattle.reading.specs.Forms.{Form, Act, Test, Sequence, Choice, If, While, StartWindow, EndWindow, Set, Reserved, formAt, fieldX, taskSet, FormedAs}
-use Rattle.reading.specs.Reading.{Mode, whole, passes, Reading, act, test, sequence, first, second, taken, otherwise, loop, done, pass, startWindow, endWindow, set, Ends}
+use Rattle.reading.specs.Reading.{Mode, whole, passes, Reading, act, test, sequence, first, second, taken, otherwise, loop, done, pass, startWindow, endWindow, set, HasReading}
 use Rattle.reading.proofs.Step.{onward}
 
 -- node p asks for formula k, by its own X or by a condition of form 2, 3 or 4
@@ -125,7 +125,7 @@ module _ {P P′ : Procedure} {T T′ : Trajectory} (x : Extends P T P′ T′) 
   kept {p = p} {b} {e} h o l (set {bs = bs} {es = es} {us = us} f r m) =
       let g = sym (x .node p h) in let ms = x .members p h in
       let c : FormedAs P T Set p = rw f at (formed p h) in
-      subst (λ (l : List ℕ). Reading P′ T′ whole p b e (readingWord p b e ∷ joined us (length l))) ms
+      subst (λ (l : List ℕ). Reading P′ T′ whole p b e (readingWord p b e ∷ concatBelow us (length l))) ms
       (set (rw g at f)
       (rw ms (λ i q. let y = m .inside i q in let z = c .1 i q in kept (omega arith) tt (omega arith) (r i q)))
       (placing-kept (c .0) ms (x .conditions p h) (x .last)
@@ -135,5 +135,5 @@ module _ {P P′ : Procedure} {T T′ : Trajectory} (x : Extends P T P′ T′) 
   pub transfer : {p b e : ℕ} {ws : List ℕ} → p < P .count → e ≤ T .last → Reading P T whole p b e ws → Reading P′ T′ whole p b e ws
   transfer h l r = kept h tt l r
 
-  pub ends-transfer : {p b e : ℕ} → p < P .count → Ends P T p b e → Ends P′ T′ p b e
+  pub ends-transfer : {p b e : ℕ} → p < P .count → HasReading P T p b e → HasReading P′ T′ p b e
   ends-transfer h r = let q = x .last in let l = r .0 in (omega arith, (r .1 .0, kept h tt l (r .1 .1)))

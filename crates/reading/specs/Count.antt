@@ -6,7 +6,7 @@ use mathlib.Core.List.{List, [], _∷_, List·Memᴰ}
 use lib.ListN.{length}
 use Rattle.promise.specs.Trajectory.{Trajectory}
 use Rattle.promise.specs.Procedure.{Procedure}
-use Rattle.reading.specs.Reading.{Ends}
+use Rattle.reading.specs.Reading.{HasReading}
 
 pub record Triple : Type 0 where
   pub node : ℕ
@@ -20,7 +20,7 @@ pub data Distinct {A : Type 0} : List A → Type 0 where
 
 -- the triple is one of a node of the procedure and moments b ≤ e ≤ n, and has a reading
 abbrev pub Read : Procedure → Trajectory → Triple → Type 0
-Read P T s = (s .node < P .count) × (s .begin ≤ s .end) × Ends P T (s .node) (s .begin) (s .end)
+Read P T s = (s .node < P .count) × (s .begin ≤ s .end) × HasReading P T (s .node) (s .begin) (s .end)
 
 -- r triples have a reading; there is one such r alone (`counted-once`, of the crate cases)
 pub record Counted (P : Procedure) (T : Trajectory) (r : ℕ) : Type 0 where

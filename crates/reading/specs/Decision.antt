@@ -5,12 +5,12 @@ use mathlib.Core.Bool.{Bool, true, false, _&&_, _||_}
 use mathlib.Core.List.{List, [], _∷_}
 use lib.Dec.{eqb, leb}
 use lib.ListN.{length, getD}
-use Rattle.sets.specs.Ends.{at}
+use Rattle.sets.specs.Ends.{entryAt}
 use Rattle.words.specs.Tests.{implies}
 use Rattle.words.specs.Fields.{form, fails, holds, conditionFormula, conditionI, conditionJ, conditionM, conditionN}
 use Rattle.promise.specs.Trajectory.{Trajectory}
 use Rattle.promise.specs.Procedure.{Procedure}
-use Rattle.sets.specs.Set.{TaskSet, size}
+use Rattle.sets.specs.Set.{TaskSet, memberCount}
 use Rattle.reading.specs.Forms.{Form, Act, Test, Sequence, Choice, If, While, StartWindow, EndWindow, Set, Reserved, formAt, fieldX, fieldY, fieldM, fieldN, taskSet}
 
 -- some m below k passes; each does
@@ -50,7 +50,7 @@ conditionb s bs es c =
 unfoldable pub placingb : TaskSet → ℕ → ℕ → (ℕ → ℕ) → (ℕ → ℕ) → Bool
 placingb s b e bs es =
     (leb b e && leb e (s .last))
-    && (each (insideb b e bs es) (size s) && (each (coveredb (size s) b bs es) (suc e) && each (conditionb s bs es) (length (s .conditions))))
+    && (each (insideb b e bs es) (memberCount s) && (each (coveredb (memberCount s) b bs es) (suc e) && each (conditionb s bs es) (length (s .conditions))))
 
 -- some choice of begins and ends below n, with which each member reads, passes
 unfoldable pub tried : (ℕ → ℕ → ℕ → Bool) → ℕ → List ℕ → (List ℕ → List ℕ → Bool) → Bool
@@ -58,7 +58,7 @@ tried R n [] f = f [] []
 tried R n (m ∷ ms) f = some (λ x. some (λ y. R m x y && tried R n ms (λ xs ys. f (x ∷ xs) (y ∷ ys))) n) n
 
 unfoldable pub setb : TaskSet → (ℕ → ℕ → ℕ → Bool) → ℕ → ℕ → Bool
-setb s R b e = tried R (suc (s .last)) (s .members) (λ bs es. placingb s b e (at bs) (at es))
+setb s R b e = tried R (suc (s .last)) (s .members) (λ bs es. placingb s b e (entryAt bs) (entryAt es))
 
 -- the rule of each form
 unfoldable pub ruleb : Procedure → Trajectory → (ℕ → ℕ → ℕ → Bool) → Form → ℕ → ℕ → ℕ → Bool

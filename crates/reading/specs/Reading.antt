@@ -6,7 +6,7 @@ use mathlib.Core.Path.{_≡_}
 use mathlib.Core.List.{List, [], _∷_, _++_}
 use native.Mathlib.Omega.{arith}
 use lib.ListN.{length, getD}
-use Rattle.words.specs.Scan.{joined}
+use Rattle.words.specs.Scan.{concatBelow}
 use Rattle.words.specs.Fields.{fails, holds, readingWord}
 use Rattle.promise.specs.Trajectory.{Trajectory}
 use Rattle.promise.specs.Procedure.{Procedure}
@@ -55,8 +55,8 @@ pub data Reading (P : Procedure) (T : Trajectory) : Mode → ℕ → ℕ → ℕ
   set : {p b e : ℕ} {bs es : ℕ → ℕ} {us : ℕ → List ℕ} → formAt P p ≡ Set
       → ((i : ℕ) → i < length (P .members p) → Reading P T whole (getD (P .members p) i 0) (bs i) (es i) (us i))
       → Placing (taskSet P T p) b e bs es
-      → Reading P T whole p b e (readingWord p b e ∷ joined us (length (P .members p)))
+      → Reading P T whole p b e (readingWord p b e ∷ concatBelow us (length (P .members p)))
 
 -- the triple (p, b, e) has a reading: e is no later than the last moment, and some list of words is a reading of p from b to e
-abbrev pub Ends : Procedure → Trajectory → ℕ → ℕ → ℕ → Type 0
-Ends P T p b e = (e ≤ T .last) × ((ws : List ℕ) × Reading P T whole p b e ws)
+abbrev pub HasReading : Procedure → Trajectory → ℕ → ℕ → ℕ → Type 0
+HasReading P T p b e = (e ≤ T .last) × ((ws : List ℕ) × Reading P T whole p b e ws)

@@ -9,7 +9,7 @@ use Rattle.bitset.specs.Members.{In}
 use Rattle.promise.specs.Trajectory.{Trajectory}
 use Rattle.promise.specs.Procedure.{Procedure}
 use Rattle.reading.specs.Forms.{Set, formAt, FormedAs}
-use Rattle.reading.specs.Reading.{Ends}
+use Rattle.reading.specs.Reading.{HasReading}
 use Rattle.reading.specs.Rule.{Rule}
 use Rattle.reading.specs.Count.{Counted}
 
@@ -60,7 +60,7 @@ pub record Blank (t : List ℕ) : Type 0 where
 -- bit e of (p, b) is set exactly when (p, b, e) has a reading, and no other bit is set
 pub record Found (P : Procedure) (T : Trajectory) (t : List ℕ) : Type 0 where
   pub size : length t ≡ 4096
-  pub right : (p b e : ℕ) → p < P .count → b ≤ T .last → InTable t p b e ↔ Ends P T p b e
+  pub right : (p b e : ℕ) → p < P .count → b ≤ T .last → InTable t p b e ↔ HasReading P T p b e
   pub beyond : (p b e : ℕ) → b < 64 → InTable t p b e → (p < P .count) × (b ≤ T .last)
 
 -- the table has all readings, and r, which fits 24 bits, is how many there are

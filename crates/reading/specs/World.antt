@@ -32,7 +32,7 @@ abbrev pub alone : ℕ → Procedure
 alone w = record { count = 0; node = λ p. w; members = λ p. []; conditions = λ p. [] }
 
 -- what the reader needs of them: at most 64 nodes, whose words, members and conditions are there, each as its form needs; moments below 64
-pub record Ready (P : Procedure) (T : Trajectory) (size : ℕ) (places sizes limits : List ℕ) : Type 0 where
+pub record WorldReady (P : Procedure) (T : Trajectory) (size : ℕ) (places sizes limits : List ℕ) : Type 0 where
   pub few : P .count ≤ 64
   pub moments : T .last < 64
   pub inside : (p : ℕ) → p < P .count → getD places p 0 + 1 + getD sizes p 0 + getD limits p 0 ≤ size

@@ -3,7 +3,7 @@ ghost use mathlib.Core.Path.{_≡_};
 ghost use Prim.Native.Nat.{_+_, _<_, _≤_};
 ghost use lib.ListN.{length, getD};
 ghost use Rattle.reading.specs.Forms.{Set, formAt};
-ghost use Rattle.reading.specs.World.{alone, procedureAt, trajectoryAt, Ready};
+ghost use Rattle.reading.specs.World.{alone, procedureAt, trajectoryAt, WorldReady};
 ghost use Rattle.reading.specs.Table.{NodeReady, NodeRows, Blank, Found, Tabulated};
 
 // Fills the rows of node p, which is no task set, begins descending: a loop's row rests on its later rows.
@@ -75,7 +75,7 @@ pub fn fill_table(
     n: usize,
     table: &mut [u64],
 )
-    requires { ⌜ Ready (procedureAt count (now words) (now places) (now sizes) (now limits)) (trajectoryAt n (now starts) (now durations) (now values)) (length (now words)) (now places) (now sizes) (now limits) × Blank (now table) ⌝ }
+    requires { ⌜ WorldReady (procedureAt count (now words) (now places) (now sizes) (now limits)) (trajectoryAt n (now starts) (now durations) (now values)) (length (now words)) (now places) (now sizes) (now limits) × Blank (now table) ⌝ }
     ensures { λ _. ⌜ Found (procedureAt count (now (words .entry)) (now (places .entry)) (now (sizes .entry)) (now (limits .entry))) (trajectoryAt n (now (starts .entry)) (now (durations .entry)) (now (values .entry))) (now (table .exit)) ⌝ }
 {
     let mut p = 0;
@@ -109,7 +109,7 @@ pub fn tabulate(
     n: usize,
     table: &mut [u64],
 ) -> u64
-    requires { ⌜ Ready (procedureAt count (now words) (now places) (now sizes) (now limits)) (trajectoryAt n (now starts) (now durations) (now values)) (length (now words)) (now places) (now sizes) (now limits) × Blank (now table) ⌝ }
+    requires { ⌜ WorldReady (procedureAt count (now words) (now places) (now sizes) (now limits)) (trajectoryAt n (now starts) (now durations) (now values)) (length (now words)) (now places) (now sizes) (now limits) × Blank (now table) ⌝ }
     ensures { λ r. ⌜ Tabulated (procedureAt count (now (words .entry)) (now (places .entry)) (now (sizes .entry)) (now (limits .entry))) (trajectoryAt n (now (starts .entry)) (now (durations .entry)) (now (values .entry))) (now (table .exit)) r ⌝ }
 {
     fill_table(

@@ -11,8 +11,8 @@ use lib.Seq.{getD-take, length-take-le, getD-set-same, getD-set-other}
 use Rattle.bitset.specs.Members.{In}
 use Rattle.words.specs.Fields.{memberNode, form, conditionI, conditionJ}
 use Rattle.sets.specs.Set.{Placing, SetRule, Formed}
-use Rattle.sets.specs.Ends.{valueIn, taskset, InTable, Placed}
-use Rattle.sets.specs.Search.{asked, Allowed, Ready, SomeBegin, Allows, Possible, OwnRows}
+use Rattle.sets.specs.Ends.{valueIn, taskSetOf, InTable, Placed}
+use Rattle.sets.specs.Search.{asked, Allowed, SearchReady, SomeBegin, Allows, Possible, OwnRows}
 use Rattle.sets.proofs.Masks.{allowed-at, asked-at, asked-le}
 use Rattle.sets.proofs.Search.{met-same}
 
@@ -84,7 +84,7 @@ module _ (k : ℕ) (few : k ≤ 4) where
 
 -- a placing does not depend on the members' nodes
 placing-same : (ms ms′ vs : List ℕ) {cs : List ℕ} {n b e : ℕ} {bs es : ℕ → ℕ} → length (map memberNode ms) ≡ length (map memberNode ms′)
-    → Placing (taskset ms cs vs n) b e bs es → Placing (taskset ms′ cs vs n) b e bs es
+    → Placing (taskSetOf ms cs vs n) b e bs es → Placing (taskSetOf ms′ cs vs n) b e bs es
 placing-same ms ms′ vs q p = record {
   onward = p .onward;
   within = p .within;
@@ -93,7 +93,7 @@ placing-same ms ms′ vs q p = record {
   met = p .met;
 }
 
-module _ (vs : List ℕ) {ms cs : List ℕ} {n : ℕ} {allow table own : List ℕ} (formed : Formed (taskset ms cs vs n))
+module _ (vs : List ℕ) {ms cs : List ℕ} {n : ℕ} {allow table own : List ℕ} (formed : Formed (taskSetOf ms cs vs n))
     (allowed : Allowed (valueIn vs) cs n (length cs * 64) allow) (rows : OwnRows ms cs n allow table (length ms * 64) own) where
   few : length ms ≤ 4
   few = omega (arith, formed .few, length-map ms memberNode)
@@ -113,7 +113,7 @@ module _ (vs : List ℕ) {ms cs : List ℕ} {n : ℕ} {allow table own : List �
   only i x e l g t = rw (List·getD-map memberNode ms i 0) (row-at i x e l g .0 (rw (places-at (length ms) few i l) at t) .0)
 
   -- the ends that the set uses are possible
-  possible : {b e : ℕ} (h : SetRule (taskset ms cs vs n) (InTable table) b e) (i : ℕ) → i < length ms → Possible cs allow n (length cs) i (h .begins i) (h .ends i)
+  possible : {b e : ℕ} (h : SetRule (taskSetOf ms cs vs n) (InTable table) b e) (i : ℕ) → i < length ms → Possible cs allow n (length cs) i (h .begins i) (h .ends i)
   possible h i l d g q =
       let w = getD cs d 0 in
       let z = length-map ms memberNode in
@@ -130,7 +130,7 @@ module _ (vs : List ℕ) {ms cs : List ℕ} {n : ℕ} {allow table own : List �
         self = λ k. subst (λ (j : ℕ). In (getD allow (d * 64 + h .begins j) 0) (asked (form w) (h .begins i) (h .ends i))) k t;
       }
 
-  pub own-rule : {b e : ℕ} → SetRule (taskset (places (length ms)) cs vs n) (InTable own) b e ↔ SetRule (taskset ms cs vs n) (InTable table) b e
+  pub own-rule : {b e : ℕ} → SetRule (taskSetOf (places (length ms)) cs vs n) (InTable own) b e ↔ SetRule (taskSetOf ms cs vs n) (InTable table) b e
   own-rule = (
     λ h. record {
       begins = h .begins;
@@ -161,7 +161,7 @@ module _ (vs : List ℕ) {ms cs : List ℕ} {n : ℕ} {allow table own : List �
     },
   )
 
-  pub own-placed : {b e : ℕ} {bs es : ℕ → ℕ} → Placed (taskset (places (length ms)) cs vs n) (InTable own) b e bs es → Placed (taskset ms cs vs n) (InTable table) b e bs es
+  pub own-placed : {b e : ℕ} {bs es : ℕ → ℕ} → Placed (taskSetOf (places (length ms)) cs vs n) (InTable own) b e bs es → Placed (taskSetOf ms cs vs n) (InTable table) b e bs es
   own-placed {bs = bs} {es = es} h = record {
     reads = λ i l.
         let o = h .placing .inside i (omega (arith, sizes)) in
@@ -171,7 +171,7 @@ module _ (vs : List ℕ) {ms cs : List ℕ} {n : ℕ} {allow table own : List �
     placing = placing-same (places (length ms)) ms vs sizes (h .placing);
   }
 
-  pub own-ready : {b : ℕ} → length cs * 64 ≤ length allow → length ms * 64 ≤ length own → b ≤ n → Ready (taskset (places (length ms)) cs vs n) allow own b
+  pub own-ready : {b : ℕ} → length cs * 64 ≤ length allow → length ms * 64 ≤ length own → b ≤ n → SearchReady (taskSetOf (places (length ms)) cs vs n) allow own b
   own-ready room long l = record {
     formed = record {
       some = omega (arith, sizes, formed .some);

@@ -13,10 +13,10 @@ use lib.Seq.{getD-set-same, getD-set-other}
 use Rattle.bitset.specs.Members.{has, Highest, In}
 use Rattle.bitset.proofs.Laws.{not-both, either, has-zero}
 use Rattle.words.specs.Fields.{conditionI, memberNode}
-use Rattle.sets.specs.Set.{TaskSet, size, member, MetAt, SetRule, Formed}
+use Rattle.sets.specs.Set.{TaskSet, memberCount, member, MetAt, SetRule, Formed}
 use Rattle.sets.specs.Cover.{Some, Coverable, Covering}
-use Rattle.sets.specs.Ends.{at, InTable, Placed}
-use Rattle.sets.specs.Search.{EndOf, EndSets, Begun, Completed, Ready, Searching}
+use Rattle.sets.specs.Ends.{entryAt, InTable, Placed}
+use Rattle.sets.specs.Search.{EndOf, EndSets, Begun, Completed, SearchReady, Searching}
 use Rattle.sets.proofs.Laws.{gain-as}
 use Rattle.sets.proofs.Cover.{coverable, covering}
 
@@ -41,7 +41,7 @@ same-sets q h = record { mask = λ i e l. (λ t. same-end q l (h .mask i e l .0 
 
 module _ {s : TaskSet} {R : ℕ → ℕ → ℕ → Type 0} {b e k : ℕ} {bs : ℕ → ℕ} where
   -- its ends are such as the conditions allow
-  pub end-of : (h : Completed s R b e k bs) → k ≤ size s → (i : ℕ) → i < k → EndOf s R bs k i (h .rule .ends i)
+  pub end-of : (h : Completed s R b e k bs) → k ≤ memberCount s → (i : ℕ) → i < k → EndOf s R bs k i (h .rule .ends i)
   end-of h l i g =
       let r = h .rule in
       let o = r .placing .inside i (omega arith) in
@@ -53,11 +53,11 @@ module _ {s : TaskSet} {R : ℕ → ℕ → ℕ → Type 0} {b e k : ℕ} {bs : 
         met = λ c m f z. met-same (s .value) (s .last) (getD (s .conditions) c 0) (ap (r .begins) f ∙ h .agrees i g) (ap (r .ends) f) (h .agrees _ z) (r .placing .met c m);
       }
 
-  pub some-end : {Es : ℕ → ℕ} → EndSets s R bs k Es → k ≤ size s → Completed s R b e k bs → (i : ℕ) → i < k → (y : ℕ) × In (Es i) y × (y ≤ e)
+  pub some-end : {Es : ℕ → ℕ} → EndSets s R bs k Es → k ≤ memberCount s → Completed s R b e k bs → (i : ℕ) → i < k → (y : ℕ) × In (Es i) y × (y ≤ e)
   some-end sets l h i g = let r = h .rule in (r .ends i, sets .mask i (r .ends i) g .1 (end-of h l i g), r .placing .inside i (omega arith) .2)
 
   -- where a mask is empty, there is none
-  pub none : {Es : ℕ → ℕ} → EndSets s R bs k Es → k ≤ size s → Some k (λ i. Es i ≡ 0) → Completed s R b e k bs → ⊥
+  pub none : {Es : ℕ → ℕ} → EndSets s R bs k Es → k ≤ memberCount s → Some k (λ i. Es i ≡ 0) → Completed s R b e k bs → ⊥
   none {Es} sets l z h =
       let t = sets .mask (z .at) (h .rule .ends (z .at)) (z .below) .1 (end-of h l (z .at) (z .below)) in
       not-both (t .yes) (ap (λ (x : ℕ). has x (h .rule .ends (z .at))) (z .is) ∙ has-zero (h .rule .ends (z .at)))
@@ -81,15 +81,15 @@ greatest x (suc e) = ⊎-elim
     step : has x (suc e) ≡ false → (k : ℕ) → k ≤ suc e → (k ≤ e → has x k ≡ false) → has x k ≡ false
     step f k l h = by-cases (decLt k (suc e)) (λ g. h (omega arith)) (λ g. let q : suc e ≡ k = omega arith in subst (λ (j : ℕ). has x j ≡ false) q f)
 
-module _ {s : TaskSet} {R : ℕ → ℕ → ℕ → Type 0} {b : ℕ} {bs Es : ℕ → ℕ} (formed : Formed s) (sets : EndSets s R bs (size s) Es)
-    (after : (i : ℕ) → i < size s → b ≤ bs i) where
-  onward : (i x : ℕ) → i < size s → In (Es i) x → bs i ≤ x
+module _ {s : TaskSet} {R : ℕ → ℕ → ℕ → Type 0} {b : ℕ} {bs Es : ℕ → ℕ} (formed : Formed s) (sets : EndSets s R bs (memberCount s) Es)
+    (after : (i : ℕ) → i < memberCount s → b ≤ bs i) where
+  onward : (i x : ℕ) → i < memberCount s → In (Es i) x → bs i ≤ x
   onward i x l t = sets .mask i x l .0 t .onward
 
   -- ends out of the masks make a placing
-  pub placed : {e : ℕ} {es : ℕ → ℕ} → Coverable (size s) bs Es b e → Covering (size s) bs Es b e es → Placed s R b e bs es
+  pub placed : {e : ℕ} {es : ℕ → ℕ} → Coverable (memberCount s) bs Es b e → Covering (memberCount s) bs Es b e es → Placed s R b e bs es
   placed {e} {es} h c =
-      let o : (i : ℕ) → i < size s → EndOf s R bs (size s) i (es i) = λ i l. sets .mask i (es i) l .0 (c .chosen i l .0) in
+      let o : (i : ℕ) → i < memberCount s → EndOf s R bs (memberCount s) i (es i) = λ i l. sets .mask i (es i) l .0 (c .chosen i l .0) in
       record {
         reads = λ i l. o i l .reads;
         placing = record {
@@ -102,31 +102,31 @@ module _ {s : TaskSet} {R : ℕ → ℕ → ℕ → Type 0} {b : ℕ} {bs Es : �
       }
 
   -- the greatest ends do
-  pub placed-top : {e : ℕ} {es : ℕ → ℕ} → Coverable (size s) bs Es b e → ((i : ℕ) → i < size s → Highest (Es i) e (es i)) → Placed s R b e bs es
+  pub placed-top : {e : ℕ} {es : ℕ → ℕ} → Coverable (memberCount s) bs Es b e → ((i : ℕ) → i < memberCount s → Highest (Es i) e (es i)) → Placed s R b e bs es
   placed-top h top = placed h (covering (formed .some) after onward h top)
 
-  pub leaf : (e : ℕ) → Coverable (size s) bs Es b e ↔ Completed s R b e (size s) bs
+  pub leaf : (e : ℕ) → Coverable (memberCount s) bs Es b e ↔ Completed s R b e (memberCount s) bs
   leaf e = (forth, back)
     where
-      forth : Coverable (size s) bs Es b e → Completed s R b e (size s) bs
+      forth : Coverable (memberCount s) bs Es b e → Completed s R b e (memberCount s) bs
       forth h =
-          let top : (i : ℕ) → (m : ℕ) × (i < size s → Highest (Es i) e m)
+          let top : (i : ℕ) → (m : ℕ) × (i < memberCount s → Highest (Es i) e m)
           = λ i. ⊎-elim (λ t. (t .0, λ l. t .1)) (λ n. (0, λ l. let r = h .needs i l .each in not-both (r .member .yes) (n (r .end) (r .upto)))) (greatest (Es i) e) in
           let p = placed-top {es = λ i. top i .0} h (λ i l. top i .1 l) in
           record { rule = record { begins = bs; ends = λ i. top i .0; reads = p .reads; placing = p .placing }; agrees = λ i l. refl }
 
-      back : Completed s R b e (size s) bs → Coverable (size s) bs Es b e
+      back : Completed s R b e (memberCount s) bs → Coverable (memberCount s) bs Es b e
       back h = coverable (formed .some) after onward {es = h .rule .ends} (record {
-        chosen = λ i l. (sets .mask i (h .rule .ends i) l .1 (end-of h (le-refl (size s)) i l), h .rule .placing .inside i l .2);
+        chosen = λ i l. (sets .mask i (h .rule .ends i) l .1 (end-of h (le-refl (memberCount s)) i l), h .rule .placing .inside i l .2);
         covers = λ t g l. let j = h .rule .placing .covers t g l in (j .0, j .1, subst (λ (x : ℕ). x ≤ t) (h .agrees (j .0) (j .1)) (j .2), j .3);
       })
 
 -- the same where k members, which are all, are placed
-pub leaf-at : {s : TaskSet} {R : ℕ → ℕ → ℕ → Type 0} {b e r x : ℕ} {bs Es : ℕ → ℕ} (k : ℕ) → Formed s → k ≡ size s → EndSets s R bs k Es
+pub leaf-at : {s : TaskSet} {R : ℕ → ℕ → ℕ → Type 0} {b e r x : ℕ} {bs Es : ℕ → ℕ} (k : ℕ) → Formed s → k ≡ memberCount s → EndSets s R bs k Es
     → ((i : ℕ) → i < k → b ≤ bs i) → In r e ↔ (In x e ⊎ Coverable k bs Es b e) → In r e ↔ (In x e ⊎ Completed s R b e k bs)
 leaf-at {e = e} k f q = rw q (λ sets after h. gain-as (leaf f sets after e) h)
 
-pub placed-at : {s : TaskSet} {R : ℕ → ℕ → ℕ → Type 0} {b e : ℕ} {bs Es es : ℕ → ℕ} (k : ℕ) → Formed s → k ≡ size s → EndSets s R bs k Es
+pub placed-at : {s : TaskSet} {R : ℕ → ℕ → ℕ → Type 0} {b e : ℕ} {bs Es es : ℕ → ℕ} (k : ℕ) → Formed s → k ≡ memberCount s → EndSets s R bs k Es
     → ((i : ℕ) → i < k → b ≤ bs i) → Completed s R b e k bs → ((i : ℕ) → i < k → Highest (Es i) e (es i)) → Placed s R b e bs es
 placed-at {e = e} k f q = rw q (λ sets after h top. placed-top f sets after (leaf f sets after e .1 h) top)
 
@@ -137,17 +137,17 @@ pub record CompletedTo (s : TaskSet) (R : ℕ → ℕ → ℕ → Type 0) (b e k
   pub done : Completed s R b e k bs
   pub below : done .rule .begins k < x
 
-pub to-none : {s : TaskSet} {R : ℕ → ℕ → ℕ → Type 0} {b e k : ℕ} {bs : ℕ → ℕ} → k < size s → CompletedTo s R b e k bs b → ⊥
+pub to-none : {s : TaskSet} {R : ℕ → ℕ → ℕ → Type 0} {b e k : ℕ} {bs : ℕ → ℕ} → k < memberCount s → CompletedTo s R b e k bs b → ⊥
 to-none l h = let o = h .done .rule .placing .inside _ l in let u = h .below in omega arith
 
 kept : (begins : List ℕ) (k x i : ℕ) → i < k → getD (set begins k x) i 0 ≡ getD begins i 0
 kept begins k x i l = getD-set-other begins k i x 0 (omega arith)
 
 module _ {s : TaskSet} {R : ℕ → ℕ → ℕ → Type 0} {b e : ℕ} (begins : List ℕ) (k x : ℕ) (long : k < length begins) where
-  pub turn : CompletedTo s R b e k (at begins) (x + 1) ↔ (CompletedTo s R b e k (at begins) x ⊎ Completed s R b e (k + 1) (at (set begins k x)))
+  pub turn : CompletedTo s R b e k (entryAt begins) (x + 1) ↔ (CompletedTo s R b e k (entryAt begins) x ⊎ Completed s R b e (k + 1) (entryAt (set begins k x)))
   turn = (forth, ⊎-elim (λ h. let l = h .below in record { done = h .done; below = omega arith }) back)
     where
-      forth : CompletedTo s R b e k (at begins) (x + 1) → CompletedTo s R b e k (at begins) x ⊎ Completed s R b e (k + 1) (at (set begins k x))
+      forth : CompletedTo s R b e k (entryAt begins) (x + 1) → CompletedTo s R b e k (entryAt begins) x ⊎ Completed s R b e (k + 1) (entryAt (set begins k x))
       forth h =
           let u = h .below in
           by-cases (decLt (h .done .rule .begins k) x) (λ l. inl (record { done = h .done; below = l })) (λ l.
@@ -159,14 +159,14 @@ module _ {s : TaskSet} {R : ℕ → ℕ → ℕ → Type 0} {b e : ℕ} (begins 
                 rw r (q ∙ sym (getD-set-same begins k x 0 long)));
           }))
 
-      back : Completed s R b e (k + 1) (at (set begins k x)) → CompletedTo s R b e k (at begins) (x + 1)
+      back : Completed s R b e (k + 1) (entryAt (set begins k x)) → CompletedTo s R b e k (entryAt begins) (x + 1)
       back h =
           let q = h .agrees k (omega arith) ∙ getD-set-same begins k x 0 long in
           record { done = record { rule = h .rule; agrees = λ i l. h .agrees i (omega arith) ∙ kept begins k x i l }; below = omega arith }
 
 -- ---- what a search needs, one member on
 
-module _ {s : TaskSet} {allow table begins ends : List ℕ} {k b : ℕ} (h : Searching s allow table k begins ends b) (inside : k < size s) where
+module _ {s : TaskSet} {allow table begins ends : List ℕ} {k b : ℕ} (h : Searching s allow table k begins ends b) (inside : k < memberCount s) where
   pub search-begin : (x : ℕ) → b ≤ x → x ≤ s .last → k < length begins → Searching s allow table k (set begins k x) ends b
   search-begin x l g long = record {
     formed = h .formed;
@@ -182,8 +182,8 @@ module _ {s : TaskSet} {allow table begins ends : List ℕ} {k b : ℕ} (h : Sea
     small = h .small;
   }
 
-  pub search-next : {r : List ℕ} → b ≤ at begins k
-      → EndSets s (InTable table) (at begins) (k + 1) (at r) × ((i e : ℕ) → In (at r i) e → e < 64) × ((i e : ℕ) → k < i → In (at ends i) e → In (at r i) e)
+  pub search-next : {r : List ℕ} → b ≤ entryAt begins k
+      → EndSets s (InTable table) (entryAt begins) (k + 1) (entryAt r) × ((i e : ℕ) → In (entryAt r i) e → e < 64) × ((i e : ℕ) → k < i → In (entryAt ends i) e → In (entryAt r i) e)
       → Searching s allow table (k + 1) begins r b
   search-next l placed = record {
     formed = h .formed;
@@ -193,25 +193,25 @@ module _ {s : TaskSet} {allow table begins ends : List ℕ} {k b : ℕ} (h : Sea
     step = omega arith;
     from = h .from;
     moments = h .moments;
-    after = below-more (λ i. b ≤ at begins i) k (h .after) l;
+    after = below-more (λ i. b ≤ entryAt begins i) k (h .after) l;
     sets = placed .0;
     later = λ i e g m t. placed .2 i e (omega arith) (h .later i e (omega arith) m t);
     small = placed .1;
   }
 
 -- at the start no member is placed
-at-zeros : (i : ℕ) → at (0 ∷ 0 ∷ 0 ∷ 0 ∷ []) i ≡ 0
+at-zeros : (i : ℕ) → entryAt (0 ∷ 0 ∷ 0 ∷ 0 ∷ []) i ≡ 0
 at-zeros zero = refl
 at-zeros (suc zero) = refl
 at-zeros (suc (suc zero)) = refl
 at-zeros (suc (suc (suc zero))) = refl
 at-zeros (suc (suc (suc (suc i)))) = refl
 
-pub none-small : (i e : ℕ) → In (at (0 ∷ 0 ∷ 0 ∷ 0 ∷ []) i) e → e < 64
+pub none-small : (i e : ℕ) → In (entryAt (0 ∷ 0 ∷ 0 ∷ 0 ∷ []) i) e → e < 64
 none-small i e t = not-both (t .yes) (ap (λ (x : ℕ). has x e) (at-zeros i) ∙ has-zero e)
 
-pub search-start : {s : TaskSet} {allow table ends : List ℕ} {b : ℕ} → Ready s allow table b
-    → ((i e : ℕ) → i < size s → Begun (InTable table) (member s i) b (s .last + 1) (s .last) e → In (at ends i) e) → ((i e : ℕ) → In (at ends i) e → e < 64)
+pub search-start : {s : TaskSet} {allow table ends : List ℕ} {b : ℕ} → SearchReady s allow table b
+    → ((i e : ℕ) → i < memberCount s → Begun (InTable table) (member s i) b (s .last + 1) (s .last) e → In (entryAt ends i) e) → ((i e : ℕ) → In (entryAt ends i) e → e < 64)
     → Searching s allow table 0 (0 ∷ 0 ∷ 0 ∷ 0 ∷ []) ends b
 search-start r later small = record {
   formed = r .formed;

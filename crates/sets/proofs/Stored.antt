@@ -8,11 +8,11 @@ use borrow.Author.Count.{below-more}
 use lib.ListN.{length, getD, set, length-set}
 use lib.Seq.{getD-set-same, getD-set-other}
 use Rattle.bitset.specs.Members.{In}
-use Rattle.sets.specs.Set.{TaskSet, size, member, SetRule}
+use Rattle.sets.specs.Set.{TaskSet, memberCount, member, SetRule}
 use Rattle.sets.specs.Ends.{InTable, SetRows}
 
 -- the rule asks R of the members' rows alone
-pub rule-map : {s : TaskSet} {R S : ℕ → ℕ → ℕ → Type 0} {b e : ℕ} → ((i c d : ℕ) → i < size s → c ≤ s .last → R (member s i) c d → S (member s i) c d)
+pub rule-map : {s : TaskSet} {R S : ℕ → ℕ → ℕ → Type 0} {b e : ℕ} → ((i c d : ℕ) → i < memberCount s → c ≤ s .last → R (member s i) c d → S (member s i) c d)
     → SetRule s R b e → SetRule s S b e
 rule-map f r = record {
   begins = r .begins;

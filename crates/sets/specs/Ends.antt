@@ -6,28 +6,28 @@ use mathlib.Core.List.{List, map}
 use lib.ListN.{length, getD}
 use Rattle.bitset.specs.Members.{In}
 use Rattle.words.specs.Fields.{memberNode}
-use Rattle.sets.specs.Set.{TaskSet, size, member, Placing, SetRule, Formed}
+use Rattle.sets.specs.Set.{TaskSet, memberCount, member, Placing, SetRule, Formed}
 
 -- the value of formula k at moment t, out of the values of all formulas
 abbrev pub valueIn : List ℕ → ℕ → ℕ → ℕ
 valueIn vs k t = getD vs (k * 64 + t) 0
 
 -- the task set of member words, condition words, the values of all formulas, and the last moment
-abbrev pub taskset : List ℕ → List ℕ → List ℕ → ℕ → TaskSet
-taskset ms cs vs n = record { members = map memberNode ms; conditions = cs; value = valueIn vs; last = n }
+abbrev pub taskSetOf : List ℕ → List ℕ → List ℕ → ℕ → TaskSet
+taskSetOf ms cs vs n = record { members = map memberNode ms; conditions = cs; value = valueIn vs; last = n }
 
 -- the table says that node p has the end e from b
 abbrev pub InTable : List ℕ → ℕ → ℕ → ℕ → Type 0
 InTable t p b e = In (getD t (p * 64 + b) 0) e
 
 -- an array as a function of its places
-abbrev pub at : List ℕ → ℕ → ℕ
-at l i = getD l i 0
+abbrev pub entryAt : List ℕ → ℕ → ℕ
+entryAt l i = getD l i 0
 
 -- what the rows of a set need: its members have lower numbers than p, and the table has the rows of p
 pub record SetReady (s : TaskSet) (p rows : ℕ) : Type 0 where
   pub formed : Formed s
-  pub lower : (i : ℕ) → i < size s → member s i < p
+  pub lower : (i : ℕ) → i < memberCount s → member s i < p
   pub room : p * 64 + 64 ≤ rows
 
 -- the rows of node p up to the last moment are those of the set s, by the table as it was, and the other rows are as they were
@@ -38,10 +38,10 @@ pub record SetRows (s : TaskSet) (p : ℕ) (before after : List ℕ) : Type 0 wh
 -- what placing a set needs: its members' rows, and that it reads b to e
 pub record Placeable (s : TaskSet) (table : List ℕ) (b e : ℕ) : Type 0 where
   pub formed : Formed s
-  pub rows : (i : ℕ) → i < size s → member s i * 64 + 64 ≤ length table
+  pub rows : (i : ℕ) → i < memberCount s → member s i * 64 + 64 ≤ length table
   pub rule : SetRule s (InTable table) b e
 
 -- begins and ends with which each member reads, and which are lawful from b to e
 pub record Placed (s : TaskSet) (R : ℕ → ℕ → ℕ → Type 0) (b e : ℕ) (bs es : ℕ → ℕ) : Type 0 where
-  pub reads : (i : ℕ) → i < size s → R (member s i) (bs i) (es i)
+  pub reads : (i : ℕ) → i < memberCount s → R (member s i) (bs i) (es i)
   pub placing : Placing s b e bs es

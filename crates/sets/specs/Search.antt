@@ -6,8 +6,8 @@ use mathlib.Core.List.{List}
 use lib.ListN.{length, getD}
 use Rattle.bitset.specs.Members.{In}
 use Rattle.words.specs.Fields.{form, memberNode, conditionI, conditionJ}
-use Rattle.sets.specs.Set.{TaskSet, size, member, MetAt, SetRule, Formed}
-use Rattle.sets.specs.Ends.{InTable, at}
+use Rattle.sets.specs.Set.{TaskSet, memberCount, member, MetAt, SetRule, Formed}
+use Rattle.sets.specs.Ends.{InTable, entryAt}
 
 -- a condition asks of member i either its begin or its end: the one that it asks
 abbrev pub asked : ℕ → ℕ → ℕ → ℕ
@@ -53,9 +53,9 @@ pub record Begun (R : ℕ → ℕ → ℕ → Type 0) (m a z n e : ℕ) : Type 0
   pub within : e ≤ n
 
 -- what a search from b needs: the set, its members' rows, and the masks of the conditions
-pub record Ready (s : TaskSet) (allow table : List ℕ) (b : ℕ) : Type 0 where
+pub record SearchReady (s : TaskSet) (allow table : List ℕ) (b : ℕ) : Type 0 where
   pub formed : Formed s
-  pub rows : (i : ℕ) → i < size s → member s i * 64 + 64 ≤ length table
+  pub rows : (i : ℕ) → i < memberCount s → member s i * 64 + 64 ≤ length table
   pub allowed : Allowed (s .value) (s .conditions) (s .last) (length (s .conditions) * 64) allow
   pub room : length (s .conditions) * 64 ≤ length allow
   pub from : b ≤ s .last
@@ -63,23 +63,23 @@ pub record Ready (s : TaskSet) (allow table : List ℕ) (b : ℕ) : Type 0 where
 -- what a search for begins needs: the set, its members' rows, and begins and masks so far; the masks of the members from k on have all ends
 pub record Searching (s : TaskSet) (allow table : List ℕ) (k : ℕ) (begins ends : List ℕ) (b : ℕ) : Type 0 where
   pub formed : Formed s
-  pub rows : (i : ℕ) → i < size s → member s i * 64 + 64 ≤ length table
+  pub rows : (i : ℕ) → i < memberCount s → member s i * 64 + 64 ≤ length table
   pub allowed : Allowed (s .value) (s .conditions) (s .last) (length (s .conditions) * 64) allow
   pub room : length (s .conditions) * 64 ≤ length allow
-  pub step : k ≤ size s
+  pub step : k ≤ memberCount s
   pub from : b ≤ s .last
-  pub moments : (i : ℕ) → at begins i ≤ s .last
-  pub after : (i : ℕ) → i < k → b ≤ at begins i
-  pub sets : EndSets s (InTable table) (at begins) k (at ends)
-  pub later : (i e : ℕ) → k ≤ i → i < size s → Begun (InTable table) (member s i) b (s .last + 1) (s .last) e → In (at ends i) e
-  pub small : (i e : ℕ) → In (at ends i) e → e < 64
+  pub moments : (i : ℕ) → entryAt begins i ≤ s .last
+  pub after : (i : ℕ) → i < k → b ≤ entryAt begins i
+  pub sets : EndSets s (InTable table) (entryAt begins) k (entryAt ends)
+  pub later : (i e : ℕ) → k ≤ i → i < memberCount s → Begun (InTable table) (member s i) b (s .last + 1) (s .last) e → In (entryAt ends i) e
+  pub small : (i e : ℕ) → In (entryAt ends i) e → e < 64
 
 -- what the conditions need of their masks and of the begins and masks of the members
 pub record Narrowable (cs allow begins ends : List ℕ) : Type 0 where
   pub named : (c : ℕ) → c < length cs → (conditionI (getD cs c 0) < 4) × (conditionJ (getD cs c 0) < 4)
   pub room : length cs * 64 ≤ length allow
-  pub moments : (i : ℕ) → at begins i < 64
-  pub small : (i e : ℕ) → In (at ends i) e → e < 64
+  pub moments : (i : ℕ) → entryAt begins i < 64
+  pub small : (i e : ℕ) → In (entryAt ends i) e → e < 64
 
 -- k is the later of members i and j
 pub record Later (i j k : ℕ) : Type 0 where
@@ -90,11 +90,11 @@ pub record Later (i j k : ℕ) : Type 0 where
 -- what condition d, where its later member is k, asks of the end e of member i, by its mask
 abbrev pub Asks : List ℕ → List ℕ → ℕ → List ℕ → ℕ → ℕ → ℕ → Type 0
 Asks cs allow k begins i e d = let w = getD cs d 0 in
-    conditionI w ≡ i → Later (conditionI w) (conditionJ w) k → In (getD allow (d * 64 + at begins (conditionJ w)) 0) (asked (form w) (at begins i) e)
+    conditionI w ≡ i → Later (conditionI w) (conditionJ w) k → In (getD allow (d * 64 + entryAt begins (conditionJ w)) 0) (asked (form w) (entryAt begins i) e)
 
 -- the masks `new` are the masks `old` with the first c conditions
 pub record Narrowed (cs allow : List ℕ) (k : ℕ) (begins old : List ℕ) (c : ℕ) (new : List ℕ) : Type 0 where
-  pub mask : (i e : ℕ) → In (at new i) e ↔ (In (at old i) e × ((d : ℕ) → d < c → Asks cs allow k begins i e d))
+  pub mask : (i e : ℕ) → In (entryAt new i) e ↔ (In (entryAt old i) e × ((d : ℕ) → d < c → Asks cs allow k begins i e d))
 
 -- condition d, of form f, allows the end e of its member i, begun at x, for some begin before z of its member j
 pub record SomeBegin (allow : List ℕ) (z f d x e : ℕ) : Type 0 where

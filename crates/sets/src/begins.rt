@@ -7,7 +7,7 @@ ghost use lib.ListN.{length, getD};
 ghost use Rattle.bitset.specs.Members.{In};
 ghost use Rattle.words.specs.Fields.{memberNode};
 ghost use Rattle.sets.specs.Cover.{Some};
-ghost use Rattle.sets.specs.Ends.{taskset, InTable, at};
+ghost use Rattle.sets.specs.Ends.{taskSetOf, InTable, entryAt};
 ghost use Rattle.sets.specs.Search.{EndSets, Begun, Completed, Searching, LastBegin};
 use crate::conditions;
 use crate::covering;
@@ -37,7 +37,7 @@ fn ends_from(table: &[u64], m: usize, a: u32, z: u32, n: u32) -> u64
 // The ends of each member, begun from b on.
 pub fn later_ends(members: &[u32], table: &[u64], b: u32, n: u32) -> [u64; 4]
     requires { ⌜ (length (now members) ≤ 4) × ((i : ℕ) → i < length (now members) → memberNode (getD (now members) i 0) * 64 + 64 ≤ length (now table)) × (b ≤ n) × (n < 64) ⌝ }
-    ensures { λ r. ⌜ ((i e : ℕ) → i < length (now (members .entry)) → In (at r i) e ↔ Begun (InTable (now (table .entry))) (memberNode (getD (now (members .entry)) i 0)) b (n + 1) n e) × ((i e : ℕ) → In (at r i) e → e < 64) ⌝ }
+    ensures { λ r. ⌜ ((i e : ℕ) → i < length (now (members .entry)) → In (entryAt r i) e ↔ Begun (InTable (now (table .entry))) (memberNode (getD (now (members .entry)) i 0)) b (n + 1) n e) × ((i e : ℕ) → In (entryAt r i) e → e < 64) ⌝ }
 {
     let mut ends = [0u64; 4];
     let mut i = 0;
@@ -61,8 +61,8 @@ pub fn place_next(
     b: u32,
     n: u32,
 ) -> [u64; 4]
-    requires { ⌜ Searching (taskset (now members) (now conds) (now values) n) (now allow) (now table) k begins ends b × (k < length (now members)) ⌝ }
-    ensures { λ r. ⌜ EndSets (taskset (now (members .entry)) (now (conds .entry)) (now (values .entry)) n) (InTable (now (table .entry))) (at begins) (k + 1) (at r) × ((i e : ℕ) → In (at r i) e → e < 64) × ((i e : ℕ) → k < i → In (at ends i) e → In (at r i) e) ⌝ }
+    requires { ⌜ Searching (taskSetOf (now members) (now conds) (now values) n) (now allow) (now table) k begins ends b × (k < length (now members)) ⌝ }
+    ensures { λ r. ⌜ EndSets (taskSetOf (now (members .entry)) (now (conds .entry)) (now (values .entry)) n) (InTable (now (table .entry))) (entryAt begins) (k + 1) (entryAt r) × ((i e : ℕ) → In (entryAt r i) e → e < 64) × ((i e : ℕ) → k < i → In (entryAt ends i) e → In (entryAt r i) e) ⌝ }
 {
     let mut sets = ends;
     sets[k] = ends_at(table, words::member_node(members[k]), begins[k], n);
@@ -72,7 +72,7 @@ pub fn place_next(
 // Whether one of the first count masks is empty.
 fn any_empty(ends: [u64; 4], count: usize) -> bool
     requires { ⌜ count ≤ 4 ⌝ }
-    ensures { λ r. ⌜ (r ≡ true → Some count (λ i. at ends i ≡ 0)) ⌝ }
+    ensures { λ r. ⌜ (r ≡ true → Some count (λ i. entryAt ends i ≡ 0)) ⌝ }
 {
     let mut i = 0;
     while i < count {
@@ -107,8 +107,8 @@ fn last_begin(
     b: u32,
     n: u32,
 ) -> u32
-    requires { ⌜ Searching (taskset (now members) (now conds) (now values) n) (now allow) (now table) k begins ends b × (k < length (now members)) ⌝ }
-    ensures { λ r. ⌜ LastBegin (taskset (now (members .entry)) (now (conds .entry)) (now (values .entry)) n) (InTable (now (table .entry))) b k (at begins) r ⌝ }
+    requires { ⌜ Searching (taskSetOf (now members) (now conds) (now values) n) (now allow) (now table) k begins ends b × (k < length (now members)) ⌝ }
+    ensures { λ r. ⌜ LastBegin (taskSetOf (now (members .entry)) (now (conds .entry)) (now (values .entry)) n) (InTable (now (table .entry))) b k (entryAt begins) r ⌝ }
 {
     if k + 2 < members.len() {
         return n;
@@ -135,8 +135,8 @@ fn open_ends(
     last: u32,
     n: u32,
 ) -> u64
-    requires { ⌜ Searching (taskset (now members) (now conds) (now values) n) (now allow) (now table) k begins ends b × (k < length (now members)) × (b ≤ last) × (last ≤ n) ⌝ }
-    ensures { λ r. ⌜ ((e : ℕ) → (h : Completed (taskset (now (members .entry)) (now (conds .entry)) (now (values .entry)) n) (InTable (now (table .entry))) b e k (at begins)) → h .rule .begins k ≤ last → In r e) ⌝ }
+    requires { ⌜ Searching (taskSetOf (now members) (now conds) (now values) n) (now allow) (now table) k begins ends b × (k < length (now members)) × (b ≤ last) × (last ≤ n) ⌝ }
+    ensures { λ r. ⌜ ((e : ℕ) → (h : Completed (taskSetOf (now (members .entry)) (now (conds .entry)) (now (values .entry)) n) (InTable (now (table .entry))) b e k (entryAt begins)) → h .rule .begins k ≤ last → In r e) ⌝ }
 {
     let mut open = ends;
     open[k] = ends_from(table, words::member_node(members[k]), b, last, n);
@@ -157,8 +157,8 @@ pub fn complete(
     n: u32,
     found: u64,
 ) -> u64
-    requires { ⌜ Searching (taskset (now members) (now conds) (now values) n) (now allow) (now table) k begins ends b ⌝ }
-    ensures { λ r. ⌜ ((e : ℕ) → In r e ↔ (In found e ⊎ Completed (taskset (now (members .entry)) (now (conds .entry)) (now (values .entry)) n) (InTable (now (table .entry))) b e k (at begins))) ⌝ }
+    requires { ⌜ Searching (taskSetOf (now members) (now conds) (now values) n) (now allow) (now table) k begins ends b ⌝ }
+    ensures { λ r. ⌜ ((e : ℕ) → In r e ↔ (In found e ⊎ Completed (taskSetOf (now (members .entry)) (now (conds .entry)) (now (values .entry)) n) (InTable (now (table .entry))) b e k (entryAt begins))) ⌝ }
 {
     if k == members.len() {
         return covering::with_covered(begins, ends, k, b, found);

@@ -5,12 +5,12 @@ ghost use mathlib.Core.Logic.{_↔_, _⊎_};
 ghost use Prim.Native.Nat.{ℕ, _<_, _≤_};
 ghost use Rattle.bitset.specs.Members.{In};
 ghost use Rattle.sets.specs.Cover.{Some, Needed, Coverable, Spans, Attained};
-ghost use Rattle.sets.specs.Ends.{at};
+ghost use Rattle.sets.specs.Ends.{entryAt};
 
 // The ends of the members that begin before x.
 fn ends_before(begins: [u32; 4], ends: [u64; 4], count: usize, x: u32) -> u64
     requires { ⌜ count ≤ 4 ⌝ }
-    ensures { λ r. ⌜ ((e : ℕ) → In r e ↔ Some count (λ i. (at begins i < x) × (In (at ends i) e))) ⌝ }
+    ensures { λ r. ⌜ ((e : ℕ) → In r e ↔ Some count (λ i. (entryAt begins i < x) × (In (entryAt ends i) e))) ⌝ }
 {
     let mut r = 0;
     let mut i = 0;
@@ -37,8 +37,8 @@ fn least_from(x: u64, a: u32) -> u32
 
 // The end from which on member i asks nothing more, or 64.
 fn need(begins: [u32; 4], ends: [u64; 4], count: usize, b: u32, i: usize) -> u32
-    requires { ⌜ (count ≤ 4) × (i < count) × (at begins i < 64) ⌝ }
-    ensures { λ r. ⌜ ((e : ℕ) → e < 64 → (r ≤ e) ↔ Needed count (at begins) (at ends) b i e) ⌝ }
+    requires { ⌜ (count ≤ 4) × (i < count) × (entryAt begins i < 64) ⌝ }
+    ensures { λ r. ⌜ ((e : ℕ) → e < 64 → (r ≤ e) ↔ Needed count (entryAt begins) (entryAt ends) b i e) ⌝ }
 {
     let own = least_from(ends[i], 0);
     let x = begins[i];
@@ -54,7 +54,7 @@ fn need(begins: [u32; 4], ends: [u64; 4], count: usize, b: u32, i: usize) -> u32
 // Whether one of the first count members begins at b.
 fn begins_at(begins: [u32; 4], count: usize, b: u32) -> bool
     requires { ⌜ count ≤ 4 ⌝ }
-    ensures { λ r. ⌜ (r ≡ true) ↔ Some count (λ i. at begins i ≡ b) ⌝ }
+    ensures { λ r. ⌜ (r ≡ true) ↔ Some count (λ i. entryAt begins i ≡ b) ⌝ }
 {
     let mut i = 0;
     while i < count {
@@ -68,8 +68,8 @@ fn begins_at(begins: [u32; 4], count: usize, b: u32) -> bool
 
 // The ends e of which some choice of ends covers b..e.
 fn covered(begins: [u32; 4], ends: [u64; 4], count: usize, b: u32) -> u64
-    requires { ⌜ (count ≤ 4) × ((i : ℕ) → at begins i < 64) × ((i e : ℕ) → i < count → In (at ends i) e → e < 64) ⌝ }
-    ensures { λ r. ⌜ ((e : ℕ) → In r e ↔ Coverable count (at begins) (at ends) b e) ⌝ }
+    requires { ⌜ (count ≤ 4) × ((i : ℕ) → entryAt begins i < 64) × ((i e : ℕ) → i < count → In (entryAt ends i) e → e < 64) ⌝ }
+    ensures { λ r. ⌜ ((e : ℕ) → In r e ↔ Coverable count (entryAt begins) (entryAt ends) b e) ⌝ }
 {
     if !begins_at(begins, count, b) {
         return 0;
@@ -91,8 +91,8 @@ fn covered(begins: [u32; 4], ends: [u64; 4], count: usize, b: u32) -> u64
 
 // `found` and these ends, which are not worked out where no mask has an end that is not found yet.
 pub fn with_covered(begins: [u32; 4], ends: [u64; 4], count: usize, b: u32, found: u64) -> u64
-    requires { ⌜ (count ≤ 4) × ((i : ℕ) → at begins i < 64) × ((i e : ℕ) → i < count → In (at ends i) e → e < 64) ⌝ }
-    ensures { λ r. ⌜ ((e : ℕ) → In r e ↔ (In found e ⊎ Coverable count (at begins) (at ends) b e)) ⌝ }
+    requires { ⌜ (count ≤ 4) × ((i : ℕ) → entryAt begins i < 64) × ((i e : ℕ) → i < count → In (entryAt ends i) e → e < 64) ⌝ }
+    ensures { λ r. ⌜ ((e : ℕ) → In r e ↔ (In found e ⊎ Coverable count (entryAt begins) (entryAt ends) b e)) ⌝ }
 {
     if bitset::union(found, ends_before(begins, ends, count, 64)) == found {
         return found;
@@ -102,8 +102,8 @@ pub fn with_covered(begins: [u32; 4], ends: [u64; 4], count: usize, b: u32, foun
 
 // The greatest ends of the choices of an end out of each mask.
 pub fn attained(ends: [u64; 4], count: usize) -> u64
-    requires { ⌜ (count ≤ 4) × ((i e : ℕ) → In (at ends i) e → e < 64) ⌝ }
-    ensures { λ r. ⌜ ((e : ℕ) → In r e ↔ Attained count (at ends) e) ⌝ }
+    requires { ⌜ (count ≤ 4) × ((i e : ℕ) → In (entryAt ends i) e → e < 64) ⌝ }
+    ensures { λ r. ⌜ ((e : ℕ) → In r e ↔ Attained count (entryAt ends) e) ⌝ }
 {
     let mut all = 0;
     let mut least = 0;
@@ -135,8 +135,8 @@ pub fn span(x: u32, ends: u64) -> u64
 
 // The moments that one of the first count members can cover.
 pub fn spans(begins: [u32; 4], ends: [u64; 4], count: usize) -> u64
-    requires { ⌜ (count ≤ 4) × ((i : ℕ) → at begins i < 64) ⌝ }
-    ensures { λ r. ⌜ ((t : ℕ) → In r t ↔ Some count (λ i. Spans (at begins i) (at ends i) t)) ⌝ }
+    requires { ⌜ (count ≤ 4) × ((i : ℕ) → entryAt begins i < 64) ⌝ }
+    ensures { λ r. ⌜ ((t : ℕ) → In r t ↔ Some count (λ i. Spans (entryAt begins i) (entryAt ends i) t)) ⌝ }
 {
     let mut r = 0;
     let mut i = 0;

@@ -3,8 +3,8 @@ ghost use Prim.Native.Nat.{ℕ, _+_, _<_, _≤_};
 ghost use lib.ListN.{length, set};
 ghost use Rattle.bitset.specs.Members.{Highest, In};
 ghost use Rattle.sets.specs.Set.{SetRule};
-ghost use Rattle.sets.specs.Ends.{taskset, InTable, at, Placed, Placeable};
-ghost use Rattle.sets.specs.Search.{Completed, Ready, Searching};
+ghost use Rattle.sets.specs.Ends.{taskSetOf, InTable, entryAt, Placed, Placeable};
+ghost use Rattle.sets.specs.Search.{Completed, SearchReady, Searching};
 use crate::begins;
 use crate::conditions;
 use crate::rows;
@@ -28,9 +28,9 @@ fn next_begin(
     e: u32,
     n: u32,
 ) -> u32
-    requires { ⌜ Searching (taskset (now members) (now conds) (now values) n) (now allow) (now table) k begins ends b × (k < length (now members)) ⌝ }
-    requires { ⌜ Completed (taskset (now members) (now conds) (now values) n) (InTable (now table)) b e k (at begins) ⌝ }
-    ensures { λ r. ⌜ (b ≤ r) × (r ≤ n) × Completed (taskset (now (members .entry)) (now (conds .entry)) (now (values .entry)) n) (InTable (now (table .entry))) b e (k + 1) (at (set begins k r)) ⌝ }
+    requires { ⌜ Searching (taskSetOf (now members) (now conds) (now values) n) (now allow) (now table) k begins ends b × (k < length (now members)) ⌝ }
+    requires { ⌜ Completed (taskSetOf (now members) (now conds) (now values) n) (InTable (now table)) b e k (entryAt begins) ⌝ }
+    ensures { λ r. ⌜ (b ≤ r) × (r ≤ n) × Completed (taskSetOf (now (members .entry)) (now (conds .entry)) (now (values .entry)) n) (InTable (now (table .entry))) b e (k + 1) (entryAt (set begins k r)) ⌝ }
 {
     let mut x = b;
     while x < n {
@@ -71,8 +71,8 @@ fn greatest_upto(x: u64, e: u32) -> u32
 
 // The greatest end up to e of each of the first count masks.
 fn greatest_ends(sets: [u64; 4], count: usize, e: u32) -> [u32; 4]
-    requires { ⌜ (e < 64) × (count ≤ 4) × ((i : ℕ) → i < count → (y : ℕ) × In (at sets i) y × (y ≤ e)) ⌝ }
-    ensures { λ r. ⌜ ((i : ℕ) → i < count → Highest (at sets i) e (at r i)) ⌝ }
+    requires { ⌜ (e < 64) × (count ≤ 4) × ((i : ℕ) → i < count → (y : ℕ) × In (entryAt sets i) y × (y ≤ e)) ⌝ }
+    ensures { λ r. ⌜ ((i : ℕ) → i < count → Highest (entryAt sets i) e (entryAt r i)) ⌝ }
 {
     let mut ends = [0u32; 4];
     let mut i = 0;
@@ -94,8 +94,8 @@ fn place_from(
     e: u32,
     n: u32,
 ) -> Placement
-    requires { ⌜ Ready (taskset (now members) (now conds) (now values) n) (now allow) (now table) b × SetRule (taskset (now members) (now conds) (now values) n) (InTable (now table)) b e ⌝ }
-    ensures { λ r. ⌜ Placed (taskset (now (members .entry)) (now (conds .entry)) (now (values .entry)) n) (InTable (now (table .entry))) b e (at (r .begins)) (at (r .ends)) ⌝ }
+    requires { ⌜ SearchReady (taskSetOf (now members) (now conds) (now values) n) (now allow) (now table) b × SetRule (taskSetOf (now members) (now conds) (now values) n) (InTable (now table)) b e ⌝ }
+    ensures { λ r. ⌜ Placed (taskSetOf (now (members .entry)) (now (conds .entry)) (now (values .entry)) n) (InTable (now (table .entry))) b e (entryAt (r .begins)) (entryAt (r .ends)) ⌝ }
 {
     let mut begins = [0u32; 4];
     let mut sets = begins::later_ends(members, table, b, n);
@@ -133,8 +133,8 @@ pub fn place(
     e: u32,
     n: u32,
 ) -> Placement
-    requires { ⌜ Placeable (taskset (now members) (now conds) (now values) n) (now table) b e ⌝ }
-    ensures { λ r. ⌜ Placed (taskset (now (members .entry)) (now (conds .entry)) (now (values .entry)) n) (InTable (now (table .entry))) b e (at (r .begins)) (at (r .ends)) ⌝ }
+    requires { ⌜ Placeable (taskSetOf (now members) (now conds) (now values) n) (now table) b e ⌝ }
+    ensures { λ r. ⌜ Placed (taskSetOf (now (members .entry)) (now (conds .entry)) (now (values .entry)) n) (InTable (now (table .entry))) b e (entryAt (r .begins)) (entryAt (r .ends)) ⌝ }
 {
     let mut allow = [0u64; 512];
     conditions::fill_allowed(values, conds, n as usize, &mut allow);

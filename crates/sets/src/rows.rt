@@ -5,8 +5,8 @@ ghost use lib.ListN.{length, getD};
 ghost use Rattle.bitset.specs.Members.{In};
 ghost use Rattle.words.specs.Fields.{memberNode};
 ghost use Rattle.sets.specs.Set.{SetRule};
-ghost use Rattle.sets.specs.Ends.{taskset, InTable, SetReady, SetRows};
-ghost use Rattle.sets.specs.Search.{Ready, OwnRows};
+ghost use Rattle.sets.specs.Ends.{taskSetOf, InTable, SetReady, SetRows};
+ghost use Rattle.sets.specs.Search.{SearchReady, OwnRows};
 use crate::begins;
 use crate::conditions;
 
@@ -41,8 +41,8 @@ fn set_row(
     b: u32,
     n: u32,
 ) -> u64
-    requires { ⌜ Ready (taskset (now members) (now conds) (now values) n) (now allow) (now table) b ⌝ }
-    ensures { λ r. ⌜ ((e : ℕ) → In r e ↔ SetRule (taskset (now (members .entry)) (now (conds .entry)) (now (values .entry)) n) (InTable (now (table .entry))) b e) ⌝ }
+    requires { ⌜ SearchReady (taskSetOf (now members) (now conds) (now values) n) (now allow) (now table) b ⌝ }
+    ensures { λ r. ⌜ ((e : ℕ) → In r e ↔ SetRule (taskSetOf (now (members .entry)) (now (conds .entry)) (now (values .entry)) n) (InTable (now (table .entry))) b e) ⌝ }
 {
     let ends = begins::later_ends(members, table, b, n);
     begins::complete(
@@ -69,8 +69,8 @@ pub fn set_rows(
     n: u32,
     table: &mut [u64],
 )
-    requires { ⌜ SetReady (taskset (now members) (now conds) (now values) n) p (length (now table)) ⌝ }
-    ensures { λ _. ⌜ SetRows (taskset (now (members .entry)) (now (conds .entry)) (now (values .entry)) n) p (now (table .entry)) (now (table .exit)) ⌝ }
+    requires { ⌜ SetReady (taskSetOf (now members) (now conds) (now values) n) p (length (now table)) ⌝ }
+    ensures { λ _. ⌜ SetRows (taskSetOf (now (members .entry)) (now (conds .entry)) (now (values .entry)) n) p (now (table .entry)) (now (table .exit)) ⌝ }
 {
     let mut allow = [0u64; 512];
     conditions::fill_allowed(values, conds, n as usize, &mut allow);

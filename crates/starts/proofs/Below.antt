@@ -10,39 +10,39 @@ use borrow.Author.Tests.{eq-eqb, ne-eqb}
 use Rattle.words.proofs.Choices.{true-false, either-true}
 use lib.Dec.{eqb}
 use Rattle.answers.specs.declared.Refusal.{Refusal}
-use Rattle.answers.specs.Rows.{refusal, passed, orElse, refusalAt, firstOf}
+use Rattle.answers.specs.Rows.{refusal, passed, firstRefusal, refusalAt, firstOf}
 use Rattle.answers.proofs.Rows.{first-more, first-found, first-none}
 use Rattle.starts.specs.Rows.{numbered, rowsRefusal}
-use Rattle.words.specs.Scan.{someBelow}
+use Rattle.words.specs.Scan.{anyBelow}
 
 module _ (test : ℕ → Bool) where
-  pub some-start : someBelow test 0 ≡ false
-  unfolding someBelow
+  pub some-start : anyBelow test 0 ≡ false
+  unfolding anyBelow
   some-start = refl
 
-  pub some-more : (i : ℕ) → someBelow test i ≡ false → test i ≡ false → someBelow test (i + 1) ≡ false
-  unfolding someBelow
+  pub some-more : (i : ℕ) → anyBelow test i ≡ false → test i ≡ false → anyBelow test (i + 1) ≡ false
+  unfolding anyBelow
   some-more i h e = rw (add-one i, h, e)
 
-  pub some-none : (n : ℕ) → ((i : ℕ) → i < n → test i ≡ false) → someBelow test n ≡ false
-  unfolding someBelow
+  pub some-none : (n : ℕ) → ((i : ℕ) → i < n → test i ≡ false) → anyBelow test n ≡ false
+  unfolding anyBelow
   some-none zero h = refl
   some-none (suc n) h = rw (some-none n (λ i l. h i (omega arith)), h n (omega arith))
 
-  pub some-hit : (n i : ℕ) → i < n → test i ≡ true → someBelow test n ≡ true
-  unfolding someBelow
+  pub some-hit : (n i : ℕ) → i < n → test i ≡ true → anyBelow test n ≡ true
+  unfolding anyBelow
   some-hit zero i l e = absurd (omega arith)
   some-hit (suc n) i l e = cases (decLt i n) (λ m. some-hit n i m e)
     where
-      cases : Dec (i < n) → (i < n → someBelow test n ≡ true) → (someBelow test n || test n) ≡ true
+      cases : Dec (i < n) → (i < n → anyBelow test n ≡ true) → (anyBelow test n || test n) ≡ true
       cases (yes m) ih = rw (ih m)
-      cases (no m) ih = let same : i ≡ n = omega arith in rw (← same, e) (either-true (someBelow test i))
+      cases (no m) ih = let same : i ≡ n = omega arith in rw (← same, e) (either-true (anyBelow test i))
 
   -- what each position that passes implies, some position that passes does
-  pub some-implies : (n : ℕ) (b : Bool) → ((i : ℕ) → i < n → test i ≡ true → b ≡ true) → someBelow test n ≡ true → b ≡ true
-  unfolding someBelow
+  pub some-implies : (n : ℕ) (b : Bool) → ((i : ℕ) → i < n → test i ≡ true → b ≡ true) → anyBelow test n ≡ true → b ≡ true
+  unfolding anyBelow
   some-implies zero b h e = absurd (true-false (sym e))
-  some-implies (suc n) b h e = cases (someBelow test n) (some-implies n b (λ i l. h i (omega arith))) e
+  some-implies (suc n) b h e = cases (anyBelow test n) (some-implies n b (λ i l. h i (omega arith))) e
     where
       cases : (a : Bool) → (a ≡ true → b ≡ true) → (a || test n) ≡ true → b ≡ true
       cases true ih e = ih refl
@@ -83,23 +83,23 @@ module _ (number : ℕ) (test : ℕ → Bool) (n : ℕ) where
   unfolding rowsRefusal firstOf
   rows-last = last (numbered number test) n
     where
-      last : (f : ℕ → ℕ) (n : ℕ) → firstOf f n ≡ orElse (firstOf f n) passed
+      last : (f : ℕ → ℕ) (n : ℕ) → firstOf f n ≡ firstRefusal (firstOf f n) passed
       last f zero = refl
       last f (suc n) = cases (eqb (firstOf f n .number) 0) refl
         where
-          at : (t : Bool) → eqb (f n) 0 ≡ t → cond t passed (refusal (f n) n) ≡ orElse (cond t passed (refusal (f n) n)) passed
+          at : (t : Bool) → eqb (f n) 0 ≡ t → cond t passed (refusal (f n) n) ≡ firstRefusal (cond t passed (refusal (f n) n)) passed
           at true e = refl
           at false e = rw e
 
-          cases : (t : Bool) → eqb (firstOf f n .number) 0 ≡ t → cond t (refusalAt n (f n)) (firstOf f n) ≡ orElse (cond t (refusalAt n (f n)) (firstOf f n)) passed
+          cases : (t : Bool) → eqb (firstOf f n .number) 0 ≡ t → cond t (refusalAt n (f n)) (firstOf f n) ≡ firstRefusal (cond t (refusalAt n (f n)) (firstOf f n)) passed
           cases true e = at (eqb (f n) 0) refl
           cases false e = rw e
 
 -- two tests of which each, where it passes somewhere, makes the other pass somewhere
-pub some-same : (f g : ℕ → Bool) (n m : ℕ) → ((i : ℕ) → i < n → f i ≡ true → someBelow g m ≡ true)
-    → ((j : ℕ) → j < m → g j ≡ true → someBelow f n ≡ true) → someBelow f n ≡ someBelow g m
+pub some-same : (f g : ℕ → Bool) (n m : ℕ) → ((i : ℕ) → i < n → f i ≡ true → anyBelow g m ≡ true)
+    → ((j : ℕ) → j < m → g j ≡ true → anyBelow f n ≡ true) → anyBelow f n ≡ anyBelow g m
 some-same f g n m to from =
-    cases (someBelow f n) (someBelow g m) (some-implies f n (someBelow g m) to) (some-implies g m (someBelow f n) from)
+    cases (anyBelow f n) (anyBelow g m) (some-implies f n (anyBelow g m) to) (some-implies g m (anyBelow f n) from)
   where
     cases : (a b : Bool) → (a ≡ true → b ≡ true) → (b ≡ true → a ≡ true) → a ≡ b
     cases true b p q = sym (p refl)

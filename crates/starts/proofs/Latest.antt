@@ -15,8 +15,8 @@ use Rattle.job.specs.Parts.{actions, lastMoment, duration}
 use Rattle.job.specs.WellFormed.{WellFormed}
 use Rattle.facts.specs.Actions.{finish, inHand}
 use Rattle.starts.specs.Rows.{restarts, inHandAlready, together, clashing, clashes}
-use Rattle.words.specs.Scan.{someBelow}
-use Rattle.starts.specs.Latest.{Worded, Unfinished, Latest, clashesAfter}
+use Rattle.words.specs.Scan.{anyBelow}
+use Rattle.starts.specs.Latest.{StartsFormed, Unfinished, Latest, clashesAfter}
 use Rattle.starts.proofs.Below.{some-none, some-hit, some-same}
 use Rattle.starts.proofs.Words.{Right, right-word, moments-ascend, moments-differ}
 
@@ -48,7 +48,7 @@ module _ (job : List ℕ) (s s' : ℕ) (lasts : 0 < duration job (startAction s'
           let c = both-true (leb (startMoment s') t) (ltb t (finish job s')) (a .1) in
           omega (arith, ltb-true t (finish job s) (b .1), leb-true (startMoment s') t (c .0))
 
-      cases : (b : Bool) → ltb (startMoment s') (finish job s) ≡ b → someBelow inBoth (lastMoment job + 1) ≡ b
+      cases : (b : Bool) → ltb (startMoment s') (finish job s) ≡ b → anyBelow inBoth (lastMoment job + 1) ≡ b
       cases true e =
           let u = startMoment s' in
           some-hit inBoth (lastMoment job + 1) u (omega arith)
@@ -57,7 +57,7 @@ module _ (job : List ℕ) (s s' : ℕ) (lasts : 0 < duration job (startAction s'
           some-none inBoth (lastMoment job + 1)
           (λ t l. is-false (inBoth t) (apart (ltb-false (startMoment s') (finish job s) e) t))
 
-module _ (job starts : List ℕ) (words : (i : ℕ) → getD starts i 0 < 2 ^ 32) (right : Worded job starts)
+module _ (job starts : List ℕ) (words : (i : ℕ) → getD starts i 0 < 2 ^ 32) (right : StartsFormed job starts)
     (i : ℕ) (l : i < length starts) (table : List ℕ) (latest : Latest job starts i table) where
   -- with one more start
   pub latest-more : Latest job starts (i + 1) (set table (startAction (getD starts i 0)) (finish job (getD starts i 0)))
@@ -124,7 +124,7 @@ module _ (job starts : List ℕ) (words : (i : ℕ) → getD starts i 0 < 2 ^ 32
           let same : startAction (getD starts j 0) ≡ startAction s = eqb-true _ _ (a .0) in
           omega (arith, latest .covers j m, ap (λ (a : ℕ). getD table a 0) same, ltb-true (startMoment s) (finish job (getD starts j 0)) (b .1))
 
-      cases : (b : Bool) → ltb (startMoment s) (getD table (startAction s) 0) ≡ b → someBelow test i ≡ b
+      cases : (b : Bool) → ltb (startMoment s) (getD table (startAction s) 0) ≡ b → anyBelow test i ≡ b
       cases true e =
           let w = latest .comes (startAction s) (startMoment s) (ltb-true _ _ e) in
           some-hit test i (w .place) (w .before) (hit w)
@@ -133,7 +133,7 @@ module _ (job starts : List ℕ) (words : (i : ℕ) → getD starts i 0 < 2 ^ 32
   -- row 9: the latest start of some action that clashes has not finished
   pub clash-is : WellFormed job
       → clashes job starts i
-      ≡ someBelow (clashesAfter job table (startAction (getD starts i 0)) (startMoment (getD starts i 0))) (actions job)
+      ≡ anyBelow (clashesAfter job table (startAction (getD starts i 0)) (startMoment (getD starts i 0))) (actions job)
   unfolding clashes
   clash-is formed = some-same test (clashesAfter job table b u) i (actions job) to from
     where
@@ -151,14 +151,14 @@ module _ (job starts : List ℕ) (words : (i : ℕ) → getD starts i 0 < 2 ^ 32
           let r = right-word right i l in
           together-is job (getD starts j 0) (getD starts i 0) (formed .lasting b (r .action)) (moments-ascend job starts words right i j m l) (r .moment)
 
-      to : (j : ℕ) → j < i → test j ≡ true → someBelow (clashesAfter job table b u) (actions job) ≡ true
+      to : (j : ℕ) → j < i → test j ≡ true → anyBelow (clashesAfter job table b u) (actions job) ≡ true
       to j m e =
           let p = both-true (together job (getD starts j 0) (getD starts i 0)) _ e in
           let after = ltb-true u (finish job (getD starts j 0)) (sym (joint j m) ∙ p .0) in
           some-hit (clashesAfter job table b u) (actions job) (startAction (getD starts j 0)) (right-word right j (omega arith) .action)
           (rw (lt-ltb u (getD table (startAction (getD starts j 0)) 0) (omega (arith, latest .covers j m)), p .1))
 
-      from : (a : ℕ) → a < actions job → clashesAfter job table b u a ≡ true → someBelow test i ≡ true
+      from : (a : ℕ) → a < actions job → clashesAfter job table b u a ≡ true → anyBelow test i ≡ true
       from a m e =
           let p = both-true (ltb u (getD table a 0)) _ e in
           let w = latest .comes a u (ltb-true u (getD table a 0) (p .0)) in

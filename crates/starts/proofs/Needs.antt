@@ -9,9 +9,9 @@ use lib.Dec.{eqb}
 use lib.ListN.{length, getD, drop, length-drop}
 use lib.Seq.{getD-drop, drop-drop}
 use Rattle.words.specs.Fields.{ofKind, kind, fails, holds, fluentOf, roleOf}
-use Rattle.words.specs.Scan.{someWord, leading}
+use Rattle.words.specs.Scan.{any, takeWhile}
 use Rattle.job.specs.Parts.{headWord, fluents, actions, lawsOf}
-use Rattle.job.specs.WellFormed.{WellFormed, Placed}
+use Rattle.job.specs.WellFormed.{WellFormed, Indexed}
 use Rattle.facts.specs.Values.{valueAt}
 use Rattle.facts.specs.Tables.{StateAt}
 use Rattle.starts.specs.Rows.{unmet}
@@ -19,23 +19,23 @@ use Rattle.starts.specs.Rows.{unmet}
 -- two tests that agree on the leading words
 any-agree : (lead test test' : ℕ → Bool) (ws : List ℕ)
     → ((i : ℕ) → i < length ws → lead (getD ws i 0) ≡ true → test (getD ws i 0) ≡ test' (getD ws i 0))
-    → someWord test (leading lead ws) ≡ someWord test' (leading lead ws)
-unfolding someWord leading
+    → any test (takeWhile lead ws) ≡ any test' (takeWhile lead ws)
+unfolding any takeWhile
 any-agree lead test test' [] h = refl
 any-agree lead test test' (w ∷ ws) h = cases (lead w) refl (any-agree lead test test' ws (λ i l e. h (suc i) (omega arith) e))
   where
-    cases : (b : Bool) → lead w ≡ b → someWord test (leading lead ws) ≡ someWord test' (leading lead ws)
-        → someWord test (cond b (w ∷ leading lead ws) []) ≡ someWord test' (cond b (w ∷ leading lead ws) [])
+    cases : (b : Bool) → lead w ≡ b → any test (takeWhile lead ws) ≡ any test' (takeWhile lead ws)
+        → any test (cond b (w ∷ takeWhile lead ws) []) ≡ any test' (cond b (w ∷ takeWhile lead ws) [])
     cases true e ih = rw (h 0 (omega arith) e, ih)
     cases false e ih = refl
 
-module _ {job places : List ℕ} (formed : WellFormed job) (placed : Placed job 3 places) (starts state : List ℕ) (t a : ℕ)
+module _ {job places : List ℕ} (formed : WellFormed job) (placed : Indexed job 3 places) (starts state : List ℕ) (t a : ℕ)
     (h : a < actions job) (at : StateAt job starts t state) where
   pub place-inside : getD places a 0 < length job
   place-inside = placed .inside a (omega (arith, formed .counted))
 
-  pub needs-state : someWord (unmet (headWord job) (λ f. getD state f 0)) (leading (ofKind 4) (drop 1 (drop (getD places a 0) job)))
-      ≡ someWord (unmet (headWord job) (valueAt job starts t)) (lawsOf job a)
+  pub needs-state : any (unmet (headWord job) (λ f. getD state f 0)) (takeWhile (ofKind 4) (drop 1 (drop (getD places a 0) job)))
+      ≡ any (unmet (headWord job) (valueAt job starts t)) (lawsOf job a)
   unfolding lawsOf
   needs-state =
       rw (placed .words a (omega (arith, formed .counted)))

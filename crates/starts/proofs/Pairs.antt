@@ -6,7 +6,7 @@ use native.Mathlib.Decide.{decLt}
 use native.Mathlib.Omega.{arith}
 use lib.ListN.{length, getD, set, length-set}
 use lib.Seq.{getD-set-same, getD-set-other}
-use Rattle.words.specs.Tests.{one}
+use Rattle.words.specs.Tests.{indicator}
 use Rattle.job.specs.Parts.{actions}
 use Rattle.job.specs.WellFormed.{WellFormed}
 use Rattle.starts.specs.Rows.{clash}
@@ -14,7 +14,7 @@ use Rattle.starts.specs.Latest.{Clashes}
 
 -- an entry that is right, if it is one of the job's pairs
 abbrev pub EntryIs : List ℕ → ℕ → ℕ → Type 0
-EntryIs job k v = k / 64 < actions job → k % 64 < actions job → v ≡ one (clash job (k / 64) (k % 64))
+EntryIs job k v = k / 64 < actions job → k % 64 < actions job → v ≡ indicator (clash job (k / 64) (k % 64))
 
 -- the entries below k are
 pub record Entered (job : List ℕ) (k : ℕ) (table : List ℕ) : Type 0 where
@@ -37,7 +37,7 @@ module _ (job : List ℕ) where
   pub entered-all : WellFormed job → (k : ℕ) (table : List ℕ) → 4096 ≤ k → Entered job k table → Clashes job table
   entered-all formed k table l h = record { entry = λ a b m n. at a b (omega (arith, formed .few-actions)) (omega (arith, formed .few-actions)) m n }
     where
-      at : (a b : ℕ) → a < 64 → b < 64 → a < actions job → b < actions job → getD table (a * 64 + b) 0 ≡ one (clash job a b)
+      at : (a b : ℕ) → a < 64 → b < 64 → a < actions job → b < actions job → getD table (a * 64 + b) 0 ≡ indicator (clash job a b)
       at a b s t m n =
           let x : (a * 64 + b) / 64 ≡ a = omega arith in
           let y : (a * 64 + b) % 64 ≡ b = omega arith in

@@ -17,7 +17,7 @@ use Rattle.facts.proofs.Moments.{finish-tabled}
 use Rattle.answers.specs.Rows.{firstOf}
 use Rattle.answers.proofs.Rows.{or-none}
 use Rattle.starts.specs.Rows.{isStart, ascends, wrongWord, numbered, rowsRefusal, startsRefusal}
-use Rattle.starts.specs.Latest.{Worded}
+use Rattle.starts.specs.Latest.{StartsFormed}
 use Rattle.starts.proofs.Below.{row-fits-none}
 
 -- what a right word says
@@ -52,22 +52,22 @@ module _ (job starts : List ℕ) (i : ℕ) (h : wrongWord job starts i ≡ false
       ltb-true _ _ (rw e at (parts .1))
 
 -- once row 6 gives no number
-pub worded : (job starts : List ℕ) → firstOf (numbered 6 (wrongWord job starts)) (length starts) .number ≡ 0 → Worded job starts
+pub worded : (job starts : List ℕ) → firstOf (numbered 6 (wrongWord job starts)) (length starts) .number ≡ 0 → StartsFormed job starts
 worded job starts e = record { right = row-fits-none (wrongWord job starts) 6 (length starts) (omega arith) e }
 
 -- once no row fits
-pub starts-passed : (job starts : List ℕ) → startsRefusal job starts .number ≡ 0 → Worded job starts
+pub starts-passed : (job starts : List ℕ) → startsRefusal job starts .number ≡ 0 → StartsFormed job starts
 unfolding startsRefusal rowsRefusal
 starts-passed job starts e = worded job starts (or-none (firstOf (numbered 6 (wrongWord job starts)) (length starts)) _ e .0)
 
-pub right-word : {job starts : List ℕ} → Worded job starts → (i : ℕ) → i < length starts → Right job (getD starts i 0)
+pub right-word : {job starts : List ℕ} → StartsFormed job starts → (i : ℕ) → i < length starts → Right job (getD starts i 0)
 right-word h i l = right-at _ _ i (h .right i l)
 
-pub named : {job starts : List ℕ} → Worded job starts → Named job starts
+pub named : {job starts : List ℕ} → StartsFormed job starts → Named job starts
 named h = record { action = λ i l. right-word h i l .action }
 
 -- a right start's finish, by the table of durations
-pub finish-is : {job durations starts : List ℕ} → Durations job durations → Worded job starts → (i : ℕ) → i < length starts
+pub finish-is : {job durations starts : List ℕ} → Durations job durations → StartsFormed job starts → (i : ℕ) → i < length starts
     → startMoment (getD starts i 0) + getD durations (startAction (getD starts i 0)) 0 ≡ finish job (getD starts i 0)
 finish-is d h i l = finish-tabled d _ (right-word h i l .action)
 
@@ -97,7 +97,7 @@ module _ (job starts : List ℕ) (words : (i : ℕ) → getD starts i 0 < 2 ^ 32
       cases (yes l) = absurd (omega (arith, rises n h 4096 l, word-is (right-at job starts 4096 (h 4096 l)) (words 4096)))
       cases (no l) = omega arith
 
-  module _ (h : Worded job starts) where
+  module _ (h : StartsFormed job starts) where
     -- the words ascend
     words-ascend : (i j : ℕ) → j < i → i < length starts → getD starts j 0 < getD starts i 0
     words-ascend zero j l m = absurd (omega arith)

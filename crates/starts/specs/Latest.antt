@@ -5,14 +5,14 @@ use mathlib.Core.Path.{_≡_}
 use Prim.Native.Nat.{ℕ, _+_, _*_, _<_, _≤_}
 use lib.Dec.{ltb}
 use lib.ListN.{getD, length}
-use Rattle.words.specs.Tests.{one}
+use Rattle.words.specs.Tests.{indicator}
 use Rattle.words.specs.Fields.{startAction}
 use Rattle.job.specs.Parts.{actions}
 use Rattle.facts.specs.Actions.{finish}
 use Rattle.starts.specs.Rows.{wrongWord, clash}
 
 -- row 6 fits no word
-pub record Worded (job starts : List ℕ) : Type 0 where
+pub record StartsFormed (job starts : List ℕ) : Type 0 where
   pub right : (i : ℕ) → i < length starts → wrongWord job starts i ≡ false
 
 -- some start of action a that stands before position i finishes after moment u
@@ -30,7 +30,7 @@ pub record Latest (job starts : List ℕ) (i : ℕ) (table : List ℕ) : Type 0 
 
 -- entry a * 64 + b is 1 where actions a and b clash, and else 0
 pub record Clashes (job table : List ℕ) : Type 0 where
-  pub entry : (a b : ℕ) → a < actions job → b < actions job → getD table (a * 64 + b) 0 ≡ one (clash job a b)
+  pub entry : (a b : ℕ) → a < actions job → b < actions job → getD table (a * 64 + b) 0 ≡ indicator (clash job a b)
 
 -- action a, with its latest finish in the table, is in hand after moment u and clashes with action b
 abbrev pub clashesAfter : List ℕ → List ℕ → ℕ → ℕ → ℕ → Bool

@@ -5,9 +5,9 @@ use Prim.Native.Nat.{ℕ, zero, suc, _+_, _-_}
 use lib.Dec.{eqb, leb, ltb}
 use lib.ListN.{getD, length}
 use Rattle.words.specs.Fields.{kind, spare, fails, holds, fluentOf, roleOf, startMoment, startAction}
-use Rattle.words.specs.Scan.{someWord, someBelow}
+use Rattle.words.specs.Scan.{any, anyBelow}
 use Rattle.answers.specs.declared.Refusal.{Refusal}
-use Rattle.answers.specs.Rows.{passed, orElse, firstOf}
+use Rattle.answers.specs.Rows.{passed, firstRefusal, firstOf}
 use Rattle.job.specs.Parts.{headWord, fluents, actions, lastMoment, lawsOf}
 use Rattle.facts.specs.Actions.{effect, finish, inHand}
 use Rattle.facts.specs.Values.{valueAt}
@@ -35,7 +35,7 @@ restarts job earlier s =
     && (ltb (startMoment earlier) (startMoment s) && ltb (startMoment s) (finish job earlier))
 
 unfoldable pub inHandAlready : List ℕ → List ℕ → ℕ → Bool
-inHandAlready job starts i = someBelow (λ j. restarts job (getD starts j 0) (getD starts i 0)) i
+inHandAlready job starts i = anyBelow (λ j. restarts job (getD starts j 0) (getD starts i 0)) i
 
 -- row 9: clashes with the start of an earlier word, both in hand at some moment. Two actions clash (have contradictory effects) if one makes
 -- true what the other makes false.
@@ -44,16 +44,16 @@ opposed job a b f =
     (eqb (effect job a f) holds && eqb (effect job b f) fails) || (eqb (effect job a f) fails && eqb (effect job b f) holds)
 
 unfoldable pub clash : List ℕ → ℕ → ℕ → Bool
-clash job a b = someBelow (opposed job a b) (fluents job)
+clash job a b = anyBelow (opposed job a b) (fluents job)
 
 unfoldable pub together : List ℕ → ℕ → ℕ → Bool
-together job s s' = someBelow (λ t. inHand job t s && inHand job t s') (lastMoment job + 1)
+together job s s' = anyBelow (λ t. inHand job t s && inHand job t s') (lastMoment job + 1)
 
 abbrev pub clashing : List ℕ → ℕ → ℕ → Bool
 clashing job earlier s = together job earlier s && clash job (startAction earlier) (startAction s)
 
 unfoldable pub clashes : List ℕ → List ℕ → ℕ → Bool
-clashes job starts i = someBelow (λ j. clashing job (getD starts j 0) (getD starts i 0)) i
+clashes job starts i = anyBelow (λ j. clashing job (getD starts j 0) (getD starts i 0)) i
 
 -- row 10: needs not known, in the state of its own moment
 abbrev pub unmet : ℕ → (ℕ → ℕ) → ℕ → Bool
@@ -63,7 +63,7 @@ unmet head value w =
 
 unfoldable pub needsUnmet : List ℕ → List ℕ → ℕ → Bool
 needsUnmet job starts i =
-    someWord (unmet (headWord job) (valueAt job starts (startMoment (getD starts i 0)))) (lawsOf job (startAction (getD starts i 0)))
+    any (unmet (headWord job) (valueAt job starts (startMoment (getD starts i 0)))) (lawsOf job (startAction (getD starts i 0)))
 
 -- all rows, each with its number
 abbrev pub startRows : List ℕ → List ℕ → List (ℕ × (ℕ → Bool))
@@ -82,7 +82,7 @@ numbered number test i = cond (test i) number 0
 -- the first row that fits one of n words, at the first such word
 unfoldable pub rowsRefusal : List (ℕ × (ℕ → Bool)) → ℕ → Refusal
 rowsRefusal [] n = passed
-rowsRefusal (row ∷ rest) n = orElse (firstOf (numbered (row .0) (row .1)) n) (rowsRefusal rest n)
+rowsRefusal (row ∷ rest) n = firstRefusal (firstOf (numbered (row .0) (row .1)) n) (rowsRefusal rest n)
 
 unfoldable pub startsRefusal : List ℕ → List ℕ → Refusal
 startsRefusal job starts = rowsRefusal (startRows job starts) (length starts)

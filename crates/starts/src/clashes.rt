@@ -2,14 +2,14 @@
 ghost use mathlib.Core.Path.{_≡_};
 ghost use Prim.Native.Nat.{_+_, _*_, _/_, _%_, _<_};
 ghost use lib.ListN.{length};
-ghost use Rattle.words.specs.Tests.{one};
-ghost use Rattle.words.specs.Scan.{someBelow};
+ghost use Rattle.words.specs.Tests.{indicator};
+ghost use Rattle.words.specs.Scan.{anyBelow};
 ghost use Rattle.answers.specs.Rows.{firstOf};
 ghost use Rattle.job.specs.Parts.{actions};
 ghost use Rattle.job.specs.WellFormed.{WellFormed};
 ghost use Rattle.facts.specs.Tables.{Durations, Effects};
 ghost use Rattle.starts.specs.Rows.{clash, clashes, numbered};
-ghost use Rattle.starts.specs.Latest.{Worded, Clashes, clashesAfter};
+ghost use Rattle.starts.specs.Latest.{StartsFormed, Clashes, clashesAfter};
 use crate::times::finish_of;
 use answers::Refusal;
 use words::*;
@@ -34,7 +34,7 @@ fn has_clash(job: &[u32], effects: &[u8; 4096], a: usize, b: usize) -> bool
 
 fn clash_entry(job: &[u32], effects: &[u8; 4096], k: usize) -> u8
     requires { ⌜ WellFormed (now job) × Effects (now job) (now effects) ⌝ }
-    ensures { λ r. ⌜ (k / 64 < actions (now (job .entry)) → k % 64 < actions (now (job .entry)) → r ≡ one (clash (now (job .entry)) (k / 64) (k % 64))) ⌝ }
+    ensures { λ r. ⌜ (k / 64 < actions (now (job .entry)) → k % 64 < actions (now (job .entry)) → r ≡ indicator (clash (now (job .entry)) (k / 64) (k % 64))) ⌝ }
 {
     let n = actions_of(job[0]);
     let a = k / 64;
@@ -64,7 +64,7 @@ fn clash_table(job: &[u32], effects: &[u8; 4096]) -> [u8; 4096]
 // Whether some action that clashes with `b` has its latest finish after moment `u`.
 fn clashes_after(job: &[u32], latest: &[usize; 64], table: &[u8; 4096], b: usize, u: usize) -> bool
     requires { ⌜ WellFormed (now job) × Clashes (now job) (now table) × (b < actions (now job)) ⌝ }
-    ensures { λ r. ⌜ r ≡ someBelow (clashesAfter (now (job .entry)) (now (latest .entry)) b u) (actions (now (job .entry))) ⌝ }
+    ensures { λ r. ⌜ r ≡ anyBelow (clashesAfter (now (job .entry)) (now (latest .entry)) b u) (actions (now (job .entry))) ⌝ }
 {
     let n = actions_of(job[0]);
     let mut a = 0;
@@ -83,7 +83,7 @@ pub fn first_clash(
     effects: &[u8; 4096],
     starts: &[u32],
 ) -> Refusal
-    requires { ⌜ WellFormed (now job) × Durations (now job) (now durations) × Effects (now job) (now effects) × Worded (now job) (now starts) ⌝ }
+    requires { ⌜ WellFormed (now job) × Durations (now job) (now durations) × Effects (now job) (now effects) × StartsFormed (now job) (now starts) ⌝ }
     ensures { λ r. ⌜ r ≡ firstOf (numbered 9 (clashes (now (job .entry)) (now (starts .entry)))) (length (now (starts .entry))) ⌝ }
 {
     let table = clash_table(job, effects);

@@ -1,6 +1,6 @@
 // The rows on starts, 6 to 10, of a well-formed job. Each row's function answers its number at the first word that it fits.
 ghost use mathlib.Core.Path.{_≡_};
-ghost use Rattle.job.specs.WellFormed.{WellFormed, Placed};
+ghost use Rattle.job.specs.WellFormed.{WellFormed, Indexed};
 ghost use Rattle.facts.specs.Tables.{Durations, Effects};
 ghost use Rattle.starts.specs.Rows.{startsRefusal};
 
@@ -24,7 +24,7 @@ pub fn check_starts(
     effects: &[u8; 4096],
     starts: &[u32],
 ) -> Refusal
-    requires { ⌜ WellFormed (now job) × Placed (now job) 3 (now places) × Durations (now job) (now durations) × Effects (now job) (now effects) ⌝ }
+    requires { ⌜ WellFormed (now job) × Indexed (now job) 3 (now places) × Durations (now job) (now durations) × Effects (now job) (now effects) ⌝ }
     ensures { λ r. ⌜ r ≡ startsRefusal (now (job .entry)) (now (starts .entry)) ⌝ }
 {
     let wrong = wrong_word(job, starts);

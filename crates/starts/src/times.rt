@@ -7,7 +7,7 @@ ghost use Rattle.answers.specs.Rows.{firstOf};
 ghost use Rattle.job.specs.WellFormed.{WellFormed};
 ghost use Rattle.facts.specs.Tables.{Durations};
 ghost use Rattle.starts.specs.Rows.{endsLate, inHandAlready, numbered};
-ghost use Rattle.starts.specs.Latest.{Worded};
+ghost use Rattle.starts.specs.Latest.{StartsFormed};
 use answers::Refusal;
 use words::*;
 
@@ -21,7 +21,7 @@ pub fn finish_of(durations: &[usize; 64], s: u32) -> usize
 
 // Row 7.
 pub fn late_end(job: &[u32], durations: &[usize; 64], starts: &[u32]) -> Refusal
-    requires { ⌜ WellFormed (now job) × Durations (now job) (now durations) × Worded (now job) (now starts) ⌝ }
+    requires { ⌜ WellFormed (now job) × Durations (now job) (now durations) × StartsFormed (now job) (now starts) ⌝ }
     ensures { λ r. ⌜ r ≡ firstOf (numbered 7 (endsLate (now (job .entry)) (now (starts .entry)))) (length (now (starts .entry))) ⌝ }
 {
     let last = last_of(job[0]);
@@ -43,7 +43,7 @@ pub fn late_end(job: &[u32], durations: &[usize; 64], starts: &[u32]) -> Refusal
 
 // Row 8. The table has the latest finish of each action's starts so far.
 pub fn restart(job: &[u32], durations: &[usize; 64], starts: &[u32]) -> Refusal
-    requires { ⌜ WellFormed (now job) × Durations (now job) (now durations) × Worded (now job) (now starts) ⌝ }
+    requires { ⌜ WellFormed (now job) × Durations (now job) (now durations) × StartsFormed (now job) (now starts) ⌝ }
     ensures { λ r. ⌜ r ≡ firstOf (numbered 8 (inHandAlready (now (job .entry)) (now (starts .entry)))) (length (now (starts .entry))) ⌝ }
 {
     let mut latest = [0usize; 64];

@@ -3,13 +3,13 @@ ghost use mathlib.Core.Path.{_≡_};
 ghost use Prim.Native.Nat.{_+_, _<_, _≤_};
 ghost use lib.ListN.{length, getD, drop};
 ghost use Rattle.words.specs.Fields.{ofKind};
-ghost use Rattle.words.specs.Scan.{someWord, leading};
+ghost use Rattle.words.specs.Scan.{any, takeWhile};
 ghost use Rattle.answers.specs.Rows.{firstOf};
 ghost use Rattle.job.specs.Parts.{headWord};
-ghost use Rattle.job.specs.WellFormed.{WellFormed, Placed};
+ghost use Rattle.job.specs.WellFormed.{WellFormed, Indexed};
 ghost use Rattle.facts.specs.Tables.{Durations, Effects, Named, StateAt};
 ghost use Rattle.starts.specs.Rows.{unmet, needsUnmet, numbered};
-ghost use Rattle.starts.specs.Latest.{Worded};
+ghost use Rattle.starts.specs.Latest.{StartsFormed};
 use answers::Refusal;
 use facts::initial_state;
 use facts::step;
@@ -26,7 +26,7 @@ fn is_unmet(head: u32, state: &[u8; 64], w: u32) -> bool
 
 fn has_unmet(job: &[u32], at: usize, state: &[u8; 64]) -> bool
     requires { ⌜ at < length (now job) ⌝ }
-    ensures { λ r. ⌜ r ≡ someWord (unmet (headWord (now (job .entry))) (λ f. getD (now (state .entry)) f 0)) (leading (ofKind 4) (drop 1 (drop at (now (job .entry))))) ⌝ }
+    ensures { λ r. ⌜ r ≡ any (unmet (headWord (now (job .entry))) (λ f. getD (now (state .entry)) f 0)) (takeWhile (ofKind 4) (drop 1 (drop at (now (job .entry))))) ⌝ }
 {
     let head = job[0];
     let mut i = at + 1;
@@ -71,8 +71,8 @@ pub fn unmet_need(
     effects: &[u8; 4096],
     starts: &[u32],
 ) -> Refusal
-    requires { ⌜ WellFormed (now job) × Placed (now job) 3 (now places) × Durations (now job) (now durations)
-        × Effects (now job) (now effects) × Worded (now job) (now starts) ⌝ }
+    requires { ⌜ WellFormed (now job) × Indexed (now job) 3 (now places) × Durations (now job) (now durations)
+        × Effects (now job) (now effects) × StartsFormed (now job) (now starts) ⌝ }
     ensures { λ r. ⌜ r ≡ firstOf (numbered 10 (needsUnmet (now (job .entry)) (now (starts .entry)))) (length (now (starts .entry))) ⌝ }
 {
     let mut state = initial_state(job);

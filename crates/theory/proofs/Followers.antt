@@ -6,29 +6,29 @@ use native.Mathlib.Omega.{arith}
 use borrow.Author.Count.{below-more}
 use lib.ListN.{length, getD, drop, set, replicate, length-drop, length-set}
 use lib.Seq.{drop-drop, getD-set-same, getD-set-other}
-use Rattle.words.specs.Scan.{leading, beyond}
-use Rattle.words.proofs.Scan.{beyond-drop, leading-fits}
+use Rattle.words.specs.Scan.{takeWhile, dropWhile}
+use Rattle.words.proofs.Scan.{dropWhile-drop, takeWhile-fits}
 use Rattle.words.specs.Fields.{ofKind}
 use Rattle.job.specs.Parts.{total, nodeCount, memberWords, conditionWords}
-use Rattle.job.specs.WellFormed.{Placed}
+use Rattle.job.specs.WellFormed.{Indexed}
 
-module _ {job places : List ℕ} (placed : Placed job 6 places) (p : ℕ) (h : p < nodeCount job) where
-  pub members-at : memberWords job p ≡ leading (ofKind 7) (drop (getD places p 0 + 1) job)
+module _ {job places : List ℕ} (placed : Indexed job 6 places) (p : ℕ) (h : p < nodeCount job) where
+  pub members-at : memberWords job p ≡ takeWhile (ofKind 7) (drop (getD places p 0 + 1) job)
   unfolding memberWords
   members-at = rw (placed .words p h, drop-drop)
 
-  pub conditions-at : conditionWords job p ≡ leading (ofKind 8) (drop (getD places p 0 + 1 + length (memberWords job p)) job)
+  pub conditions-at : conditionWords job p ≡ takeWhile (ofKind 8) (drop (getD places p 0 + 1 + length (memberWords job p)) job)
   unfolding conditionWords
-  conditions-at = rw (placed .words p h, drop-drop, beyond-drop (ofKind 7), drop-drop, members-at)
+  conditions-at = rw (placed .words p h, drop-drop, dropWhile-drop (ofKind 7), drop-drop, members-at)
 
   -- they stand inside the job
   pub members-fit : getD places p 0 + 1 + length (memberWords job p) ≤ length job
-  members-fit = rw members-at (omega (arith, placed .inside p h, length-drop (getD places p 0 + 1) job, leading-fits (ofKind 7) (drop (getD places p 0 + 1) job)))
+  members-fit = rw members-at (omega (arith, placed .inside p h, length-drop (getD places p 0 + 1) job, takeWhile-fits (ofKind 7) (drop (getD places p 0 + 1) job)))
 
   pub conditions-fit : getD places p 0 + 1 + length (memberWords job p) + length (conditionWords job p) ≤ length job
   conditions-fit =
       let s = getD places p 0 + 1 + length (memberWords job p) in
-      rw conditions-at (omega (arith, members-fit, length-drop s job, leading-fits (ofKind 8) (drop s job)))
+      rw conditions-at (omega (arith, members-fit, length-drop s job, takeWhile-fits (ofKind 8) (drop s job)))
 
 -- the first p entries of an array are those of f
 pub record Entries (f : ℕ → ℕ) (p : ℕ) (array : List ℕ) : Type 0 where

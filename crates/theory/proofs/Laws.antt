@@ -12,15 +12,15 @@ use lib.ListN.{length, getD, take, drop, drop-of-length-le}
 use lib.Seq.{sets, sets-eq, take-at, take-length}
 use Rattle.words.proofs.Scan.{drop-next}
 use Rattle.answers.specs.declared.Refusal.{Refusal}
-use Rattle.answers.specs.Rows.{refusal, passed, orElse}
+use Rattle.answers.specs.Rows.{refusal, passed, firstRefusal}
 use Rattle.answers.specs.Packed.{answerOf}
 use Rattle.theory.specs.Answers.{factsRefusal}
 
 -- a row that gives a number is the answer, and one that gives none leaves it to the next
-pub or-refused : (a b : Refusal) → (a .number ≡ 0 → ⊥) → a ≡ orElse a b
+pub or-refused : (a b : Refusal) → (a .number ≡ 0 → ⊥) → a ≡ firstRefusal a b
 or-refused a b h = rw (ne-eqb (a .number) 0 h)
 
-pub or-passed : (a b : Refusal) → a .number ≡ 0 → b ≡ orElse a b
+pub or-passed : (a b : Refusal) → a .number ≡ 0 → b ≡ firstRefusal a b
 or-passed a b h = rw (eq-eqb (a .number) 0 h)
 
 -- a refusal has no length and no count

@@ -8,7 +8,7 @@ use Rattle.answers.specs.declared.Refusal.{Refusal}
 use Rattle.job.specs.declared.Checked.{Checked}
 use Rattle.job.specs.Refusal.{jobRefusal}
 use Rattle.job.specs.Index.{checkedOf}
-use Rattle.job.specs.WellFormed.{WellFormed, Placed}
+use Rattle.job.specs.WellFormed.{WellFormed, Indexed}
 use Rattle.job.proofs.WellFormed.{well-formed}
 use Rattle.job.proofs.Where.{placed}
 
@@ -24,7 +24,7 @@ module _ (job : List ℕ) (r : Checked) (is : r ≡ checkedOf job) where
     pub checked-formed : WellFormed job
     checked-formed = well-formed job number-none
 
-    pub checked-placed : Placed job 3 (r .index .actions .position)
+    pub checked-placed : Indexed job 3 (r .index .actions .position)
     unfolding checkedOf
     checked-placed =
         rw (is, eq-eqb (jobRefusal job .number) 0 number-none)

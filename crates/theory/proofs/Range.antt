@@ -9,7 +9,7 @@ use lib.Dec.{eqb, ltb}
 use lib.ListN.{length, getD}
 use Rattle.answers.specs.declared.Refusal.{Refusal}
 use Rattle.answers.specs.declared.Answer.the-variants.{Accepted, Refused}
-use Rattle.answers.specs.Rows.{orElse}
+use Rattle.answers.specs.Rows.{firstRefusal}
 use Rattle.answers.specs.Packed.{answerOf, InRange}
 use Rattle.answers.proofs.Rows.{or-none}
 use Rattle.answers.proofs.Range.{Fitting, pick-fits, refusal-fits, passed-fits, or-fits, row-fits, answer-fits}
@@ -23,7 +23,7 @@ use Rattle.starts.proofs.Range.{starts-fit}
 use Rattle.theory.specs.Answers.{bufferRefusal, planRefusal, factsRefusal, checkRefusal, fillRefusal, checkAnswer, fillAnswer}
 
 -- a second row that fits only where it is reached
-next-fits : (a b : Refusal) → Fitting a → (a .number ≡ 0 → Fitting b) → Fitting (orElse a b)
+next-fits : (a b : Refusal) → Fitting a → (a .number ≡ 0 → Fitting b) → Fitting (firstRefusal a b)
 next-fits a b h l = cases (eqb (a .number) 0) refl
   where
     cases : (t : Bool) → eqb (a .number) 0 ≡ t → Fitting (cond t b a)

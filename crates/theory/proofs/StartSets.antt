@@ -12,15 +12,15 @@ use lib.Seq.{getD-set-same, getD-set-other}
 use Rattle.bitset.specs.Members.{has, Holds}
 use Rattle.bitset.proofs.Laws.{has-zero}
 use Rattle.words.specs.Fields.{startMoment, startAction}
-use Rattle.words.specs.Scan.{someWord}
+use Rattle.words.specs.Scan.{any}
 use Rattle.words.proofs.Scan.{drop-next, any-end}
-use Rattle.words.proofs.Choices.{same-or-not, either-or, eqb-swap}
+use Rattle.words.proofs.Choices.{same-or-not, or-swap, eqb-swap}
 use Rattle.theory.specs.Trajectory.{isStartOf}
 
 -- the sets are those of the starts from position i on
 pub record Started (starts : List ℕ) (i : ℕ) (sets : List ℕ) : Type 0 where
   pub long : length sets ≡ 64
-  pub start : (a t : ℕ) → a < 64 → has (getD sets a 0) t ≡ someWord (isStartOf a t) (drop i starts)
+  pub start : (a t : ℕ) → a < 64 → has (getD sets a 0) t ≡ any (isStartOf a t) (drop i starts)
 
 pub started-none : (starts : List ℕ) → Started starts (length starts) (replicate 64 0)
 started-none starts = record {
@@ -33,7 +33,7 @@ pub started-more : {starts : List ℕ} {i j : ℕ} {sets : List ℕ} {x u : ℕ}
     → x ≡ startAction (getD starts i 0) → u ≡ startMoment (getD starts i 0)
     → Holds single (λ t. eqb t u) → Holds sum (λ t. has (getD sets x 0) t || has single t) → x < 64
     → Started starts i (set sets x sum)
-unfolding someWord
+unfolding any
 started-more {starts} {i} {j} {sets} {x} {u} single sum m next l ex eu one joined small = record {
   long = rw length-set (m .long);
   start = λ a t h. rw (drop-next starts i l, ← next, ← (m .start a t h), ← ex, ← eu) (cases a t (same-or-not x a));
@@ -42,5 +42,5 @@ started-more {starts} {i} {j} {sets} {x} {u} single sum m next l ex eu one joine
     cases : (a t : ℕ) → (x ≡ a) ⊎ (x ≡ a → ⊥) → has (getD (set sets x sum) a 0) t ≡ ((eqb x a && eqb u t) || has (getD sets a 0) t)
     cases a t (inl e) =
         rw (← e, getD-set-same sets x sum 0 (omega (arith, m .long)), joined t, one t, eq-eqb x x refl, eqb-swap t u)
-        (either-or (has (getD sets x 0) t) (eqb u t))
+        (or-swap (has (getD sets x 0) t) (eqb u t))
     cases a t (inr n) = rw (getD-set-other sets x a sum 0 (λ z. n (sym z)), ne-eqb x a n)

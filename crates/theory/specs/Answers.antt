@@ -8,7 +8,7 @@ use lib.ListN.{length, take, drop}
 use Rattle.answers.specs.declared.Refusal.{Refusal}
 use Rattle.answers.specs.declared.Answer.{Answer}
 use Rattle.answers.specs.declared.Answer.the-variants.{Accepted, Refused}
-use Rattle.answers.specs.Rows.{refusal, passed, row, orElse}
+use Rattle.answers.specs.Rows.{refusal, passed, row, firstRefusal}
 use Rattle.answers.specs.Packed.{answerOf}
 use Rattle.job.specs.Refusal.{jobRefusal}
 use Rattle.facts.specs.Facts.{factsOf}
@@ -20,7 +20,7 @@ bufferRefusal room = row (ltb room 4096) 12 0
 
 -- rows 1 to 10
 unfoldable pub planRefusal : List ℕ → List ℕ → Refusal
-planRefusal job starts = orElse (jobRefusal job) (startsRefusal job starts)
+planRefusal job starts = firstRefusal (jobRefusal job) (startsRefusal job starts)
 
 -- row 11, on what is left of the two lists at position i: there they differ, or one of them ends
 unfoldable pub factsRefusal : List ℕ → List ℕ → ℕ → Refusal
@@ -31,10 +31,10 @@ factsRefusal (a ∷ xs) (b ∷ ys) i = cond (eqb a b) (factsRefusal xs ys (suc i
 
 -- check runs rows 1 to 11, fill rows 12 and 1 to 10
 unfoldable pub checkRefusal : List ℕ → List ℕ → List ℕ → Refusal
-checkRefusal job starts facts = orElse (planRefusal job starts) (factsRefusal facts (factsOf job starts) 0)
+checkRefusal job starts facts = firstRefusal (planRefusal job starts) (factsRefusal facts (factsOf job starts) 0)
 
 unfoldable pub fillRefusal : ℕ → List ℕ → List ℕ → Refusal
-fillRefusal room job starts = orElse (bufferRefusal room) (planRefusal job starts)
+fillRefusal room job starts = firstRefusal (bufferRefusal room) (planRefusal job starts)
 
 -- a plan passes where no row of check fits
 abbrev pub Passes : List ℕ → List ℕ → List ℕ → Type 0

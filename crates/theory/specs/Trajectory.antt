@@ -4,7 +4,7 @@ use mathlib.Core.Bool.{Bool, _&&_}
 use mathlib.Core.List.{List}
 use lib.Dec.{eqb}
 use Rattle.words.specs.Fields.{startMoment, startAction}
-use Rattle.words.specs.Scan.{someWord}
+use Rattle.words.specs.Scan.{any}
 use Rattle.promise.specs.Trajectory.{Trajectory}
 use Rattle.job.specs.Parts.{lastMoment, duration}
 use Rattle.facts.specs.Values.{valueAt}
@@ -17,7 +17,7 @@ isStartOf a t s = eqb (startAction s) a && eqb (startMoment s) t
 unfoldable pub trajectoryOf : List ℕ → List ℕ → Trajectory
 trajectoryOf job starts = record {
   last = lastMoment job;
-  starts = λ a t. someWord (isStartOf a t) starts;
+  starts = λ a t. any (isStartOf a t) starts;
   duration = duration job;
   value = formulaAt andTable orTable job (valueAt job starts);
 }

@@ -3,11 +3,11 @@ ghost use mathlib.Core.Path.{_≡_};
 ghost use Prim.Native.Nat.{ℕ, _<_};
 ghost use lib.ListN.{length, getD};
 ghost use Rattle.job.specs.Parts.{nodeCount, memberWords, conditionWords};
-ghost use Rattle.job.specs.WellFormed.{WellFormed, Placed};
+ghost use Rattle.job.specs.WellFormed.{WellFormed, Indexed};
 
 // The number of members of each node.
 pub fn member_counts(job: &[u32], nodes: &[usize; 64], count: usize) -> [usize; 64]
-    requires { ⌜ WellFormed (now job) × Placed (now job) 6 (now nodes) × (count ≡ nodeCount (now job)) ⌝ }
+    requires { ⌜ WellFormed (now job) × Indexed (now job) 6 (now nodes) × (count ≡ nodeCount (now job)) ⌝ }
     ensures { λ r. ⌜ ((p : ℕ) → p < nodeCount (now (job .entry)) → getD r p 0 ≡ length (memberWords (now (job .entry)) p)) ⌝ }
 {
     let mut sizes = [0usize; 64];
@@ -26,7 +26,7 @@ pub fn condition_counts(
     sizes: &[usize; 64],
     count: usize,
 ) -> [usize; 64]
-    requires { ⌜ WellFormed (now job) × Placed (now job) 6 (now nodes) × (count ≡ nodeCount (now job))
+    requires { ⌜ WellFormed (now job) × Indexed (now job) 6 (now nodes) × (count ≡ nodeCount (now job))
         × ((p : ℕ) → p < nodeCount (now job) → getD (now sizes) p 0 ≡ length (memberWords (now job) p)) ⌝ }
     ensures { λ r. ⌜ ((p : ℕ) → p < nodeCount (now (job .entry)) → getD r p 0 ≡ length (conditionWords (now (job .entry)) p)) ⌝ }
 {

@@ -10,7 +10,7 @@ use Rattle.job.specs.declared.Checked.{Checked}
 use Rattle.job.specs.Refusal.{jobRefusal}
 use Rattle.job.specs.Index.{placesUpto, checkedOf}
 use Rattle.job.specs.Parts.{total, nodeCount}
-use Rattle.job.specs.WellFormed.{WellFormed, Placed}
+use Rattle.job.specs.WellFormed.{WellFormed, Indexed}
 use Rattle.job.proofs.WellFormed.{well-formed}
 use Rattle.job.proofs.Where.{placed, positions-count}
 use Rattle.facts.specs.Tables.{Named}
@@ -33,15 +33,15 @@ module _ (job starts : List ℕ) (ok : planRefusal job starts .number ≡ 0) whe
   plan-named = named (starts-passed job starts (rows .1))
 
   module _ (r : Checked) (is : r ≡ checkedOf job) where
-    pub actions-placed : Placed job 3 (r .index .actions .position)
+    pub actions-placed : Indexed job 3 (r .index .actions .position)
     unfolding checkedOf
     actions-placed = rw (is, eq-eqb (jobRefusal job .number) 0 (rows .0)) (placed job 3 (omega (arith, plan-formed .counted, plan-formed .few-actions)))
 
-    pub formulas-placed : Placed job 5 (r .index .formulas .position)
+    pub formulas-placed : Indexed job 5 (r .index .formulas .position)
     unfolding checkedOf
     formulas-placed = rw (is, eq-eqb (jobRefusal job .number) 0 (rows .0)) (placed job 5 (plan-formed .few-formulas))
 
-    pub nodes-placed : Placed job 6 (r .index .nodes .position)
+    pub nodes-placed : Indexed job 6 (r .index .nodes .position)
     unfolding checkedOf
     nodes-placed = rw (is, eq-eqb (jobRefusal job .number) 0 (rows .0)) (placed job 6 (plan-formed .few-nodes))
 

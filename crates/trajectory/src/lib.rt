@@ -1,10 +1,10 @@
 // The procedure of a job and the trajectory of a plan that passed, as arrays for the reading layer.
 ghost use mathlib.Core.Path.{_≡_};
-ghost use Rattle.job.specs.WellFormed.{WellFormed, Placed};
+ghost use Rattle.job.specs.WellFormed.{WellFormed, Indexed};
 ghost use Rattle.job.specs.Parts.{nodeCount};
 ghost use Rattle.facts.specs.Tables.{Durations, Effects, Named};
 ghost use Rattle.theory.specs.Answers.{planRefusal};
-ghost use Rattle.trajectory.specs.Carried.{Carried};
+ghost use Rattle.trajectory.specs.Carried.{Represents};
 use facts::durations;
 use facts::effects;
 use formulas::standard_values;
@@ -36,9 +36,9 @@ fn world_by(
     durations: [usize; 64],
     effects: &[u8; 4096],
 ) -> World
-    requires { ⌜ WellFormed (now job) × Placed (now job) 5 formulas × Placed (now job) 6 nodes × (count ≡ nodeCount (now job)) ⌝ }
+    requires { ⌜ WellFormed (now job) × Indexed (now job) 5 formulas × Indexed (now job) 6 nodes × (count ≡ nodeCount (now job)) ⌝ }
     requires { ⌜ Durations (now job) durations × Effects (now job) (now effects) × Named (now job) (now starts) ⌝ }
-    ensures { λ r. ⌜ Carried (now (job .entry)) (now (starts .entry)) r ⌝ }
+    ensures { λ r. ⌜ Represents (now (job .entry)) (now (starts .entry)) r ⌝ }
 {
     let last = words::last_of(job[0]);
     let values = standard_values(job, &formulas, &durations, effects, starts);
@@ -60,7 +60,7 @@ fn world_by(
 // Of a plan that no row on jobs and starts refuses.
 pub fn world_of(job: &[u32], starts: &[u32]) -> World
     requires { ⌜ planRefusal (now job) (now starts) .number ≡ 0 ⌝ }
-    ensures { λ r. ⌜ Carried (now (job .entry)) (now (starts .entry)) r ⌝ }
+    ensures { λ r. ⌜ Represents (now (job .entry)) (now (starts .entry)) r ⌝ }
 {
     let checked = check_job(job);
     let index = checked.index;

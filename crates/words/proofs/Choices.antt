@@ -6,10 +6,10 @@ use Prim.Native.Nat.{ℕ, _≤_}
 use native.Mathlib.Omega.{arith}
 use borrow.Author.Tests.{leb-true, le-leb, eqb-true, eqb-false, ne-eqb}
 use lib.Dec.{eqb, leb}
-use Rattle.words.specs.Tests.{implies, one, within}
+use Rattle.words.specs.Tests.{implies, indicator, within}
 
 pub true-false : true ≡ false → ⊥
-true-false e = let z : _≡_ {A = ℕ} 1 0 = ap one e in omega arith
+true-false e = let z : _≡_ {A = ℕ} 1 0 = ap indicator e in omega arith
 
 pub is-false : (b : Bool) → (b ≡ true → ⊥) → b ≡ false
 is-false true h = absurd (h refl)
@@ -27,13 +27,13 @@ pub implies-true : (a b : Bool) → implies a b ≡ true → a ≡ true → b �
 implies-true true b h e = h
 implies-true false b h e = absurd (true-false (sym e))
 
-pub pick-same : (t : Bool) (n : ℕ) → cond t n n ≡ n
-pick-same true n = refl
-pick-same false n = refl
+pub cond-same : (t : Bool) (n : ℕ) → cond t n n ≡ n
+cond-same true n = refl
+cond-same false n = refl
 
-pub one-le : (t : Bool) → one t ≤ 1
-one-le true = omega arith
-one-le false = omega arith
+pub indicator-le : (t : Bool) → indicator t ≤ 1
+indicator-le true = omega arith
+indicator-le false = omega arith
 
 module _ (low high n : ℕ) where
   pub within-true : within low high n ≡ true → (low ≤ n) × (n ≤ high)
@@ -42,11 +42,11 @@ module _ (low high n : ℕ) where
   pub true-within : low ≤ n → n ≤ high → within low high n ≡ true
   true-within l h = rw (le-leb low n l, le-leb n high h)
 
-pub either-or : (a b : Bool) → (a || b) ≡ (b || a)
-either-or true true = refl
-either-or true false = refl
-either-or false true = refl
-either-or false false = refl
+pub or-swap : (a b : Bool) → (a || b) ≡ (b || a)
+or-swap true true = refl
+or-swap true false = refl
+or-swap false true = refl
+or-swap false false = refl
 
 pub same-or-not : (a b : ℕ) → (a ≡ b) ⊎ (a ≡ b → ⊥)
 same-or-not a b = cases (eqb a b) refl

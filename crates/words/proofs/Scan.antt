@@ -10,143 +10,143 @@ use native.Mathlib.Decide.{decLt}
 use native.Mathlib.Omega.{arith}
 use lib.ListN.{length, getD, take, drop, drop-of-length-le}
 use lib.Seq.{drop-cons}
-use Rattle.words.specs.Scan.{someWord, firstGives, leading, beyond}
+use Rattle.words.specs.Scan.{any, findOr, takeWhile, dropWhile}
 
 module _ (ws : List ℕ) (i : ℕ) where
   pub drop-next : i < length ws → drop i ws ≡ getD ws i 0 ∷ drop (i + 1) ws
   drop-next h = rw (add-one i) (drop-cons ws i 0 h)
 
   module _ (test : ℕ → Bool) (gives : ℕ → ℕ) (other : ℕ) where
-    pub gives-hit : i < length ws → test (getD ws i 0) ≡ true → firstGives test gives other (drop i ws) ≡ gives (getD ws i 0)
-    unfolding firstGives
+    pub gives-hit : i < length ws → test (getD ws i 0) ≡ true → findOr test gives other (drop i ws) ≡ gives (getD ws i 0)
+    unfolding findOr
     gives-hit h e = rw (drop-next h, e)
 
     pub gives-miss : i < length ws → test (getD ws i 0) ≡ false
-        → firstGives test gives other (drop i ws) ≡ firstGives test gives other (drop (i + 1) ws)
-    unfolding firstGives
+        → findOr test gives other (drop i ws) ≡ findOr test gives other (drop (i + 1) ws)
+    unfolding findOr
     gives-miss h e = rw (drop-next h, e)
 
-    pub gives-end : length ws ≤ i → firstGives test gives other (drop i ws) ≡ other
-    unfolding firstGives
+    pub gives-end : length ws ≤ i → findOr test gives other (drop i ws) ≡ other
+    unfolding findOr
     gives-end h = rw (drop-of-length-le ws h)
 
   module _ (test : ℕ → Bool) where
-    pub any-hit : i < length ws → test (getD ws i 0) ≡ true → someWord test (drop i ws) ≡ true
-    unfolding someWord
+    pub any-hit : i < length ws → test (getD ws i 0) ≡ true → any test (drop i ws) ≡ true
+    unfolding any
     any-hit h e = rw (drop-next h, e)
 
-    pub any-miss : i < length ws → test (getD ws i 0) ≡ false → someWord test (drop i ws) ≡ someWord test (drop (i + 1) ws)
-    unfolding someWord
+    pub any-miss : i < length ws → test (getD ws i 0) ≡ false → any test (drop i ws) ≡ any test (drop (i + 1) ws)
+    unfolding any
     any-miss h e = rw (drop-next h, e)
 
-    pub any-end : length ws ≤ i → someWord test (drop i ws) ≡ false
-    unfolding someWord
+    pub any-end : length ws ≤ i → any test (drop i ws) ≡ false
+    unfolding any
     any-end h = rw (drop-of-length-le ws h)
 
   -- the same along the leading words that pass a test
   module _ (lead test : ℕ → Bool) (gives : ℕ → ℕ) (other : ℕ) where
     pub laws-hit : i < length ws → lead (getD ws i 0) ≡ true → test (getD ws i 0) ≡ true
-        → firstGives test gives other (leading lead (drop i ws)) ≡ gives (getD ws i 0)
-    unfolding firstGives leading
+        → findOr test gives other (takeWhile lead (drop i ws)) ≡ gives (getD ws i 0)
+    unfolding findOr takeWhile
     laws-hit h l e = rw (drop-next h, l, e)
 
     pub laws-miss : i < length ws → lead (getD ws i 0) ≡ true → test (getD ws i 0) ≡ false
-        → firstGives test gives other (leading lead (drop i ws)) ≡ firstGives test gives other (leading lead (drop (i + 1) ws))
-    unfolding firstGives leading
+        → findOr test gives other (takeWhile lead (drop i ws)) ≡ findOr test gives other (takeWhile lead (drop (i + 1) ws))
+    unfolding findOr takeWhile
     laws-miss h l e = rw (drop-next h, l, e)
 
-    pub laws-stop : i < length ws → lead (getD ws i 0) ≡ false → firstGives test gives other (leading lead (drop i ws)) ≡ other
-    unfolding firstGives leading
+    pub laws-stop : i < length ws → lead (getD ws i 0) ≡ false → findOr test gives other (takeWhile lead (drop i ws)) ≡ other
+    unfolding findOr takeWhile
     laws-stop h l = rw (drop-next h, l)
 
-    pub laws-end : length ws ≤ i → firstGives test gives other (leading lead (drop i ws)) ≡ other
-    unfolding firstGives leading
+    pub laws-end : length ws ≤ i → findOr test gives other (takeWhile lead (drop i ws)) ≡ other
+    unfolding findOr takeWhile
     laws-end h = rw (drop-of-length-le ws h)
 
   module _ (lead test : ℕ → Bool) where
-    pub any-laws-hit : i < length ws → lead (getD ws i 0) ≡ true → test (getD ws i 0) ≡ true → someWord test (leading lead (drop i ws)) ≡ true
-    unfolding someWord leading
+    pub any-laws-hit : i < length ws → lead (getD ws i 0) ≡ true → test (getD ws i 0) ≡ true → any test (takeWhile lead (drop i ws)) ≡ true
+    unfolding any takeWhile
     any-laws-hit h l e = rw (drop-next h, l, e)
 
     pub any-laws-miss : i < length ws → lead (getD ws i 0) ≡ true → test (getD ws i 0) ≡ false
-        → someWord test (leading lead (drop i ws)) ≡ someWord test (leading lead (drop (i + 1) ws))
-    unfolding someWord leading
+        → any test (takeWhile lead (drop i ws)) ≡ any test (takeWhile lead (drop (i + 1) ws))
+    unfolding any takeWhile
     any-laws-miss h l e = rw (drop-next h, l, e)
 
-    pub any-laws-stop : i < length ws → lead (getD ws i 0) ≡ false → someWord test (leading lead (drop i ws)) ≡ false
-    unfolding someWord leading
+    pub any-laws-stop : i < length ws → lead (getD ws i 0) ≡ false → any test (takeWhile lead (drop i ws)) ≡ false
+    unfolding any takeWhile
     any-laws-stop h l = rw (drop-next h, l)
 
-    pub any-laws-end : length ws ≤ i → someWord test (leading lead (drop i ws)) ≡ false
-    unfolding someWord leading
+    pub any-laws-end : length ws ≤ i → any test (takeWhile lead (drop i ws)) ≡ false
+    unfolding any takeWhile
     any-laws-end h = rw (drop-of-length-le ws h)
 
 module _ (test : ℕ → Bool) where
   -- word i of the leading ones is word i of the list, and passes
-  pub leading-entry : (ws : List ℕ) (i : ℕ) → i < length (leading test ws)
-      → (getD (leading test ws) i 0 ≡ getD ws i 0) × (test (getD ws i 0) ≡ true) × (i < length ws)
-  unfolding leading
-  leading-entry [] i h = absurd (omega arith)
-  leading-entry (w ∷ ws) i h = cases (test w) refl i h (leading-entry ws)
+  pub takeWhile-entry : (ws : List ℕ) (i : ℕ) → i < length (takeWhile test ws)
+      → (getD (takeWhile test ws) i 0 ≡ getD ws i 0) × (test (getD ws i 0) ≡ true) × (i < length ws)
+  unfolding takeWhile
+  takeWhile-entry [] i h = absurd (omega arith)
+  takeWhile-entry (w ∷ ws) i h = cases (test w) refl i h (takeWhile-entry ws)
     where
       Entry : List ℕ → ℕ → Type 0
       Entry l i = (getD l i 0 ≡ getD (w ∷ ws) i 0) × (test (getD (w ∷ ws) i 0) ≡ true) × (i < suc (length ws))
 
-      cases : (t : Bool) → test w ≡ t → (i : ℕ) → i < length (cond t (w ∷ leading test ws) [])
-          → ((i : ℕ) → i < length (leading test ws) → (getD (leading test ws) i 0 ≡ getD ws i 0) × (test (getD ws i 0) ≡ true) × (i < length ws))
-          → Entry (cond t (w ∷ leading test ws) []) i
+      cases : (t : Bool) → test w ≡ t → (i : ℕ) → i < length (cond t (w ∷ takeWhile test ws) [])
+          → ((i : ℕ) → i < length (takeWhile test ws) → (getD (takeWhile test ws) i 0 ≡ getD ws i 0) × (test (getD ws i 0) ≡ true) × (i < length ws))
+          → Entry (cond t (w ∷ takeWhile test ws) []) i
       cases false e i l ih = absurd (omega arith)
       cases true e zero l ih = (refl, e, omega arith)
       cases true e (suc i) l ih = let r = ih i (omega arith) in (r .0, r .1, omega (arith, r .2))
 
   -- the word after the leading ones fails, where there is one
-  pub leading-stop : (ws : List ℕ) → length (leading test ws) < length ws → test (getD ws (length (leading test ws)) 0) ≡ false
-  unfolding leading
-  leading-stop [] h = absurd (omega arith)
-  leading-stop (w ∷ ws) h = cases (test w) refl h (leading-stop ws)
+  pub takeWhile-stop : (ws : List ℕ) → length (takeWhile test ws) < length ws → test (getD ws (length (takeWhile test ws)) 0) ≡ false
+  unfolding takeWhile
+  takeWhile-stop [] h = absurd (omega arith)
+  takeWhile-stop (w ∷ ws) h = cases (test w) refl h (takeWhile-stop ws)
     where
-      cases : (t : Bool) → test w ≡ t → length (cond t (w ∷ leading test ws) []) < suc (length ws)
-          → (length (leading test ws) < length ws → test (getD ws (length (leading test ws)) 0) ≡ false)
-          → test (getD (w ∷ ws) (length (cond t (w ∷ leading test ws) [])) 0) ≡ false
+      cases : (t : Bool) → test w ≡ t → length (cond t (w ∷ takeWhile test ws) []) < suc (length ws)
+          → (length (takeWhile test ws) < length ws → test (getD ws (length (takeWhile test ws)) 0) ≡ false)
+          → test (getD (w ∷ ws) (length (cond t (w ∷ takeWhile test ws) [])) 0) ≡ false
       cases false e l ih = e
       cases true e l ih = ih (omega arith)
 
   -- the words beyond them
-  pub beyond-drop : (ws : List ℕ) → beyond test ws ≡ drop (length (leading test ws)) ws
-  unfolding leading beyond
-  beyond-drop [] = refl
-  beyond-drop (w ∷ ws) = cases (test w) (beyond-drop ws)
+  pub dropWhile-drop : (ws : List ℕ) → dropWhile test ws ≡ drop (length (takeWhile test ws)) ws
+  unfolding takeWhile dropWhile
+  dropWhile-drop [] = refl
+  dropWhile-drop (w ∷ ws) = cases (test w) (dropWhile-drop ws)
     where
-      cases : (t : Bool) → beyond test ws ≡ drop (length (leading test ws)) ws
-          → cond t (beyond test ws) (w ∷ ws) ≡ drop (length (cond t (w ∷ leading test ws) [])) (w ∷ ws)
+      cases : (t : Bool) → dropWhile test ws ≡ drop (length (takeWhile test ws)) ws
+          → cond t (dropWhile test ws) (w ∷ ws) ≡ drop (length (cond t (w ∷ takeWhile test ws) [])) (w ∷ ws)
       cases false ih = refl
       cases true ih = ih
 
   -- they are the first of the list, as many as they are
-  pub leading-take : (ws : List ℕ) → take (length (leading test ws)) ws ≡ leading test ws
-  unfolding leading
-  leading-take [] = refl
-  leading-take (w ∷ ws) = cases (test w) (leading-take ws)
+  pub takeWhile-take : (ws : List ℕ) → take (length (takeWhile test ws)) ws ≡ takeWhile test ws
+  unfolding takeWhile
+  takeWhile-take [] = refl
+  takeWhile-take (w ∷ ws) = cases (test w) (takeWhile-take ws)
     where
-      cases : (t : Bool) → take (length (leading test ws)) ws ≡ leading test ws
-          → take (length (cond t (w ∷ leading test ws) [])) (w ∷ ws) ≡ cond t (w ∷ leading test ws) []
+      cases : (t : Bool) → take (length (takeWhile test ws)) ws ≡ takeWhile test ws
+          → take (length (cond t (w ∷ takeWhile test ws) [])) (w ∷ ws) ≡ cond t (w ∷ takeWhile test ws) []
       cases false ih = refl
       cases true ih = ap (λ (l : List ℕ). w ∷ l) ih
 
   -- how many lead, from a position on
   module _ (ws : List ℕ) (i : ℕ) where
-    pub lead-hit : i < length ws → test (getD ws i 0) ≡ true → length (leading test (drop i ws)) ≡ 1 + length (leading test (drop (i + 1) ws))
-    unfolding leading
+    pub lead-hit : i < length ws → test (getD ws i 0) ≡ true → length (takeWhile test (drop i ws)) ≡ 1 + length (takeWhile test (drop (i + 1) ws))
+    unfolding takeWhile
     lead-hit h e = rw (drop-next ws i h, e) (omega arith)
 
-    pub lead-miss : i < length ws → test (getD ws i 0) ≡ false → length (leading test (drop i ws)) ≡ 0
-    unfolding leading
+    pub lead-miss : i < length ws → test (getD ws i 0) ≡ false → length (takeWhile test (drop i ws)) ≡ 0
+    unfolding takeWhile
     lead-miss h e = rw (drop-next ws i h, e)
 
-    pub lead-end : length ws ≤ i → length (leading test (drop i ws)) ≡ 0
-    unfolding leading
+    pub lead-end : length ws ≤ i → length (takeWhile test (drop i ws)) ≡ 0
+    unfolding takeWhile
     lead-end h = rw (drop-of-length-le ws h)
 
   -- there are no more of them than words
-  pub leading-fits : (ws : List ℕ) → length (leading test ws) ≤ length ws
-  leading-fits ws = by-cases (decLt (length ws) (length (leading test ws))) (λ h. absurd (let z = leading-entry ws (length ws) h in omega (arith, z .2))) (λ h. omega arith)
+  pub takeWhile-fits : (ws : List ℕ) → length (takeWhile test ws) ≤ length ws
+  takeWhile-fits ws = by-cases (decLt (length ws) (length (takeWhile test ws))) (λ h. absurd (let z = takeWhile-entry ws (length ws) h in omega (arith, z .2))) (λ h. omega arith)

@@ -4,7 +4,7 @@ ghost use mathlib.Core.Path.{_≡_};
 ghost use Prim.Native.Nat.{_<_, _≤_};
 ghost use lib.ListN.{length, drop};
 ghost use Rattle.words.specs.Fields.{kind, ofKind, form, fluentsOf, actionsOf, lastOf, fluentOf, knownSpare, lawSpare, knownValue, durationOf, roleOf, makes, madeValue, formulaX, formulaY, atomFluent, atomSpare, nodeX, nodeY, nodeM, nodeN, memberNode, conditionFormula, conditionI, conditionJ, conditionM, conditionN, startMoment, startAction, factWord, readingWord};
-ghost use Rattle.words.specs.Scan.{leading};
+ghost use Rattle.words.specs.Scan.{takeWhile};
 
 pub fn kind_of(w: u32) -> u32
     ensures { λ r. ⌜ (r ≡ kind w) × (r < 16) ⌝ }
@@ -15,7 +15,7 @@ pub fn kind_of(w: u32) -> u32
 // How many words of kind `k` lead what stands from position `at` on.
 pub fn run_length(ws: &[u32], at: usize, k: u32) -> usize
     requires { ⌜ at ≤ length (now ws) ⌝ }
-    ensures { λ r. ⌜ r ≡ length (leading (ofKind k) (drop at (now (ws .entry)))) ⌝ }
+    ensures { λ r. ⌜ r ≡ length (takeWhile (ofKind k) (drop at (now (ws .entry)))) ⌝ }
 {
     let mut i = at;
     while i < ws.len() {

@@ -3,7 +3,7 @@ use mathlib.Core.Path.{_≡_, sym}
 use Prim.Native.Nat.{_-_, _≤_}
 use lib.Dec.{eqb}
 use lib.ListN.{length}
-use Rattle.words.proofs.Choices.{one-le}
+use Rattle.words.proofs.Choices.{indicator-le}
 use Rattle.job.specs.Before.{before, countOfKind}
 use Rattle.job.proofs.Laws.{count-none, count-more}
 use native.Mathlib.Omega.{arith}
@@ -21,7 +21,7 @@ loop-holds : tie.Need-loop-holds Inv-loop μ-loop
 loop-holds c = (omega arith, omega arith, sym (count-none (c .before .args .job .now) 5))
 
 add-n : tie.Need-add-n Inv-loop μ-loop
-add-n c = omega (arith, c .one-if .ensures, one-le (eqb (c .before .kind-of .result) 5))
+add-n c = omega (arith, c .one-if .ensures, indicator-le (eqb (c .before .kind-of .result) 5))
 
 loop-again : tie.Need-loop-again Inv-loop μ-loop
 loop-again c =
@@ -29,7 +29,7 @@ loop-again c =
     let i = c .before .before .before .before .loop .i in
     let more = rw (← c .before .kind-of .ensures .0) at (count-more job i 5) in (
       omega arith,
-      omega (arith, c .one-if .ensures, one-le (eqb (c .before .kind-of .result) 5)),
+      omega (arith, c .one-if .ensures, indicator-le (eqb (c .before .kind-of .result) 5)),
       rw more (omega (arith, c .one-if .ensures)),
     )
 

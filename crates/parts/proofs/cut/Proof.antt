@@ -2,7 +2,7 @@
 -- left. Assumes nothing.
 use native.Mathlib.Omega.{arith}
 use borrow.Author.Needs.{needs}
-use Rattle.bitset.specs.Members.{size}
+use Rattle.bitset.specs.Members.{popCount}
 use Rattle.parts.proofs.Search.{Left, left-start, left-found, left-turn, left-none}
 use Rattle.parts.proofs.cut.Statement.{statement}
 use Rattle.parts.proofs.cut.Tie as tie
@@ -11,7 +11,7 @@ abbrev Inv-loop : tie.InvT-loop
 Inv-loop table x y b e low high from left₀ left = Left table x y b e low high from left
 
 abbrev μ-loop : tie.MeasureT-loop
-μ-loop table x y b e low high from left₀ left = size left
+μ-loop table x y b e low high from left₀ left = popCount left
 
 cast-from : tie.Need-cast-from Inv-loop μ-loop
 cast-from c = let some = c .before .before .pre .1 .2 in omega (arith, some .after, some .end)

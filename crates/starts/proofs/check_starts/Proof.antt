@@ -6,7 +6,7 @@ use Prim.Native.Nat.{ℕ}
 use lib.ListN.{length}
 use Rattle.answers.specs.declared.Refusal.{Refusal}
 use Rattle.starts.specs.Rows.{endsLate, inHandAlready, clashes, needsUnmet, rowsRefusal, startsRefusal}
-use Rattle.starts.specs.Latest.{Worded}
+use Rattle.starts.specs.Latest.{StartsFormed}
 use Rattle.starts.proofs.Below.{rows-found, rows-next, rows-last}
 use Rattle.starts.proofs.Words.{worded}
 use Rattle.starts.proofs.check_starts.Statement.{statement}
@@ -64,7 +64,7 @@ pass4 c =
     rows-next 9 _ _ (rows4 (start .args .job .now) (start .args .starts .now)) _ (c .before .before .first-clash .ensures) (c .if4 .left) ∙ pass3 (c .before .before .before)
 
 -- row 6 fits no word
-right : (c : tie.Else1) → Worded (entry2 c .args .job .now) (entry2 c .args .starts .now)
+right : (c : tie.Else1) → StartsFormed (entry2 c .args .job .now) (entry2 c .args .starts .now)
 right c = worded _ _ (sym (ap (λ (r : Refusal). r .number) (c .before .before .wrong-word .ensures)) ∙ c .if1 .left)
 
 wrong-word-requires : tie.Need-wrong-word-requires

@@ -4,7 +4,7 @@ use Prim.Native.Nat.{_+_, _-_, _≤_}
 use native.Mathlib.Omega.{arith}
 use borrow.Author.Tests.{eq-eqb, ne-eqb}
 use lib.ListN.{length, drop}
-use Rattle.words.specs.Scan.{leading}
+use Rattle.words.specs.Scan.{takeWhile}
 use Rattle.words.proofs.Scan.{lead-hit, lead-miss, lead-end}
 use Rattle.words.specs.Fields.{ofKind}
 use borrow.Author.Needs.{needs}
@@ -13,7 +13,7 @@ use Rattle.words.proofs.run_length.Tie as tie
 
 abbrev Inv-loop : tie.InvT-loop
 Inv-loop ws at k i₀ i =
-    (at ≤ i) × (i ≤ length ws) × (at + length (leading (ofKind k) (drop at ws)) ≡ i + length (leading (ofKind k) (drop i ws)))
+    (at ≤ i) × (i ≤ length ws) × (at + length (takeWhile (ofKind k) (drop at ws)) ≡ i + length (takeWhile (ofKind k) (drop i ws)))
 
 abbrev μ-loop : tie.MeasureT-loop
 μ-loop ws at k i₀ i = length ws - i

@@ -1,7 +1,7 @@
 -- `facts::list::fill_facts` meets its contract. The invariant: the state is that at `t`, and the facts of the moments before `t` are written. Assumes nothing.
 use mathlib.Core.Path.{_≡_}
 use Prim.Native.Nat.{_-_, _≤_}
-use Rattle.words.specs.Scan.{joined}
+use Rattle.words.specs.Scan.{concatBelow}
 use Rattle.job.specs.Parts.{lastMoment}
 use Rattle.facts.specs.Tables.{StateAt}
 use Rattle.facts.specs.Facts.{factsAt}
@@ -13,7 +13,7 @@ use Rattle.facts.proofs.list.fill_facts.Statement.{statement}
 use Rattle.facts.proofs.list.fill_facts.Tie as tie
 
 abbrev Inv-loop : tie.InvT-loop
-Inv-loop job durations effects starts buffer₀ head n last state₀ at₀ t₀ buffer state at t = (t ≤ last) × StateAt job starts t state × Written buffer₀ 0 (joined (factsAt job starts) t) at buffer
+Inv-loop job durations effects starts buffer₀ head n last state₀ at₀ t₀ buffer state at t = (t ≤ last) × StateAt job starts t state × Written buffer₀ 0 (concatBelow (factsAt job starts) t) at buffer
 
 abbrev μ-loop : tie.MeasureT-loop
 μ-loop job durations effects starts buffer₀ head n last state₀ at₀ t₀ buffer state at t = last - t

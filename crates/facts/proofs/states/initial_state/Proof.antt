@@ -3,7 +3,7 @@ use mathlib.Core.Path.{_≡_, refl, ap, _∙_}
 use Prim.Native.Nat.{ℕ, _-_, _≤_}
 use lib.ListN.{length, getD, drop, replicate, getD-replicate}
 use Rattle.words.specs.Fields.{unknown, knownValue}
-use Rattle.words.specs.Scan.{firstGives}
+use Rattle.words.specs.Scan.{findOr}
 use Rattle.facts.specs.Values.{lists, initially}
 use Rattle.facts.specs.Stores.{Overlaid}
 use Rattle.facts.proofs.Stores.{overlaid-none, overlaid-back}
@@ -35,7 +35,7 @@ returns c =
     let e : c .before .loop .i ≡ 0 = omega arith in
     let o = rw e at (c .before .loop .inv .2) in (
       omega (arith, c .before .loop .inv .1),
-      λ f l. o .value f (omega arith) ∙ ap (λ (v : ℕ). firstGives (lists (getD job 0 0) f) (knownValue (getD job 0 0)) v job) (getD-replicate 64 f unknown 0 (omega arith)),
+      λ f l. o .value f (omega arith) ∙ ap (λ (v : ℕ). findOr (lists (getD job 0 0) f) (knownValue (getD job 0 0)) v job) (getD-replicate 64 f unknown 0 (omega arith)),
     )
 
 pub initial-state-spec : {M : Type 1} → statement M

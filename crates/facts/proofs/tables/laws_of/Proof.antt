@@ -6,26 +6,26 @@ use native.Mathlib.Omega.{arith}
 use borrow.Author.Needs.{needs}
 use lib.ListN.{length, getD, take, drop, length-drop}
 use Rattle.words.specs.Fields.{ofKind}
-use Rattle.words.specs.Scan.{leading}
-use Rattle.words.proofs.Scan.{leading-take, leading-fits}
+use Rattle.words.specs.Scan.{takeWhile}
+use Rattle.words.proofs.Scan.{takeWhile-take, takeWhile-fits}
 use Rattle.job.specs.Parts.{actions, lawsOf}
-use Rattle.job.specs.WellFormed.{WellFormed, Placed}
+use Rattle.job.specs.WellFormed.{WellFormed, Indexed}
 use Rattle.job.proofs.ByPlace.{action-counted, laws-place}
 use Rattle.facts.proofs.tables.laws_of.Statement.{statement}
 use Rattle.facts.proofs.tables.laws_of.Tie as tie
 
-module _ {job places : List ℕ} {a : ℕ} (w : WellFormed job) (p : Placed job 3 places) (h : a < actions job) where
+module _ {job places : List ℕ} {a : ℕ} (w : WellFormed job) (p : Indexed job 3 places) (h : a < actions job) where
   inside : getD places a 0 + 1 ≤ length job
   inside = omega (arith, p .inside a (action-counted w h))
 
-  run-fits : getD places a 0 + 1 + length (leading (ofKind 4) (drop (getD places a 0 + 1) job)) ≤ length job
-  run-fits = omega (arith, inside, leading-fits (ofKind 4) (drop (getD places a 0 + 1) job), length-drop (getD places a 0 + 1) job)
+  run-fits : getD places a 0 + 1 + length (takeWhile (ofKind 4) (drop (getD places a 0 + 1) job)) ≤ length job
+  run-fits = omega (arith, inside, takeWhile-fits (ofKind 4) (drop (getD places a 0 + 1) job), length-drop (getD places a 0 + 1) job)
 
-  laws : (n : ℕ) → n ≡ length (leading (ofKind 4) (drop (getD places a 0 + 1) job))
+  laws : (n : ℕ) → n ≡ length (takeWhile (ofKind 4) (drop (getD places a 0 + 1) job))
       → take (getD places a 0 + 1 + n - (getD places a 0 + 1)) (drop (getD places a 0 + 1) job) ≡ lawsOf job a
   laws n e =
       let q : getD places a 0 + 1 + n - (getD places a 0 + 1) ≡ n = omega arith in
-      rw (q, e, leading-take (ofKind 4) (drop (getD places a 0 + 1) job)) (sym (laws-place p a (action-counted w h)))
+      rw (q, e, takeWhile-take (ofKind 4) (drop (getD places a 0 + 1) job)) (sym (laws-place p a (action-counted w h)))
 
 mul-from : tie.Need-mul-from
 mul-from c = omega (arith, c .before .pre .0 .few-actions)

@@ -1,22 +1,22 @@
 -- `job::rules::grade_of` meets its contract, by its tests. Assumes nothing.
-use Rattle.job.specs.Rules.{grade}
+use Rattle.job.specs.Rules.{wordRefusalOf}
 use Rattle.job.proofs.rules.grade_of.Statement.{statement}
 use Rattle.job.proofs.rules.grade_of.Tie as tie
 
 returns : tie.Need-returns
-unfolding grade
+unfolding wordRefusalOf
 returns c = rw (c .before .before .if1 .taken, c .before .if2 .taken, c .if3 .taken)
 
 returns-2 : tie.Need-returns-2
-unfolding grade
+unfolding wordRefusalOf
 returns-2 c = rw (c .before .before .if1 .taken, c .before .if2 .taken, c .if3 .left)
 
 returns-3 : tie.Need-returns-3
-unfolding grade
+unfolding wordRefusalOf
 returns-3 c = rw (c .before .if1 .taken, c .if2 .left)
 
 returns-4 : tie.Need-returns-4
-unfolding grade
+unfolding wordRefusalOf
 returns-4 c = rw (c .if1 .left)
 
 pub grade-of-spec : {M : Type 1} → statement M

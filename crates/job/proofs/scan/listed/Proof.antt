@@ -6,7 +6,7 @@ use borrow.Author.Tests.{eq-eqb, ne-eqb}
 use native.Mathlib.Omega.{arith}
 use lib.ListN.{length}
 use Rattle.job.specs.Rules.{sameFluent}
-use Rattle.words.specs.Scan.{someWord}
+use Rattle.words.specs.Scan.{any}
 use Rattle.job.specs.Before.{before, since}
 use Rattle.job.proofs.Laws.{since-any, since-none}
 use Rattle.job.proofs.scan.listed.Statement.{statement}
@@ -14,7 +14,7 @@ use Rattle.job.proofs.scan.listed.Tie as tie
 
 abbrev Inv-loop : tie.InvT-loop
 Inv-loop job i k head w j₀ j =
-    (j ≤ length job) × (someWord (sameFluent head w) (since k (before job i)) ≡ someWord (sameFluent head w) (since k (before job j)))
+    (j ≤ length job) × (any (sameFluent head w) (since k (before job i)) ≡ any (sameFluent head w) (since k (before job j)))
 
 abbrev μ-loop : tie.MeasureT-loop
 μ-loop job i k head w j₀ j = j

@@ -1,5 +1,5 @@
 -- `job::scan::previous` meets its contract: the word before is the first of the words before. Assumes nothing.
-use Rattle.job.specs.Before.{before, last}
+use Rattle.job.specs.Before.{before, previous}
 use Rattle.job.proofs.Laws.{before-less}
 use Prim.Native.Nat.{_<_}
 use borrow.Author.Needs.{needs}
@@ -8,11 +8,11 @@ use Rattle.job.proofs.scan.previous.Statement.{statement}
 use Rattle.job.proofs.scan.previous.Tie as tie
 
 returns : tie.Need-returns
-unfolding before last
+unfolding before previous
 returns c = rw (c .if1 .taken)
 
 returns-2 : tie.Need-returns-2
-unfolding last
+unfolding previous
 returns-2 c =
     let h : 0 < c .before .before .args .i = omega arith in
     rw before-less

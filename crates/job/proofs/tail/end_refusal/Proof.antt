@@ -19,10 +19,10 @@ returns c =
       ← (c .before .before .before .before .before .before .before .row-of2 .ensures),
       ← (c .before .before .before .before .row-of3 .ensures),
       ← (c .before .before .before .name-refusal .ensures),
-      ← (c .before .before .or-else .ensures),
-      ← (c .before .or-else2 .ensures),
+      ← (c .before .before .first-refusal .ensures),
+      ← (c .before .first-refusal2 .ensures),
     )
-    (c .or-else3 .ensures)
+    (c .first-refusal3 .ensures)
 
 pub end-refusal-spec : {M : Type 1} → statement M
 end-refusal-spec =

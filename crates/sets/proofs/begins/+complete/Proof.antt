@@ -12,7 +12,7 @@ use borrow.Fn.PlainCycle.{Measures, is, falls, and}
 use borrow.Author.Tests.{not-false}
 use Rattle.bitset.specs.Members.{In as In-mask}
 use Rattle.words.specs.Fields.{memberNode}
-use Rattle.sets.specs.Ends.{taskset, at, InTable}
+use Rattle.sets.specs.Ends.{taskSetOf, entryAt, InTable}
 use Rattle.sets.specs.Search.{Searching}
 use Rattle.sets.proofs.Laws.{in-union, no-gain, gain-turn}
 use Rattle.sets.proofs.Search.{CompletedTo, to-none, turn, none, leaf-at, search-begin, search-next}
@@ -58,7 +58,7 @@ calls t = (
 abbrev Inv-loop : lts.InvT-loop
 Inv-loop members conds values allow table k begins ends b n found last may all₀ x₀ all x =
     (b ≤ x) × (x ≤ last + 1) × (last ≤ n)
-    × ((e : ℕ) → In-mask all e ↔ (In-mask found e ⊎ CompletedTo (taskset members conds values n) (InTable table) b e k (at begins) x))
+    × ((e : ℕ) → In-mask all e ↔ (In-mask found e ⊎ CompletedTo (taskSetOf members conds values n) (InTable table) b e k (entryAt begins) x))
 
 abbrev μ-loop : lts.MeasureT-loop
 μ-loop members conds values allow table k begins ends b n found last may all₀ x₀ all x = last + 1 - x
@@ -103,7 +103,7 @@ module _ (t : ℕ) where
 
   -- what the search needs with member k at x
   placing : (c : Turn) → let a = entry (more c) .args in
-      Searching (taskset (a .members .now) (a .conds .now) (a .values .now) (a .n)) (a .allow .now) (a .table .now) (a .k) (set (a .begins) (a .k) (c .before .loop .x)) (a .ends) (a .b)
+      Searching (taskSetOf (a .members .now) (a .conds .now) (a .values .now) (a .n)) (a .allow .now) (a .table .now) (a .k) (set (a .begins) (a .k) (c .before .loop .x)) (a .ends) (a .b)
   placing c = search-begin (entry (more c) .pre .1) (left (opened (more c)) .0) (c .before .loop .x) (small c .0) (small c .1) (omega (arith, left (opened (more c))))
 
   with-covered-requires : lts.Need-with-covered-requires (calls t) (own-at t) own.Post Inv-loop μ-loop

@@ -8,7 +8,7 @@ use lib.ListN.{length, getD, set, length-set}
 use lib.Seq.{getD-set-same, getD-set-other}
 use Rattle.bitset.specs.Members.{In}
 use Rattle.words.specs.Fields.{memberNode}
-use Rattle.sets.specs.Ends.{at, InTable}
+use Rattle.sets.specs.Ends.{entryAt, InTable}
 use Rattle.sets.specs.Search.{Begun}
 use Rattle.sets.proofs.Masks.{small-set}
 use Rattle.sets.proofs.Search.{none-small}
@@ -18,8 +18,8 @@ use Rattle.sets.proofs.begins.later_ends.Tie as tie
 
 abbrev Inv-loop : tie.InvT-loop
 Inv-loop members table b n ends₀ i₀ ends i =
-    (i ≤ length members) × (length ends ≡ 4) × ((j : ℕ) → j < i → (e : ℕ) → In (at ends j) e ↔ Begun (InTable table) (memberNode (getD members j 0)) b (n + 1) n e)
-    × ((j e : ℕ) → In (at ends j) e → e < 64)
+    (i ≤ length members) × (length ends ≡ 4) × ((j : ℕ) → j < i → (e : ℕ) → In (entryAt ends j) e ↔ Begun (InTable table) (memberNode (getD members j 0)) b (n + 1) n e)
+    × ((j e : ℕ) → In (entryAt ends j) e → e < 64)
 
 abbrev μ-loop : tie.MeasureT-loop
 μ-loop members table b n ends₀ i₀ ends i = length members - i
@@ -41,9 +41,9 @@ loop-again c =
     let long : l .i < length (l .ends) = omega (arith, l .inv .1, s .pre .0, c .before .before .before .loop-test .taken) in (
       omega (arith, c .before .before .before .loop-test .taken),
       simp length-set (l .inv .1),
-      below-more (λ j. (e : ℕ) → In (at (set (l .ends) (l .i) r) j) e ↔ Begun (InTable (s .args .table .now)) (memberNode (getD (s .args .members .now) j 0)) (s .args .b) (s .args .n + 1) (s .args .n) e) (l .i)
+      below-more (λ j. (e : ℕ) → In (entryAt (set (l .ends) (l .i) r) j) e ↔ Begun (InTable (s .args .table .now)) (memberNode (getD (s .args .members .now) j 0)) (s .args .b) (s .args .n + 1) (s .args .n) e) (l .i)
           (λ j g e. rw (getD-set-other (l .ends) (l .i) j r 0 (omega arith)) (l .inv .2 j g e))
-          (λ e. rw (getD-set-same (l .ends) (l .i) r 0 long) (rw (c .before .member-node .ensures .0) at (c .ends-from .ensures e))),
+          (λ e. rw (getD-set-same (l .ends) (l .i) r 0 long) (rw (c .before .member-node .ensures .0) entryAt (c .ends-from .ensures e))),
       small-set (l .ends) (l .i) r long (λ e t. omega (arith, c .ends-from .ensures e .0 t .within, s .pre .3)) (l .inv .3),
     )
 

@@ -6,7 +6,7 @@ use native.Mathlib.Omega.{arith}
 use lib.ListN.{length, getD, set, length-map, List·getD-map}
 use Rattle.words.specs.Fields.{memberNode}
 use Rattle.sets.specs.Cover.{Attained}
-use Rattle.sets.specs.Ends.{at}
+use Rattle.sets.specs.Ends.{entryAt}
 use Rattle.sets.proofs.Masks.{small-set}
 use Rattle.sets.proofs.Gaps.{in-open, attains}
 use borrow.Author.Needs.{needs}
@@ -42,8 +42,8 @@ returns c = λ e h l.
     let a = s .args in
     let g = s .pre .0 in
     let m = c .before .ends-from in
-    c .attained .ensures e .1 (subst (λ (x : ℕ). Attained x (at (set (a .ends) (a .k) (m .result))) e) (length-map (a .members .now) memberNode)
-    (attains (g .sets) (left s .0) h (in-open (a .ends) (m .result) (g .sets) (left s .0) (left s .2) (λ y. rw (node (c .before .before)) at (m .ensures y)) (g .later) h l)))
+    c .attained .ensures e .1 (subst (λ (x : ℕ). Attained x (entryAt (set (a .ends) (a .k) (m .result))) e) (length-map (a .members .now) memberNode)
+    (attains (g .sets) (left s .0) h (in-open (a .ends) (m .result) (g .sets) (left s .0) (left s .2) (λ y. rw (node (c .before .before)) entryAt (m .ensures y)) (g .later) h l)))
 
 pub open-ends-spec : {M : Type 1} → statement M
 open-ends-spec =

@@ -7,7 +7,7 @@ use lib.ListN.{length, getD, set, length-map, List·getD-map}
 use lib.Seq.{getD-set-other}
 use Rattle.bitset.specs.Members.{In}
 use Rattle.words.specs.Fields.{memberNode}
-use Rattle.sets.specs.Ends.{at}
+use Rattle.sets.specs.Ends.{entryAt}
 use Rattle.sets.proofs.Masks.{extend, small-set}
 use borrow.Author.Needs.{needs}
 use Rattle.sets.proofs.begins.place_next.Statement.{statement}
@@ -24,7 +24,7 @@ node c = let a = c .before .before .before .before .before .before .args in c .m
 
 -- the masks are of moments
 new-small : (c : tie.After-ends-at) → let a = c .before .before .before .before .before .before .before .args in
-    (i e : ℕ) → In (at (set (a .ends) (a .k) (c .ends-at .result)) i) e → e < 64
+    (i e : ℕ) → In (entryAt (set (a .ends) (a .k) (c .ends-at .result)) i) e → e < 64
 new-small c = let s = c .before .before .before .before .before .before .before in let g = s .pre .0 in
     small-set (s .args .ends) (s .args .k) (c .ends-at .result) (omega (arith, left s)) (λ e t. omega (arith, c .ends-at .ensures e .0 t, g .formed .moments)) (g .small)
 
@@ -49,7 +49,7 @@ narrow-requires c κs = let s = c .before .before .before .before .before .befor
 returns : tie.Need-returns
 returns c = let s = c .before .before .before .before .before .before .before .before in let g = s .pre .0 in (
   extend (s .args .ends) (c .before .ends-at .result) (g .formed .moments) (g .allowed) (g .moments) (omega (arith, left s))
-      (λ e. rw (node (c .before .before)) at (c .before .ends-at .ensures e)) (g .sets) (c .narrow .ensures),
+      (λ e. rw (node (c .before .before)) entryAt (c .before .ends-at .ensures e)) (g .sets) (c .narrow .ensures),
   λ i e t. new-small (c .before) i e (c .narrow .ensures .mask i e .0 t .0),
   λ i e l t. c .narrow .ensures .mask i e .1 (rw (getD-set-other (s .args .ends) (s .args .k) i (c .before .ends-at .result) 0 (omega arith)) t, λ d m q o. let f = o .first in absurd (omega arith)),
 )

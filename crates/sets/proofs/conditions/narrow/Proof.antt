@@ -5,7 +5,7 @@ use mathlib.Core.Logic.{⊎-elim}
 use native.Mathlib.Omega.{arith}
 use lib.ListN.{length, length-set}
 use Rattle.bitset.proofs.Laws.{not-both}
-use Rattle.sets.specs.Ends.{at}
+use Rattle.sets.specs.Ends.{entryAt}
 use Rattle.sets.specs.Search.{Narrowed}
 use Rattle.sets.proofs.Laws.{in-both}
 use Rattle.sets.proofs.Masks.{narrow-more, narrow-skip}
@@ -23,7 +23,7 @@ abbrev μ-loop : tie.MeasureT-loop
 facts : (c : tie.After-condition-j Inv-loop μ-loop) → let a = c .before .before .before .before .before .before .before .args in
     let i = c .before .condition-i .result in
     let j = c .condition-j .result in
-    (i < 4) × (j < 4) × (at (a .t4) i < 64) × (at (a .t4) j < 64) × (length (a .conds .now) * 64 ≤ length (a .allow .now)) × (length (a .allow .now) * 8 < 9223372036854775808)
+    (i < 4) × (j < 4) × (entryAt (a .t4) i < 64) × (entryAt (a .t4) j < 64) × (length (a .conds .now) * 64 ≤ length (a .allow .now)) × (length (a .allow .now) * 8 < 9223372036854775808)
 facts c = let l = c .before .before .before in let s = l .before .before .before .before in
     let n = s .pre .named (l .before .loop .c) (l .loop-test .taken) in
     (omega (arith, n .0, c .before .condition-i .ensures .0), omega (arith, n .1, c .condition-j .ensures .0), s .pre .moments (c .before .condition-i .result), s .pre .moments (c .condition-j .result), s .pre .room, s .good .1 .0 .1)
@@ -68,7 +68,7 @@ loop-again c =
       ⊎-elim (λ z. rw (z .5) (simp length-set (k .inv .1))) (λ z. rw (z .1) (k .inv .1)) (c .if1 .came),
       ⊎-elim
           (λ z. rw (z .5, qi) (narrow-more (z .3 .result) (z .4 .result) (k .inv .1) (s .pre .named (k .c) (i .before .before .loop-test .taken) .0) (s .pre .small)
-          (rw (qi, qj) at (g .0 (z .0 .taken))) (λ e l. rw (qi, qj, z .1 .ensures .0) at (z .3 .ensures e l)) (λ e. rw qi at (in-both (z .4 .ensures) e)) (k .inv .2)))
+          (rw (qi, qj) entryAt (g .0 (z .0 .taken))) (λ e l. rw (qi, qj, z .1 .ensures .0) entryAt (z .3 .ensures e l)) (λ e. rw qi entryAt (in-both (z .4 .ensures) e)) (k .inv .2)))
           (λ z. rw (z .1) (narrow-skip (λ n. not-both (g .1 (rw (qi, qj) n)) (z .0 .left)) (k .inv .2)))
           (c .if1 .came),
     )

@@ -4,7 +4,7 @@ use mathlib.Core.Logic.{_↔_, ⊎-elim}
 use native.Mathlib.Omega.{arith}
 use Rattle.bitset.specs.Members.{In}
 use Rattle.sets.specs.Cover.{Some, Reaches}
-use Rattle.sets.specs.Ends.{at}
+use Rattle.sets.specs.Ends.{entryAt}
 use Rattle.sets.proofs.Laws.{in-union, in-none, in-more, in-both, in-from, some-none, some-more}
 use Rattle.sets.proofs.Needs.{reaches, all-more}
 use borrow.Author.Needs.{needs}
@@ -13,7 +13,7 @@ use Rattle.sets.proofs.covering.attained.Tie as tie
 
 abbrev Inv-loop : tie.InvT-loop
 Inv-loop count ends all₀ least₀ i₀ all least i =
-    (i ≤ count) × (least < 64) × ((e : ℕ) → e < 64 → (least ≤ e) ↔ ((j : ℕ) → j < i → Reaches (at ends) j 0 e)) × ((e : ℕ) → In all e ↔ Some i (λ j. In (at ends j) e))
+    (i ≤ count) × (least < 64) × ((e : ℕ) → e < 64 → (least ≤ e) ↔ ((j : ℕ) → j < i → Reaches (entryAt ends) j 0 e)) × ((e : ℕ) → In all e ↔ Some i (λ j. In (entryAt ends j) e))
 
 abbrev μ-loop : tie.MeasureT-loop
 μ-loop count ends all₀ least₀ i₀ all least i = count - i
@@ -42,11 +42,11 @@ returns-2 c = λ e.
     let both = in-both (c .inter .ensures) e in
     let late = in-from (c .before .from .ensures) e in (
       λ t. let p = both .0 t in let j = k .loop .inv .3 e .0 (p .0) in let l = late .0 (p .1) in record {
-        last = record { at = j .at; below = omega (arith, j .below); is = j .is };
+        last = record { entryAt = j .at; below = omega (arith, j .below); is = j .is };
         each = λ i g. k .loop .inv .2 e (l .1) .0 (l .0) i (omega arith);
       },
       λ h. let j = h .last in let l = k .before .pre .1 (j .at) e (j .is) in
-          both .1 (k .loop .inv .3 e .1 (record { at = j .at; below = omega (arith, j .below); is = j .is }), late .1 (k .loop .inv .2 e l .1 (λ i g. h .each i (omega arith)), l)),
+          both .1 (k .loop .inv .3 e .1 (record { entryAt = j .at; below = omega (arith, j .below); is = j .is }), late .1 (k .loop .inv .2 e l .1 (λ i g. h .each i (omega arith)), l)),
     )
 
 pub attained-spec : {M : Type 1} → statement M

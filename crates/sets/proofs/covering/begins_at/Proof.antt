@@ -5,14 +5,14 @@ use mathlib.Core.Bool.{true, false≢true}
 use mathlib.Core.Logic.{⊎-elim}
 use native.Mathlib.Omega.{arith}
 use Rattle.sets.specs.Cover.{Some}
-use Rattle.sets.specs.Ends.{at}
+use Rattle.sets.specs.Ends.{entryAt}
 use Rattle.sets.proofs.Laws.{some-none, some-more}
 use borrow.Author.Needs.{needs}
 use Rattle.sets.proofs.covering.begins_at.Statement.{statement}
 use Rattle.sets.proofs.covering.begins_at.Tie as tie
 
 abbrev Inv-loop : tie.InvT-loop
-Inv-loop count b begins i₀ i = (i ≤ count) × (Some i (λ j. at begins j ≡ b) → ⊥)
+Inv-loop count b begins i₀ i = (i ≤ count) × (Some i (λ j. entryAt begins j ≡ b) → ⊥)
 
 abbrev μ-loop : tie.MeasureT-loop
 μ-loop count b begins i₀ i = count - i
@@ -21,13 +21,13 @@ loop-holds : tie.Need-loop-holds Inv-loop μ-loop
 loop-holds c = (omega arith, some-none)
 
 returns : tie.Need-returns Inv-loop μ-loop
-returns c = (λ z. record { at = _; below = c .before .loop-test .taken; is = c .if1 .taken }, λ s. refl)
+returns c = (λ z. record { entryAt = _; below = c .before .loop-test .taken; is = c .if1 .taken }, λ s. refl)
 
 loop-again : tie.Need-loop-again Inv-loop μ-loop
 loop-again c = (omega arith, λ s. ⊎-elim (c .before .before .loop .inv .1) (c .if1 .left) (some-more _ .0 s))
 
 returns-2 : tie.Need-returns-2 Inv-loop μ-loop
-returns-2 c = (λ z. absurd (false≢true z), λ s. absurd (c .before .loop .inv .1 (record { at = s .at; below = omega (arith, s .below); is = s .is })))
+returns-2 c = (λ z. absurd (false≢true z), λ s. absurd (c .before .loop .inv .1 (record { entryAt = s .at; below = omega (arith, s .below); is = s .is })))
 
 pub begins-at-spec : {M : Type 1} → statement M
 begins-at-spec =

@@ -5,7 +5,7 @@ use native.Mathlib.Omega.{arith}
 use borrow.Author.Tests.{not-true, not-false}
 use Rattle.bitset.proofs.Laws.{not-both}
 use Rattle.sets.specs.Cover.{Needed}
-use Rattle.sets.specs.Ends.{at}
+use Rattle.sets.specs.Ends.{entryAt}
 use Rattle.sets.proofs.Laws.{in-none, in-both, in-from}
 use Rattle.sets.proofs.Needs.{all-more}
 use borrow.Author.Needs.{needs}
@@ -14,7 +14,7 @@ use Rattle.sets.proofs.covering.covered.Tie as tie
 
 abbrev Inv-loop : tie.InvT-loop
 Inv-loop begins ends count b least₀ i₀ least i =
-    (i ≤ count) × (least < 64) × ((e : ℕ) → e < 64 → (least ≤ e) ↔ ((j : ℕ) → j < i → Needed count (at begins) (at ends) b j e))
+    (i ≤ count) × (least < 64) × ((e : ℕ) → e < 64 → (least ≤ e) ↔ ((j : ℕ) → j < i → Needed count (entryAt begins) (entryAt ends) b j e))
 
 abbrev μ-loop : tie.MeasureT-loop
 μ-loop begins ends count b least₀ i₀ least i = count - i
@@ -47,12 +47,12 @@ returns-3 c = λ e.
     let late = in-from (c .before .from .ensures) e in
     let some = c .before .before .ends-before .ensures e in (
       λ t. let p = both .0 t in let j = some .0 (p .0) in let l = late .0 (p .1) in record {
-        last = record { at = j .at; below = j .below; is = j .is .1 };
+        last = record { entryAt = j .at; below = j .below; is = j .is .1 };
         first = k .before .before .begins-at .ensures .0 (not-false _ (k .before .if1 .left));
         needs = λ i g. k .loop .inv .2 e (l .1) .0 (l .0) i (omega arith);
       },
       λ h. let j = h .last in let l = s .pre .2 (j .at) e (j .below) (j .is) in
-          both .1 (some .1 (record { at = j .at; below = j .below; is = (s .pre .1 (j .at), j .is) }), late .1 (k .loop .inv .2 e l .1 (λ i g. h .needs i (omega arith)), l)),
+          both .1 (some .1 (record { entryAt = j .at; below = j .below; is = (s .pre .1 (j .at), j .is) }), late .1 (k .loop .inv .2 e l .1 (λ i g. h .needs i (omega arith)), l)),
     )
 
 pub covered-spec : {M : Type 1} → statement M

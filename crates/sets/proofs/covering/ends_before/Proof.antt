@@ -4,7 +4,7 @@ use mathlib.Core.Logic.{_↔_, ⊎-elim}
 use native.Mathlib.Omega.{arith}
 use Rattle.bitset.specs.Members.{In}
 use Rattle.sets.specs.Cover.{Some}
-use Rattle.sets.specs.Ends.{at}
+use Rattle.sets.specs.Ends.{entryAt}
 use Rattle.sets.proofs.Laws.{in-union, in-none, in-more, some-none, some-more, gain-yes, gain-no}
 use borrow.Author.Needs.{needs}
 use Rattle.sets.proofs.covering.ends_before.Statement.{statement}
@@ -12,7 +12,7 @@ use Rattle.sets.proofs.covering.ends_before.Tie as tie
 
 abbrev Inv-loop : tie.InvT-loop
 Inv-loop count x begins ends r₀ i₀ r i =
-    (i ≤ count) × ((e : ℕ) → In r e ↔ Some i (λ j. (at begins j < x) × (In (at ends j) e)))
+    (i ≤ count) × ((e : ℕ) → In r e ↔ Some i (λ j. (entryAt begins j < x) × (In (entryAt ends j) e)))
 
 abbrev μ-loop : tie.MeasureT-loop
 μ-loop count x begins ends r₀ i₀ r i = count - i
@@ -25,8 +25,8 @@ loop-again c = (omega arith, in-more (λ e. ⊎-elim (λ w. rw (w .2) (gain-yes 
 
 returns : tie.Need-returns Inv-loop μ-loop
 returns c = let l = c .before .loop in λ e. (
-  λ t. let s = l .inv .1 e .0 t in record { at = s .at; below = omega (arith, s .below); is = s .is },
-  λ s. l .inv .1 e .1 (record { at = s .at; below = omega (arith, s .below); is = s .is }),
+  λ t. let s = l .inv .1 e .0 t in record { entryAt = s .at; below = omega (arith, s .below); is = s .is },
+  λ s. l .inv .1 e .1 (record { entryAt = s .at; below = omega (arith, s .below); is = s .is }),
 )
 
 pub ends-before-spec : {M : Type 1} → statement M

@@ -4,14 +4,14 @@ use mathlib.Core.Logic.{_↔_}
 use native.Mathlib.Omega.{arith}
 use Rattle.bitset.specs.Members.{In}
 use Rattle.sets.specs.Cover.{Some, Spans}
-use Rattle.sets.specs.Ends.{at}
+use Rattle.sets.specs.Ends.{entryAt}
 use Rattle.sets.proofs.Laws.{in-none, in-more, some-none, some-more, gain}
 use borrow.Author.Needs.{needs}
 use Rattle.sets.proofs.covering.spans.Statement.{statement}
 use Rattle.sets.proofs.covering.spans.Tie as tie
 
 abbrev Inv-loop : tie.InvT-loop
-Inv-loop count begins ends r₀ i₀ r i = (i ≤ count) × ((t : ℕ) → In r t ↔ Some i (λ j. Spans (at begins j) (at ends j) t))
+Inv-loop count begins ends r₀ i₀ r i = (i ≤ count) × ((t : ℕ) → In r t ↔ Some i (λ j. Spans (entryAt begins j) (entryAt ends j) t))
 
 abbrev μ-loop : tie.MeasureT-loop
 μ-loop count begins ends r₀ i₀ r i = count - i
@@ -27,8 +27,8 @@ loop-again c = (omega arith, in-more (λ t. gain (c .before .span .result) (c .u
 
 returns : tie.Need-returns Inv-loop μ-loop
 returns c = let l = c .before .loop in λ t. (
-  λ u. let s = l .inv .1 t .0 u in record { at = s .at; below = omega (arith, s .below); is = s .is },
-  λ s. l .inv .1 t .1 (record { at = s .at; below = omega (arith, s .below); is = s .is }),
+  λ u. let s = l .inv .1 t .0 u in record { entryAt = s .at; below = omega (arith, s .below); is = s .is },
+  λ s. l .inv .1 t .1 (record { entryAt = s .at; below = omega (arith, s .below); is = s .is }),
 )
 
 pub spans-spec : {M : Type 1} → statement M

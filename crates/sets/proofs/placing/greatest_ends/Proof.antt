@@ -6,13 +6,13 @@ use borrow.Author.Count.{below-more}
 use lib.ListN.{length, set, length-set}
 use lib.Seq.{getD-set-same, getD-set-other}
 use Rattle.bitset.specs.Members.{Highest}
-use Rattle.sets.specs.Ends.{at}
+use Rattle.sets.specs.Ends.{entryAt}
 use borrow.Author.Needs.{needs}
 use Rattle.sets.proofs.placing.greatest_ends.Statement.{statement}
 use Rattle.sets.proofs.placing.greatest_ends.Tie as tie
 
 abbrev Inv-loop : tie.InvT-loop
-Inv-loop count e sets ends₀ i₀ ends i = (i ≤ count) × (length ends ≡ 4) × ((j : ℕ) → j < i → Highest (at sets j) e (at ends j))
+Inv-loop count e sets ends₀ i₀ ends i = (i ≤ count) × (length ends ≡ 4) × ((j : ℕ) → j < i → Highest (entryAt sets j) e (entryAt ends j))
 
 abbrev μ-loop : tie.MeasureT-loop
 μ-loop count e sets ends₀ i₀ ends i = count - i
@@ -29,7 +29,7 @@ loop-again c =
     let s = c .before .before .before in (
       omega arith,
       simp length-set (l .inv .1),
-      below-more (λ j. Highest (at (s .args .t1) j) (s .args .e) (at (set (l .ends) (l .i) (c .greatest-upto .result)) j)) (l .i)
+      below-more (λ j. Highest (entryAt (s .args .t1) j) (s .args .e) (entryAt (set (l .ends) (l .i) (c .greatest-upto .result)) j)) (l .i)
           (λ j g. rw (getD-set-other (l .ends) (l .i) j (c .greatest-upto .result) 0 (omega arith)) (l .inv .2 j g))
           (rw (getD-set-same (l .ends) (l .i) (c .greatest-upto .result) 0 (omega (arith, l .inv .1, s .pre .1, c .before .loop-test .taken))) (c .greatest-upto .ensures)),
     )

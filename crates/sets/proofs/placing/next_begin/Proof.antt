@@ -8,7 +8,7 @@ use lib.ListN.{length, set, length-map}
 use lib.Seq.{getD-set-same}
 use Rattle.bitset.proofs.Laws.{not-both}
 use Rattle.words.specs.Fields.{memberNode}
-use Rattle.sets.specs.Ends.{taskset, at, InTable}
+use Rattle.sets.specs.Ends.{taskSetOf, entryAt, InTable}
 use Rattle.sets.specs.Search.{Searching}
 use Rattle.sets.proofs.Laws.{from-none}
 use Rattle.sets.proofs.Search.{CompletedTo, to-none, turn, search-begin, search-next}
@@ -18,7 +18,7 @@ use Rattle.sets.proofs.placing.next_begin.Tie as tie
 
 abbrev Inv-loop : tie.InvT-loop
 Inv-loop members conds values allow table k begins ends b e n x₀ x =
-    (b ≤ x) × (x ≤ n) × (CompletedTo (taskset members conds values n) (InTable table) b e k (at begins) x → ⊥)
+    (b ≤ x) × (x ≤ n) × (CompletedTo (taskSetOf members conds values n) (InTable table) b e k (entryAt begins) x → ⊥)
 
 abbrev μ-loop : tie.MeasureT-loop
 μ-loop members conds values allow table k begins ends b e n x₀ x = n - x
@@ -34,7 +34,7 @@ facts l = let g = entry l .pre in let f = g .0 .0 .formed in let q = length-map 
 
 -- what the search needs with member k at x
 placing : (l : tie.At-loop Inv-loop μ-loop) → let a = entry l .args in
-    Searching (taskset (a .members .now) (a .conds .now) (a .values .now) (a .n)) (a .allow .now) (a .table .now) (a .k) (set (a .begins) (a .k) (l .loop .x)) (a .ends) (a .b)
+    Searching (taskSetOf (a .members .now) (a .conds .now) (a .values .now) (a .n)) (a .allow .now) (a .table .now) (a .k) (set (a .begins) (a .k) (l .loop .x)) (a .ends) (a .b)
 placing l = search-begin (entry l .pre .0 .0) (facts l .0) (l .loop .x) (l .loop .inv .0) (l .loop .inv .1) (omega (arith, facts l))
 
 loop-holds : tie.Need-loop-holds Inv-loop μ-loop

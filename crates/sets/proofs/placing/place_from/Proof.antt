@@ -6,7 +6,7 @@ use native.Mathlib.Omega.{arith}
 use lib.ListN.{length, set, length-set, length-map}
 use lib.Seq.{getD-set-same}
 use Rattle.words.specs.Fields.{memberNode}
-use Rattle.sets.specs.Ends.{taskset, at, InTable}
+use Rattle.sets.specs.Ends.{taskSetOf, entryAt, InTable}
 use Rattle.sets.specs.Search.{Searching, Completed}
 use Rattle.sets.proofs.Search.{nothing-placed, node-rows, later-start, search-start, search-begin, search-next, some-end, placed-at}
 use borrow.Author.Needs.{needs}
@@ -15,8 +15,8 @@ use Rattle.sets.proofs.placing.place_from.Tie as tie
 
 abbrev Inv-loop : tie.InvT-loop
 Inv-loop members conds values allow table b e n begins₀ sets₀ k₀ begins sets k =
-    (k ≤ length members) × (length begins ≡ 4) × Searching (taskset members conds values n) allow table k begins sets b
-    × Completed (taskset members conds values n) (InTable table) b e k (at begins)
+    (k ≤ length members) × (length begins ≡ 4) × Searching (taskSetOf members conds values n) allow table k begins sets b
+    × Completed (taskSetOf members conds values n) (InTable table) b e k (entryAt begins)
 
 abbrev μ-loop : tie.MeasureT-loop
 μ-loop members conds values allow table b e n begins₀ sets₀ k₀ begins sets k = length members - k
@@ -36,7 +36,7 @@ long c =
 placing : (c : tie.After-next-begin Inv-loop μ-loop) →
     let l = c .before .before .loop in
     let a = entry (c .before .before) .args in
-    Searching (taskset (a .members .now) (a .conds .now) (a .values .now) (a .n)) (a .allow .now) (a .table .now) (l .k) (set (l .begins) (l .k) (c .next-begin .result)) (l .sets) (a .b)
+    Searching (taskSetOf (a .members .now) (a .conds .now) (a .values .now) (a .n)) (a .allow .now) (a .table .now) (l .k) (set (l .begins) (l .k) (c .next-begin .result)) (l .sets) (a .b)
 placing c = let l = c .before .before .loop in
     search-begin (l .inv .2) (long c .0) (c .next-begin .result) (c .next-begin .ensures .0) (c .next-begin .ensures .1) (long c .1)
 

@@ -5,7 +5,7 @@ use native.Mathlib.Omega.{arith}
 use lib.ListN.{length, length-map}
 use lib.Seq.{length-take-le}
 use Rattle.words.specs.Fields.{memberNode}
-use Rattle.sets.specs.Ends.{valueIn, taskset}
+use Rattle.sets.specs.Ends.{valueIn, taskSetOf}
 use Rattle.sets.specs.Search.{Allowed, OwnRows}
 use Rattle.sets.proofs.Search.{node-rows}
 use Rattle.sets.proofs.Own.{own-rule, own-ready}
@@ -17,7 +17,7 @@ use Rattle.sets.proofs.rows.set_rows.Tie as tie
 abbrev Inv-loop : tie.InvT-loop
 Inv-loop members conds values p n table₀ allow own places count b₀ table b =
     (b ≤ n + 1) × (length allow ≡ 512) × (length own ≡ 256) × Allowed (valueIn values) conds n (length conds * 64) allow
-    × OwnRows members conds n allow table₀ (length members * 64) own × RowsTo (taskset members conds values n) p table₀ table b
+    × OwnRows members conds n allow table₀ (length members * 64) own × RowsTo (taskSetOf members conds values n) p table₀ table b
 
 abbrev μ-loop : tie.MeasureT-loop
 μ-loop members conds values p n table₀ allow own places count b₀ table b = n + 1 - b

@@ -4,9 +4,9 @@ use Prim.Native.Nat.{ℕ, _-_, _≤_, _<_}
 use mathlib.Core.Bool.{Bool, true, false}
 use Rattle.job.specs.Parts.{actions}
 use lib.Dec.{eqb}
-use Rattle.words.specs.Tests.{one}
+use Rattle.words.specs.Tests.{indicator}
 use Rattle.starts.specs.Rows.{clash}
-use Rattle.words.specs.Scan.{someBelow}
+use Rattle.words.specs.Scan.{anyBelow}
 use Rattle.starts.specs.Latest.{Clashes, clashesAfter}
 use Rattle.starts.proofs.Below.{some-start, some-more, some-hit}
 use borrow.Author.Needs.{needs}
@@ -15,13 +15,13 @@ use Rattle.starts.proofs.clashes.clashes_after.Statement.{statement}
 use Rattle.starts.proofs.clashes.clashes_after.Tie as tie
 
 abbrev Inv-loop : tie.InvT-loop
-Inv-loop job latest table b u n a₀ a = (a ≤ n) × (someBelow (clashesAfter job latest b u) a ≡ false)
+Inv-loop job latest table b u n a₀ a = (a ≤ n) × (anyBelow (clashesAfter job latest b u) a ≡ false)
 
 abbrev μ-loop : tie.MeasureT-loop
 μ-loop job latest table b u n a₀ a = n - a
 
 -- what the table's entry tells
-is-one : (t : Bool) → eqb (one t) 1 ≡ t
+is-one : (t : Bool) → eqb (indicator t) 1 ≡ t
 is-one true = refl
 is-one false = refl
 

@@ -4,7 +4,7 @@ use Prim.Native.Nat.{ℕ, _-_, _≤_, _<_}
 use mathlib.Core.Bool.{false}
 use Rattle.job.specs.Parts.{fluents}
 use Rattle.starts.specs.Rows.{opposed, clash}
-use Rattle.words.specs.Scan.{someBelow}
+use Rattle.words.specs.Scan.{anyBelow}
 use Rattle.starts.proofs.Below.{some-start, some-more, some-hit}
 use borrow.Author.Needs.{needs}
 use native.Mathlib.Omega.{arith}
@@ -12,7 +12,7 @@ use Rattle.starts.proofs.clashes.has_clash.Statement.{statement}
 use Rattle.starts.proofs.clashes.has_clash.Tie as tie
 
 abbrev Inv-loop : tie.InvT-loop
-Inv-loop job effects a b n f₀ f = (f ≤ n) × (someBelow (opposed job a b) f ≡ false)
+Inv-loop job effects a b n f₀ f = (f ≤ n) × (anyBelow (opposed job a b) f ≡ false)
 
 abbrev μ-loop : tie.MeasureT-loop
 μ-loop job effects a b n f₀ f = n - f

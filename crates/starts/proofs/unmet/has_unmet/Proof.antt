@@ -4,7 +4,7 @@ use Prim.Native.Nat.{ℕ, _-_, _≤_}
 use lib.ListN.{length, getD, drop}
 use lib.Seq.{drop-drop}
 use borrow.Author.Tests.{eq-eqb, ne-eqb}
-use Rattle.words.specs.Scan.{someWord, leading}
+use Rattle.words.specs.Scan.{any, takeWhile}
 use Rattle.words.proofs.Scan.{any-laws-hit, any-laws-miss, any-laws-stop, any-laws-end}
 use Rattle.words.specs.Fields.{ofKind}
 use Rattle.job.specs.Parts.{headWord}
@@ -16,7 +16,7 @@ use Rattle.starts.proofs.unmet.has_unmet.Tie as tie
 
 abbrev Inv-loop : tie.InvT-loop
 Inv-loop job at state head i₀ i = (i ≤ length job)
-    × (someWord (unmet (headWord job) (λ f. getD state f 0)) (leading (ofKind 4) (drop 1 (drop at job))) ≡ someWord (unmet (headWord job) (λ f. getD state f 0)) (leading (ofKind 4) (drop i job)))
+    × (any (unmet (headWord job) (λ f. getD state f 0)) (takeWhile (ofKind 4) (drop 1 (drop at job))) ≡ any (unmet (headWord job) (λ f. getD state f 0)) (takeWhile (ofKind 4) (drop i job)))
 
 abbrev μ-loop : tie.MeasureT-loop
 μ-loop job at state head i₀ i = length job - i
