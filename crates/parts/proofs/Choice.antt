@@ -37,12 +37,12 @@ module _ {P : Procedure} {T : Trajectory} {size : ℕ} {places sizes limits tabl
   reading = s .found .right p b e node begin .0 here
 
   formed : (k : Form) → formAt P p ≡ k → FormedAs P T k p
-  formed k f = rw f entryAt (s .ready .formed p node)
+  formed k f = rw f at (s .ready .formed p node)
 
   -- the rule of the node's form, by the table
   pub rule : (k : Form) → formAt P p ≡ k → Rule P T (InTable table) k p b e
   rule k f =
-      rw f entryAt (carry P T e (formAt P p) (s .ready .formed p node) begin (λ q c d filled l r. s .found .right q c d (lower q c filled) l .1 r) (step begin .0 reading))
+      rw f at (carry P T e (formAt P p) (s .ready .formed p node) begin (λ q c d filled l r. s .found .right q c d (lower q c filled) l .1 r) (step begin .0 reading))
     where
       lower : (q c : ℕ) → (q < p) ⊎ ((q ≡ p) × (b + 1 ≤ c)) → q < P .count
       lower q c (inl h) = omega arith
@@ -106,17 +106,17 @@ module _ {P : Procedure} {T : Trajectory} {size : ℕ} {places sizes limits tabl
     choice-some = rw (ex, ey) (rule Choice f)
 
     pub choice-chosen : {q : ℕ} → (q ≡ x) ⊎ (q ≡ y) → InTable table q b e → Chosen P T table p b e (onePart q b e)
-    choice-chosen (inl h) t = let k = formed Choice f in let l = k .0 in chosen-one (omega arith) t (λ us r. first f (rw (h, ex) entryAt r))
-    choice-chosen (inr h) t = let k = formed Choice f in let l = k .1 in chosen-one (omega arith) t (λ us r. second f (rw (h, ey) entryAt r))
+    choice-chosen (inl h) t = let k = formed Choice f in let l = k .0 in chosen-one (omega arith) t (λ us r. first f (rw (h, ex) at r))
+    choice-chosen (inr h) t = let k = formed Choice f in let l = k .1 in chosen-one (omega arith) t (λ us r. second f (rw (h, ey) at r))
 
   module _ {v y z : ℕ} (f : formAt P p ≡ If) (ev : v ≡ T .value (fieldX P p) b) (ey : y ≡ fieldY P p) (ez : z ≡ fieldM P p) where
     pub if-chosen : {r : Parts} → ((v ≡ holds) × (r ≡ onePart y b e)) ⊎ ((v ≡ holds → ⊥) × (r ≡ onePart z b e)) → Chosen P T table p b e r
     if-chosen (inl h) = rw (h .1) (⊎-elim
-        (λ g. let l = formed If f .0 in chosen-one (omega arith) (rw ey (g .1)) (λ us r. taken f (g .0) (rw ey entryAt r)))
+        (λ g. let l = formed If f .0 in chosen-one (omega arith) (rw ey (g .1)) (λ us r. taken f (g .0) (rw ey at r)))
         (λ g. absurd (omega (arith, h .0, g .0))) (rule If f))
     if-chosen (inr h) = rw (h .1) (⊎-elim
         (λ g. absurd (h .0 (ev ∙ g .0)))
-        (λ g. let l = formed If f .1 in chosen-one (omega arith) (rw ez (g .1)) (λ us r. otherwise f (g .0) (rw ez entryAt r))) (rule If f))
+        (λ g. let l = formed If f .1 in chosen-one (omega arith) (rw ez (g .1)) (λ us r. otherwise f (g .0) (rw ez at r))) (rule If f))
 
   -- ---- two parts
 
@@ -145,7 +145,7 @@ module _ {P : Procedure} {T : Trajectory} {size : ℕ} {places sizes limits tabl
         let h = c .early in
         let g = c .late in
         let q : m ≡ k = omega arith in
-        chosen-two (omega arith) (omega arith) (c .ends) (c .begins) (moment _ _ _ (c .begin) (c .begins)) (λ us vs r t. sequence f (rw ex entryAt r) (rw (ey, q) entryAt t))
+        chosen-two (omega arith) (omega arith) (c .ends) (c .begins) (moment _ _ _ (c .begin) (c .begins)) (λ us vs r t. sequence f (rw ex at r) (rw (ey, q) at t))
 
   module _ {x y low high : ℕ} (f : formAt P p ≡ EndWindow) (ex : x ≡ fieldX P p) (ey : y ≡ fieldY P p) (em : low ≡ fieldM P p) (en : high ≡ fieldN P p) where
     pub end-some : (k : ℕ) × (m : ℕ) × CutAt table x y b e low high b k m
@@ -158,7 +158,7 @@ module _ {P : Procedure} {T : Trajectory} {size : ℕ} {places sizes limits tabl
     end-chosen c =
         let (lx, ly) = formed EndWindow f in
         chosen-two (omega arith) (omega arith) (c .ends) (c .begins) (moment _ _ _ (c .begin) (c .begins))
-        (λ us vs r t. endWindow f (rw ex entryAt r) (rw ey entryAt t) (rw em entryAt (c .early)) (rw en entryAt (c .late)))
+        (λ us vs r t. endWindow f (rw ex at r) (rw ey at t) (rw em at (c .early)) (rw en at (c .late)))
 
   module _ {x y low high : ℕ} (f : formAt P p ≡ StartWindow) (ex : x ≡ fieldX P p) (ey : y ≡ fieldY P p) (em : low ≡ fieldM P p) (en : high ≡ fieldN P p) where
     pub start-some : (k : ℕ) × (m : ℕ) × (l : ℕ) × StartAt table x y b e low high k m l
@@ -172,7 +172,7 @@ module _ {P : Procedure} {T : Trajectory} {size : ℕ} {places sizes limits tabl
     start-chosen c =
         let (lx, ly) = formed StartWindow f in
         chosen-two (omega arith) (omega arith) (c .ends .first) (c .ends .second) (moment _ _ _ (c .begin) (c .ends .second))
-        (λ us vs r t. startWindow f (rw ex entryAt r) (rw ey entryAt t) (rw em entryAt (c .early)) (rw en entryAt (c .late)) (c .ends .greater))
+        (λ us vs r t. startWindow f (rw ex at r) (rw ey at t) (rw em at (c .early)) (rw en at (c .late)) (c .ends .greater))
 
   -- ---- a task set
 
@@ -194,10 +194,10 @@ module _ {P : Procedure} {T : Trajectory} {size : ℕ} {places sizes limits tabl
         let within = pl .within in
         record {
           few = rw (c .count) (k .few);
-          lower = λ i h. let g = rw (c .count) entryAt h in rw (c .nodes i g) (l i g);
-          begin = λ i h. let g = pl .inside i (rw (c .count) entryAt h) in omega arith;
-          found = λ i h. let g = rw (c .count) entryAt h in rw (c .nodes i g) (c .placed .reads i g);
-          reads = λ us rs. rw (c .count) (set f (λ i h. rw (c .nodes i h) entryAt (rs i (rw (c .count) h))) pl);
+          lower = λ i h. let g = rw (c .count) at h in rw (c .nodes i g) (l i g);
+          begin = λ i h. let g = pl .inside i (rw (c .count) at h) in omega arith;
+          found = λ i h. let g = rw (c .count) at h in rw (c .nodes i g) (c .placed .reads i g);
+          reads = λ us rs. rw (c .count) (set f (λ i h. rw (c .nodes i h) at (rs i (rw (c .count) h))) pl);
         }
 
 -- the members' nodes with a placement
@@ -207,7 +207,7 @@ pub placed-parts : (ms cs vs table : List ℕ) (n b e count : ℕ) {nodes begins
 placed-parts ms cs vs table n b e count h f pl =
     record {
       count = sym h ∙ sym (length-map ms memberNode);
-      nodes = λ i l. f i (rw (length-map ms memberNode) entryAt l) ∙ sym (List·getD-map memberNode ms i 0);
+      nodes = λ i l. f i (rw (length-map ms memberNode) at l) ∙ sym (List·getD-map memberNode ms i 0);
       placed = pl;
     }
 
@@ -215,4 +215,4 @@ pub part-length : (ws : List ℕ) (i k : ℕ) → i + k ≤ length ws → length
 part-length ws i k h = simp (length-take, length-drop) (omega arith)
 
 pub few-members : (ms cs vs table : List ℕ) (n b e : ℕ) → Placeable (taskSetOf ms cs vs n) table b e → length ms ≤ 4
-few-members ms cs vs table n b e s = rw (length-map ms memberNode) entryAt (s .formed .few)
+few-members ms cs vs table n b e s = rw (length-map ms memberNode) at (s .formed .few)

@@ -41,8 +41,8 @@ pub record PlacedParts (s : TaskSet) (table : List ℕ) (b e : ℕ) (r : Parts) 
   pub placed : Placed s (InTable table) b e (beginOf r) (endOf r)
 
 -- what choosing parts, and writing them, needs: the procedure and the trajectory are there, and the table is theirs
-pub record Prepared (P : Procedure) (T : Trajectory) (memberCount : ℕ) (places sizes limits table : List ℕ) : Type 0 where
-  pub ready : WorldReady P T memberCount places sizes limits
+pub record Prepared (P : Procedure) (T : Trajectory) (size : ℕ) (places sizes limits table : List ℕ) : Type 0 where
+  pub ready : WorldReady P T size places sizes limits
   pub found : Found P T table
 
 -- the parts are lower nodes that the table says can be read so, and readings of them, in order, make a reading of p from b to e

@@ -54,7 +54,7 @@ unfolding some
 some-law f zero = (λ h. absurd (false≢true h), λ h. absurd (omega (arith, h .1)))
 some-law f (suc k) = Iff·trans (or-law (f k) (some f k) Iff·rfl (some-law f k)) (
   ⊎-elim (λ h. (k, omega arith, h)) (λ h. (h .0, omega (arith, h .1), h .2)),
-  λ h. by-cases (decLt (h .0) k) (λ l. inr (h .0, l, h .2)) (λ l. let q : h .0 ≡ k = omega (arith, h .1) in inl (rw q entryAt (h .2))),
+  λ h. by-cases (decLt (h .0) k) (λ l. inr (h .0, l, h .2)) (λ l. let q : h .0 ≡ k = omega (arith, h .1) in inl (rw q at (h .2))),
 )
 
 pub each-law : (f : ℕ → Bool) (k : ℕ) → Tells (each f k) ((m : ℕ) → m < k → f m ≡ true)

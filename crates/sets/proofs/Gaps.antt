@@ -60,7 +60,7 @@ module _ {s : TaskSet} {R : ℕ → ℕ → ℕ → Type 0} {b e k : ℕ} {bs Es
       let o = h .rule .placing .inside k inside in
       let j = h .rule .placing .covers t l (omega arith) in
       by-cases (decLt (j .0) k)
-      (λ m. absurd (n (record { entryAt = j .0; below = m; is = spanned (j .0) m (j .2) (j .3) })))
+      (λ m. absurd (n (record { at = j .0; below = m; is = spanned (j .0) m (j .2) (j .3) })))
       (λ m. by-cases (ℕ-discrete (j .0) k)
       (λ q. let u = subst (λ (x : ℕ). h .rule .begins x ≤ t) q (j .2) in absurd (omega arith))
       (λ q. (j .0, omega arith, j .1, j .2, j .3)))
@@ -107,7 +107,7 @@ module _ {s : TaskSet} {R : ℕ → ℕ → ℕ → Type 0} {b e k : ℕ} {bs Es
       let u = j .3 in
       let q : h .rule .ends (j .0) ≡ e = omega arith in
       record {
-        last = record { entryAt = j .0; below = j .1; is = subst (λ (x : ℕ). In (Fs (j .0)) x) q (f (j .0) (j .1)) };
+        last = record { at = j .0; below = j .1; is = subst (λ (x : ℕ). In (Fs (j .0)) x) q (f (j .0) (j .1)) };
         each = λ i l. record { end = h .rule .ends i; member = f i l; late = omega arith; upto = p .inside i l .2 };
       }
 

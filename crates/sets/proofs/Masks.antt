@@ -74,7 +74,7 @@ pub allowed-at : {value : ℕ → ℕ → ℕ} {cs allow : List ℕ} {n : ℕ} �
 allowed-at h c x y l g =
     let d : (c * 64 + x) / 64 ≡ c = omega arith in
     let m : (c * 64 + x) % 64 ≡ x = omega arith in
-    rw (d, m) entryAt (h .mask (c * 64 + x) (omega arith) y)
+    rw (d, m) at (h .mask (c * 64 + x) (omega arith) y)
 
 -- fewer members, fewer conditions
 pub fewer : {s : TaskSet} {R : ℕ → ℕ → ℕ → Type 0} {bs : ℕ → ℕ} {j k i e : ℕ} → j ≤ k → EndOf s R bs k i e → EndOf s R bs j i e
@@ -90,10 +90,10 @@ module _ {s : TaskSet} {R : ℕ → ℕ → ℕ → Type 0} {allow begins r : Li
       -- the masks before the new conditions
       before : (i e : ℕ) → i < k + 1 → In (entryAt (set ends k m) i) e → EndOf s R (entryAt begins) 0 i e
       before i e l t = by-cases (decLt i k)
-          (λ g. fewer (omega arith) (sets .mask i e g .0 (rw (getD-set-other ends k i m 0 (omega arith)) entryAt t)))
+          (λ g. fewer (omega arith) (sets .mask i e g .0 (rw (getD-set-other ends k i m 0 (omega arith)) at t)))
           (λ g.
           let q : i ≡ k = omega arith in
-          let o = own e .0 (rw (q, getD-set-same ends k m 0 long) entryAt t) in
+          let o = own e .0 (rw (q, getD-set-same ends k m 0 long) at t) in
           rw q (record { reads = o .0; onward = o .1; within = o .2; met = λ c l f z. absurd (omega arith) }))
 
       after : (i e : ℕ) → i < k + 1 → EndOf s R (entryAt begins) (k + 1) i e → In (entryAt (set ends k m) i) e
@@ -120,7 +120,7 @@ module _ {s : TaskSet} {R : ℕ → ℕ → ℕ → Type 0} {allow begins r : Li
                 = λ n. asked-at (s .value) (s .last) w (entryAt begins i) e y .0 (allowed-at allowed c y (asked (form w) (entryAt begins i) e) g (omega arith) .0 (o .1 c g f n) .1) in
                 by-cases (decLt i k)
                 (λ h. by-cases (decLt (conditionJ w) k)
-                (λ j. sets .mask i e h .0 (rw (getD-set-other ends k i m 0 (omega arith)) entryAt (o .0)) .met c g f j)
+                (λ j. sets .mask i e h .0 (rw (getD-set-other ends k i m 0 (omega arith)) at (o .0)) .met c g f j)
                 (λ j. new (record { first = omega arith; second = omega arith; one = inr (omega arith) })))
                 (λ h. new (record { first = omega arith; second = omega arith; one = inl (omega arith) }));
           }
@@ -140,5 +140,5 @@ module _ {s : TaskSet} {R : ℕ → ℕ → ℕ → Type 0} {allow begins r : Li
 pub small-set : (ends : List ℕ) (k m : ℕ) → k < length ends → ((e : ℕ) → In m e → e < 64) → ((i e : ℕ) → In (entryAt ends i) e → e < 64)
     → (i e : ℕ) → In (entryAt (set ends k m) i) e → e < 64
 small-set ends k m l g h i e t = by-cases (ℕ-discrete i k)
-    (λ q. g e (rw (q, getD-set-same ends k m 0 l) entryAt t))
-    (λ q. h i e (rw (getD-set-other ends k i m 0 q) entryAt t))
+    (λ q. g e (rw (q, getD-set-same ends k m 0 l) at t))
+    (λ q. h i e (rw (getD-set-other ends k i m 0 q) at t))

@@ -43,7 +43,7 @@ loop-again c =
       simp length-set (l .inv .1),
       below-more (λ j. (e : ℕ) → In (entryAt (set (l .ends) (l .i) r) j) e ↔ Begun (InTable (s .args .table .now)) (memberNode (getD (s .args .members .now) j 0)) (s .args .b) (s .args .n + 1) (s .args .n) e) (l .i)
           (λ j g e. rw (getD-set-other (l .ends) (l .i) j r 0 (omega arith)) (l .inv .2 j g e))
-          (λ e. rw (getD-set-same (l .ends) (l .i) r 0 long) (rw (c .before .member-node .ensures .0) entryAt (c .ends-from .ensures e))),
+          (λ e. rw (getD-set-same (l .ends) (l .i) r 0 long) (rw (c .before .member-node .ensures .0) at (c .ends-from .ensures e))),
       small-set (l .ends) (l .i) r long (λ e t. omega (arith, c .ends-from .ensures e .0 t .within, s .pre .3)) (l .inv .3),
     )
 

@@ -43,7 +43,7 @@ returns c = λ e h l.
     let g = s .pre .0 in
     let m = c .before .ends-from in
     c .attained .ensures e .1 (subst (λ (x : ℕ). Attained x (entryAt (set (a .ends) (a .k) (m .result))) e) (length-map (a .members .now) memberNode)
-    (attains (g .sets) (left s .0) h (in-open (a .ends) (m .result) (g .sets) (left s .0) (left s .2) (λ y. rw (node (c .before .before)) entryAt (m .ensures y)) (g .later) h l)))
+    (attains (g .sets) (left s .0) h (in-open (a .ends) (m .result) (g .sets) (left s .0) (left s .2) (λ y. rw (node (c .before .before)) at (m .ensures y)) (g .later) h l)))
 
 pub open-ends-spec : {M : Type 1} → statement M
 open-ends-spec =

@@ -49,7 +49,7 @@ narrow-requires c κs = let s = c .before .before .before .before .before .befor
 returns : tie.Need-returns
 returns c = let s = c .before .before .before .before .before .before .before .before in let g = s .pre .0 in (
   extend (s .args .ends) (c .before .ends-at .result) (g .formed .moments) (g .allowed) (g .moments) (omega (arith, left s))
-      (λ e. rw (node (c .before .before)) entryAt (c .before .ends-at .ensures e)) (g .sets) (c .narrow .ensures),
+      (λ e. rw (node (c .before .before)) at (c .before .ends-at .ensures e)) (g .sets) (c .narrow .ensures),
   λ i e t. new-small (c .before) i e (c .narrow .ensures .mask i e .0 t .0),
   λ i e l t. c .narrow .ensures .mask i e .1 (rw (getD-set-other (s .args .ends) (s .args .k) i (c .before .ends-at .result) 0 (omega arith)) t, λ d m q o. let f = o .first in absurd (omega arith)),
 )

@@ -68,7 +68,7 @@ loop-again c =
       ⊎-elim (λ z. rw (z .5) (simp length-set (k .inv .1))) (λ z. rw (z .1) (k .inv .1)) (c .if1 .came),
       ⊎-elim
           (λ z. rw (z .5, qi) (narrow-more (z .3 .result) (z .4 .result) (k .inv .1) (s .pre .named (k .c) (i .before .before .loop-test .taken) .0) (s .pre .small)
-          (rw (qi, qj) entryAt (g .0 (z .0 .taken))) (λ e l. rw (qi, qj, z .1 .ensures .0) entryAt (z .3 .ensures e l)) (λ e. rw qi entryAt (in-both (z .4 .ensures) e)) (k .inv .2)))
+          (rw (qi, qj) at (g .0 (z .0 .taken))) (λ e l. rw (qi, qj, z .1 .ensures .0) at (z .3 .ensures e l)) (λ e. rw qi at (in-both (z .4 .ensures) e)) (k .inv .2)))
           (λ z. rw (z .1) (narrow-skip (λ n. not-both (g .1 (rw (qi, qj) n)) (z .0 .left)) (k .inv .2)))
           (c .if1 .came),
     )

@@ -42,11 +42,11 @@ returns-2 c = λ e.
     let both = in-both (c .inter .ensures) e in
     let late = in-from (c .before .from .ensures) e in (
       λ t. let p = both .0 t in let j = k .loop .inv .3 e .0 (p .0) in let l = late .0 (p .1) in record {
-        last = record { entryAt = j .at; below = omega (arith, j .below); is = j .is };
+        last = record { at = j .at; below = omega (arith, j .below); is = j .is };
         each = λ i g. k .loop .inv .2 e (l .1) .0 (l .0) i (omega arith);
       },
       λ h. let j = h .last in let l = k .before .pre .1 (j .at) e (j .is) in
-          both .1 (k .loop .inv .3 e .1 (record { entryAt = j .at; below = omega (arith, j .below); is = j .is }), late .1 (k .loop .inv .2 e l .1 (λ i g. h .each i (omega arith)), l)),
+          both .1 (k .loop .inv .3 e .1 (record { at = j .at; below = omega (arith, j .below); is = j .is }), late .1 (k .loop .inv .2 e l .1 (λ i g. h .each i (omega arith)), l)),
     )
 
 pub attained-spec : {M : Type 1} → statement M

@@ -21,13 +21,13 @@ loop-holds : tie.Need-loop-holds Inv-loop μ-loop
 loop-holds c = (omega arith, some-none)
 
 returns : tie.Need-returns Inv-loop μ-loop
-returns c = (λ z. record { entryAt = _; below = c .before .loop-test .taken; is = c .if1 .taken }, λ s. refl)
+returns c = (λ z. record { at = _; below = c .before .loop-test .taken; is = c .if1 .taken }, λ s. refl)
 
 loop-again : tie.Need-loop-again Inv-loop μ-loop
 loop-again c = (omega arith, λ s. ⊎-elim (c .before .before .loop .inv .1) (c .if1 .left) (some-more _ .0 s))
 
 returns-2 : tie.Need-returns-2 Inv-loop μ-loop
-returns-2 c = (λ z. absurd (false≢true z), λ s. absurd (c .before .loop .inv .1 (record { entryAt = s .at; below = omega (arith, s .below); is = s .is })))
+returns-2 c = (λ z. absurd (false≢true z), λ s. absurd (c .before .loop .inv .1 (record { at = s .at; below = omega (arith, s .below); is = s .is })))
 
 pub begins-at-spec : {M : Type 1} → statement M
 begins-at-spec =

@@ -25,8 +25,8 @@ loop-again c = (omega arith, in-more (λ e. ⊎-elim (λ w. rw (w .2) (gain-yes 
 
 returns : tie.Need-returns Inv-loop μ-loop
 returns c = let l = c .before .loop in λ e. (
-  λ t. let s = l .inv .1 e .0 t in record { entryAt = s .at; below = omega (arith, s .below); is = s .is },
-  λ s. l .inv .1 e .1 (record { entryAt = s .at; below = omega (arith, s .below); is = s .is }),
+  λ t. let s = l .inv .1 e .0 t in record { at = s .at; below = omega (arith, s .below); is = s .is },
+  λ s. l .inv .1 e .1 (record { at = s .at; below = omega (arith, s .below); is = s .is }),
 )
 
 pub ends-before-spec : {M : Type 1} → statement M

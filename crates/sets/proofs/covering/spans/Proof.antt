@@ -27,8 +27,8 @@ loop-again c = (omega arith, in-more (λ t. gain (c .before .span .result) (c .u
 
 returns : tie.Need-returns Inv-loop μ-loop
 returns c = let l = c .before .loop in λ t. (
-  λ u. let s = l .inv .1 t .0 u in record { entryAt = s .at; below = omega (arith, s .below); is = s .is },
-  λ s. l .inv .1 t .1 (record { entryAt = s .at; below = omega (arith, s .below); is = s .is }),
+  λ u. let s = l .inv .1 t .0 u in record { at = s .at; below = omega (arith, s .below); is = s .is },
+  λ s. l .inv .1 t .1 (record { at = s .at; below = omega (arith, s .below); is = s .is }),
 )
 
 pub spans-spec : {M : Type 1} → statement M

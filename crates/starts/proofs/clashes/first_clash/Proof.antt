@@ -21,28 +21,6 @@ Inv-loop job durations effects starts table latest₀ i₀ latest i = (i ≤ len
 abbrev μ-loop : tie.MeasureT-loop
 μ-loop job durations effects starts table latest₀ i₀ latest i = length starts - i
 
--- the places of the code that the proof speaks of
-abbrev entry1 : tie.After-loop Inv-loop μ-loop → tie.Start Inv-loop μ-loop
-entry1 c = c .before .before .before .before .before
-
-abbrev entry2 : tie.After-start-moment Inv-loop μ-loop → tie.Start Inv-loop μ-loop
-entry2 c = c .before .before .before .before .before .before .before .before .before .before
-
-abbrev after-clash-table : tie.After-start-moment Inv-loop μ-loop → tie.After-clash-table Inv-loop μ-loop
-after-clash-table c = c .before .before .before .before .before .before .before
-
-abbrev turn : tie.After-clashes-after Inv-loop μ-loop → tie.At-loop Inv-loop μ-loop
-turn c = c .before .before .before .before .before .before .before
-
-abbrev inside : tie.After-start-moment Inv-loop μ-loop → tie.In-loop Inv-loop μ-loop
-inside c = c .before .before .before .before .before
-
-abbrev after-shared-slice-known3 : tie.After-clashes-after Inv-loop μ-loop → tie.After-shared-slice-known3 Inv-loop μ-loop
-after-shared-slice-known3 c = c .before .before .before .before .before
-
-abbrev after-start-action : tie.After-clashes-after Inv-loop μ-loop → tie.After-start-action Inv-loop μ-loop
-after-start-action c = c .before .before .before .before
-
 clash-table-requires : tie.Need-clash-table-requires Inv-loop μ-loop
 clash-table-requires c κs = (c .before .before .pre .0, c .before .before .pre .2)
 
@@ -50,37 +28,31 @@ loop-holds : tie.Need-loop-holds Inv-loop μ-loop
 loop-holds c = (omega arith, first-start _, latest-start _ _)
 
 clashes-after-requires : tie.Need-clashes-after-requires Inv-loop μ-loop
-clashes-after-requires c κs =
-    let start = entry2 c in
-    (start .pre .0, after-clash-table c .clash-table .ensures, rw (c .before .before .before .start-action .ensures .0) (right-word (start .pre .3) _ (inside c .loop-test .taken) .action))
+clashes-after-requires c κs = (c .before .before .before .before .before .before .before .before .before .before .pre .0, c .before .before .before .before .before .before .before .clash-table .ensures, rw (c .before .before .before .start-action .ensures .0) (right-word (c .before .before .before .before .before .before .before .before .before .before .pre .3) _ (c .before .before .before .before .before .loop-test .taken) .action))
 
 returns : tie.Need-returns Inv-loop μ-loop
-returns c =
-    let start = entry2 (c .before .before) in
-    let args = start .args in
-    let pre = start .pre in
-    let loop = turn (c .before) .loop in
-    let test = inside (c .before .before) .loop-test .taken in
-    let is = clash-is (args .job .now) (args .starts .now) (λ j. omega (arith, after-shared-slice-known3 (c .before) .shared-slice-known3 .given j)) (pre .3) (loop .i) test (loop .latest) (loop .inv .2) (pre .0) in
+returns c = let args = c .before .before .before .before .before .before .before .before .before .before .before .before .args in
+    let pre = c .before .before .before .before .before .before .before .before .before .before .before .before .pre in
+    let loop = c .before .before .before .before .before .before .before .before .loop in
+    let test = c .before .before .before .before .before .before .before .loop-test .taken in
+    let is = clash-is (args .job .now) (args .starts .now) (λ j. omega (arith, c .before .before .before .before .before .before .shared-slice-known3 .given j)) (pre .3) (loop .i) test (loop .latest) (loop .inv .2) (pre .0) in
     sym (row-found (clashes (args .job .now) (args .starts .now)) 9 _ _ (omega arith) (loop .inv .1)
-    (rw (is, ← c .before .before .start-moment .ensures .0, ← after-start-action (c .before) .start-action .ensures .0) (sym (c .before .clashes-after .ensures) ∙ c .if1 .taken)) test)
+    (rw (is, ← c .before .before .start-moment .ensures .0, ← c .before .before .before .before .before .start-action .ensures .0) (sym (c .before .clashes-after .ensures) ∙ c .if1 .taken)) test)
 
 finish-of-requires : tie.Need-finish-of-requires Inv-loop μ-loop
-finish-of-requires c κs = entry2 (c .before .before) .pre .1 .small _
+finish-of-requires c κs = c .before .before .before .before .before .before .before .before .before .before .before .before .pre .1 .small _
 
 array-write-latest : tie.Need-array-write-latest Inv-loop μ-loop
-array-write-latest c = omega (arith, turn (c .before .before) .loop .inv .2 .size)
+array-write-latest c = omega (arith, c .before .before .before .before .before .before .before .before .before .loop .inv .2 .size)
 
 loop-again : tie.Need-loop-again Inv-loop μ-loop
-loop-again c =
-    let start = entry2 (c .before .before .before) in
-    let args = start .args in
-    let pre = start .pre in
-    let loop = turn (c .before .before) .loop in
-    let test = inside (c .before .before .before) .loop-test .taken in
-    let words : (j : ℕ) → getD (args .starts .now) j 0 < 2 ^ 32 = λ j. omega (arith, after-shared-slice-known3 (c .before .before) .shared-slice-known3 .given j) in
+loop-again c = let args = c .before .before .before .before .before .before .before .before .before .before .before .before .before .args in
+    let pre = c .before .before .before .before .before .before .before .before .before .before .before .before .before .pre in
+    let loop = c .before .before .before .before .before .before .before .before .before .loop in
+    let test = c .before .before .before .before .before .before .before .before .loop-test .taken in
+    let words : (j : ℕ) → getD (args .starts .now) j 0 < 2 ^ 32 = λ j. omega (arith, c .before .before .before .before .before .before .before .shared-slice-known3 .given j) in
     let is = clash-is (args .job .now) (args .starts .now) words (pre .3) (loop .i) test (loop .latest) (loop .inv .2) (pre .0) in
-    let a = after-start-action (c .before .before) .start-action .ensures .0 in (
+    let a = c .before .before .before .before .before .before .start-action .ensures .0 in (
       omega arith,
       row-more (clashes (args .job .now) (args .starts .now)) 9 _ (loop .inv .1)
           (rw (is, ← c .before .before .before .start-moment .ensures .0, ← a) (sym (c .before .before .clashes-after .ensures) ∙ c .before .if1 .left)),
@@ -89,7 +61,7 @@ loop-again c =
     )
 
 returns-2 : tie.Need-returns-2 Inv-loop μ-loop
-returns-2 c = let e : c .before .loop .i ≡ length (entry1 c .args .starts .now) = omega arith in rw (← e) (sym (c .before .loop .inv .1))
+returns-2 c = let e : c .before .loop .i ≡ length (c .before .before .before .before .before .args .starts .now) = omega arith in rw (← e) (sym (c .before .loop .inv .1))
 
 pub first-clash-spec : {M : Type 1} → statement M
 first-clash-spec =

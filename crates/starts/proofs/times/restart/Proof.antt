@@ -22,46 +22,26 @@ Inv-loop job durations starts latest₀ i₀ latest i = (i ≤ length starts) ×
 abbrev μ-loop : tie.MeasureT-loop
 μ-loop job durations starts latest₀ i₀ latest i = length starts - i
 
--- the places of the code that the proof speaks of
-abbrev entry1 : tie.After-loop Inv-loop μ-loop → tie.Start Inv-loop μ-loop
-entry1 c = c .before .before .before .before
-
-abbrev entry2 : tie.After-start-moment Inv-loop μ-loop → tie.Start Inv-loop μ-loop
-entry2 c = c .before .before .before .before .before .before .before
-
-abbrev turn : tie.After-start-moment Inv-loop μ-loop → tie.At-loop Inv-loop μ-loop
-turn c = c .before .before .before .before
-
-abbrev inside : tie.After-start-moment Inv-loop μ-loop → tie.In-loop Inv-loop μ-loop
-inside c = c .before .before .before
-
-abbrev after-shared-slice-known3 : tie.After-finish-of Inv-loop μ-loop → tie.After-shared-slice-known3 Inv-loop μ-loop
-after-shared-slice-known3 c = c .before .before .before .before
-
 loop-holds : tie.Need-loop-holds Inv-loop μ-loop
 loop-holds c = (omega arith, first-start _, latest-start _ _)
 
 returns : tie.Need-returns Inv-loop μ-loop
-returns c =
-    let start = entry2 (c .before) in
-    let args = start .args in
-    let loop = turn (c .before) .loop in
-    let test = inside (c .before) .loop-test .taken in
-    let is = restart-is (args .job .now) (args .starts .now) (λ j. omega (arith, c .before .before .before .shared-slice-known3 .given j)) (start .pre .2) (loop .i) test (loop .latest) (loop .inv .2) in
+returns c = let args = c .before .before .before .before .before .before .before .before .args in
+    let loop = c .before .before .before .before .before .loop in
+    let test = c .before .before .before .before .loop-test .taken in
+    let is = restart-is (args .job .now) (args .starts .now) (λ j. omega (arith, c .before .before .before .shared-slice-known3 .given j)) (c .before .before .before .before .before .before .before .before .pre .2) (loop .i) test (loop .latest) (loop .inv .2) in
     sym (row-found (inHandAlready (args .job .now) (args .starts .now)) 8 _ _ (omega arith) (loop .inv .1)
     (rw (is, ← c .before .start-moment .ensures .0, ← c .before .before .start-action .ensures .0) (lt-ltb _ _ (c .if1 .taken))) test)
 
 finish-of-requires : tie.Need-finish-of-requires Inv-loop μ-loop
-finish-of-requires c κs = entry2 (c .before) .pre .1 .small _
+finish-of-requires c κs = c .before .before .before .before .before .before .before .before .pre .1 .small _
 
 loop-again : tie.Need-loop-again Inv-loop μ-loop
-loop-again c =
-    let start = entry2 (c .before .before) in
-    let args = start .args in
-    let pre = start .pre in
-    let loop = turn (c .before .before) .loop in
-    let test = inside (c .before .before) .loop-test .taken in
-    let words : (j : ℕ) → getD (args .starts .now) j 0 < 2 ^ 32 = λ j. omega (arith, after-shared-slice-known3 c .shared-slice-known3 .given j) in
+loop-again c = let args = c .before .before .before .before .before .before .before .before .before .args in
+    let pre = c .before .before .before .before .before .before .before .before .before .pre in
+    let loop = c .before .before .before .before .before .before .loop in
+    let test = c .before .before .before .before .before .loop-test .taken in
+    let words : (j : ℕ) → getD (args .starts .now) j 0 < 2 ^ 32 = λ j. omega (arith, c .before .before .before .before .shared-slice-known3 .given j) in
     let is = restart-is (args .job .now) (args .starts .now) words (pre .2) (loop .i) test (loop .latest) (loop .inv .2) in
     let a = c .before .before .before .start-action .ensures .0 in (
       omega arith,
@@ -72,7 +52,7 @@ loop-again c =
     )
 
 returns-2 : tie.Need-returns-2 Inv-loop μ-loop
-returns-2 c = let e : c .before .loop .i ≡ length (entry1 c .args .starts .now) = omega arith in rw (← e) (sym (c .before .loop .inv .1))
+returns-2 c = let e : c .before .loop .i ≡ length (c .before .before .before .before .args .starts .now) = omega arith in rw (← e) (sym (c .before .loop .inv .1))
 
 pub restart-spec : {M : Type 1} → statement M
 restart-spec =
