@@ -7,8 +7,8 @@ use Rattle.job.specs.Before.{before, previous, countOfKind, since, latest, name
 use Rattle.job.specs.Parts.{duration, lawsOf, formulaWord, nodeWord, memberWords, conditionWords}
 use Rattle.job.specs.Rules.{wordRefusalOf}
 use Rattle.job.specs.Refusal.{wordRefusal, refusalOf, nameRefusal, endRefusal, jobRefusal}
-use Rattle.facts.specs.Actions.{effect}
-use Rattle.facts.specs.Values.{initially, nextValue, valueAt}
+use Rattle.history.specs.Actions.{effect}
+use Rattle.history.specs.Values.{initially, nextValue, valueAt}
 use Rattle.facts.specs.Facts.{factsAt, factsOf}
 use Rattle.formulas.specs.Values.{formValue, formulaBelow, formulaAt}
 use Rattle.starts.specs.Rows.{wrongWord, endsLate, inHandAlready, clash, together, clashes, needsUnmet, rowsRefusal, startsRefusal}

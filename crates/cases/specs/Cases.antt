@@ -11,7 +11,7 @@ use Rattle.answers.specs.declared.Answer.the-variants.{Accepted, Refused}
 use Rattle.job.specs.Parts.{lastMoment, nodeCount}
 use Rattle.theory.specs.Answers.{checkRefusal}
 use Rattle.theory.specs.Trajectory.{trajectoryOf}
-use Rattle.promise.specs.Procedure.{Procedure}
+use Rattle.model.specs.Procedure.{Procedure}
 use Rattle.theory.specs.Procedure.{procedureOf}
 use Rattle.reading.specs.Forms.{Form, Act, Test, Sequence, Choice, If, While, StartWindow, EndWindow, Set, Reserved, formAt, fieldX, fieldY}
 use Rattle.reading.specs.Count.{Triple}

@@ -15,8 +15,8 @@ use Rattle.sets.specs.Ends.{InTable}
 use Rattle.words.specs.Scan.{concatBelow}
 use Rattle.words.specs.Fields.{readingWord}
 use Rattle.words.proofs.Choices.{true-false}
-use Rattle.promise.specs.Trajectory.{Trajectory}
-use Rattle.promise.specs.Procedure.{Procedure}
+use Rattle.model.specs.Trajectory.{Trajectory}
+use Rattle.model.specs.Procedure.{Procedure}
 use Rattle.reading.specs.Forms.{Form, While, formNumber, formAt, fieldY}
 use Rattle.reading.specs.Reading.{whole, passes, Reading, act, test, sequence, first, second, taken, otherwise, loop, done, pass, startWindow, endWindow, set}
 use Rattle.reading.proofs.Step.{onward}

@@ -6,8 +6,8 @@ use lib.ListN.{length, drop}
 use lib.Seq.{sets}
 use Rattle.sets.specs.Ends.{InTable}
 use Rattle.words.specs.Fields.{readingWord}
-use Rattle.promise.specs.Trajectory.{Trajectory}
-use Rattle.promise.specs.Procedure.{Procedure}
+use Rattle.model.specs.Trajectory.{Trajectory}
+use Rattle.model.specs.Procedure.{Procedure}
 use Rattle.reading.specs.Reading.{whole, Reading}
 use Rattle.lengths.specs.Children.{NamedOnce}
 use Rattle.lengths.specs.Bound.{lengthBound}

@@ -10,9 +10,9 @@ use Rattle.words.specs.Scan.{concatBelow}
 use Rattle.words.specs.Fields.{unknown, holds}
 use Rattle.job.specs.Parts.{headWord, fluents, lastMoment}
 use Rattle.job.specs.WellFormed.{WellFormed}
-use Rattle.facts.specs.Values.{valueAt}
+use Rattle.history.specs.Values.{valueAt}
 use Rattle.facts.specs.Facts.{factOf, factsAt, factsOf}
-use Rattle.facts.proofs.Values.{pick-most}
+use Rattle.history.proofs.Values.{pick-most}
 
 -- the words ascend strictly, and lie from low to below high
 data Climbs : ℕ → List ℕ → ℕ → Type 0 where

@@ -1,7 +1,3 @@
--- Laws that belong to no one function: Stores (what stores leave), Moments (the state at the next moment, by two passes over
--- the starts), Values (values are at most 2), Lists (lists of facts: how long they are, how they are written), Ascent (they ascend).
-pub mod Stores
-pub mod Moments
-pub mod Values
+-- Laws that belong to no one function: Lists (lists of facts: how long they are, how they are written), Ascent (they ascend).
 pub mod Lists
 pub mod Ascent

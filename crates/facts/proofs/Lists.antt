@@ -13,8 +13,9 @@ use Rattle.words.specs.Scan.{concatBelow}
 use Rattle.words.specs.Fields.{unknown, factWord}
 use Rattle.job.specs.Parts.{headWord, fluents, lastMoment}
 use Rattle.job.specs.WellFormed.{WellFormed}
-use Rattle.facts.specs.Values.{valueAt}
-use Rattle.facts.specs.Tables.{stateFacts, StateAt}
+use Rattle.history.specs.Values.{valueAt}
+use Rattle.facts.specs.Written.{stateFacts}
+use Rattle.history.specs.Tables.{StateAt}
 use Rattle.facts.specs.Facts.{factOf, factsAt, factsOf}
 
 -- one list written after another

@@ -6,7 +6,7 @@ use lib.Dec.{eqb}
 use Rattle.words.specs.Fields.{unknown, factWord}
 use Rattle.words.specs.Scan.{concatBelow}
 use Rattle.job.specs.Parts.{headWord, fluents, lastMoment}
-use Rattle.facts.specs.Values.{valueAt}
+use Rattle.history.specs.Values.{valueAt}
 
 -- the fact word of a value, where it is not open
 abbrev pub factOf : ℕ → ℕ → ℕ → ℕ → List ℕ

@@ -1,7 +1,3 @@
--- The definitions that the contracts of `facts` cite: Actions (effects, and what a start does at a moment), Values (the value of a fluent
--- at a moment), Facts (the list of facts), Tables (what the tables of actions and states are), Stores (what stores into them leave).
-pub mod Actions
-pub mod Values
+-- The definitions that the contracts of `facts` cite: Facts (the list of facts), Written (what the writers leave in a buffer).
 pub mod Facts
-pub mod Tables
-pub mod Stores
+pub mod Written

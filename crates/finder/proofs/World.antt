@@ -25,9 +25,9 @@ use Rattle.job.specs.WellFormed.{WellFormed}
 use Rattle.job.proofs.Laws.{before-more}
 use Rattle.job.proofs.Parts.{word, word-at}
 use Rattle.job.proofs.ByPlace.{word-place, words-after}
-use Rattle.promise.specs.Trajectory.{Trajectory}
+use Rattle.model.specs.Trajectory.{Trajectory}
 use Rattle.theory.specs.Trajectory.{trajectoryOf}
-use Rattle.promise.specs.Procedure.{Procedure}
+use Rattle.model.specs.Procedure.{Procedure}
 use Rattle.theory.specs.Procedure.{procedureOf}
 use Rattle.theory.proofs.Followers.{members-at, conditions-at, conditions-fit}
 use Rattle.reading.specs.Forms.{formNumber, formAt, fieldX, FormedAs}

@@ -7,7 +7,7 @@ use borrow.Author.Count.{below-more}
 use lib.ListN.{length, getD, set, replicate, length-set, length-replicate}
 use lib.Seq.{getD-set-same, getD-set-other}
 use Rattle.job.specs.Parts.{formulaCount}
-use Rattle.facts.proofs.Stores.{set-all, replicate-all}
+use Rattle.history.proofs.Stores.{set-all, replicate-all}
 use Rattle.formulas.specs.Values.{formulaAt}
 use Rattle.formulas.specs.Table.{Small, ColumnAt, ColumnsBefore}
 

@@ -10,9 +10,9 @@ use lib.ListN.{getD}
 use Rattle.words.specs.Fields.{form, holds, formulaX, formulaY, atomFluent}
 use Rattle.job.specs.Parts.{headWord, formulaWord, formulaCount}
 use Rattle.job.specs.WellFormed.{WellFormed}
-use Rattle.facts.specs.Values.{valueAt}
-use Rattle.facts.specs.Tables.{StateAt}
-use Rattle.facts.proofs.Values.{pick-most}
+use Rattle.history.specs.Values.{valueAt}
+use Rattle.history.specs.Tables.{StateAt}
+use Rattle.history.proofs.Values.{pick-most}
 use Rattle.formulas.specs.Values.{byTable, formValue, formulaBelow, formulaAt}
 use Rattle.formulas.specs.Table.{Small, ColumnAt}
 

@@ -7,7 +7,7 @@ use Prim.Native.Nat.{ℕ, zero, suc, _+_, _≤_, _<_}
 use native.Mathlib.Decide.{ℕ-discrete, decLt}
 use native.Mathlib.Omega.{arith}
 use borrow.Author.Tests.{lt-ltb, le-ltb}
-use Rattle.promise.specs.Procedure.{Procedure}
+use Rattle.model.specs.Procedure.{Procedure}
 use Rattle.reading.specs.Forms.{formAt}
 use Rattle.lengths.specs.Children.{children, NamedOnce}
 use Rattle.lengths.specs.Bound.{isWhile, isChild, loopWithin, loopAbove}

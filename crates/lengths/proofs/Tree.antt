@@ -5,7 +5,7 @@ use Prim.Native.Nat.{ℕ, zero, suc, _+_, _*_, _≤_, _<_}
 use native.Mathlib.Nat.{le-refl, le-of-eq, one-mul, add-mul}
 use native.Mathlib.Omega.{arith}
 use Rattle.bitset.specs.Members.{sumBelow}
-use Rattle.promise.specs.Procedure.{Procedure}
+use Rattle.model.specs.Procedure.{Procedure}
 use Rattle.words.specs.Scan.{count}
 use Rattle.lengths.specs.Children.{children, NamedOnce}
 use Rattle.lengths.proofs.Sums.{total, Below, below-le, below-times, sum-cong, sum-both, total-cong, total-times}

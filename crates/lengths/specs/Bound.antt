@@ -4,7 +4,7 @@ use mathlib.Core.Bool.{Bool, true, false, cond, _&&_, _||_}
 use lib.Dec.{ltb}
 use Rattle.words.specs.Scan.{anyBelow, count}
 use Rattle.bitset.specs.Members.{sumBelow}
-use Rattle.promise.specs.Procedure.{Procedure}
+use Rattle.model.specs.Procedure.{Procedure}
 use Rattle.reading.specs.Forms.{Form, Act, Test, Sequence, Choice, If, While, StartWindow, EndWindow, Set, Reserved, formAt}
 use Rattle.lengths.specs.Children.{children}
 

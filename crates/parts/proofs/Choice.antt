@@ -7,8 +7,8 @@ use native.Mathlib.Omega.{arith}
 use lib.ListN.{length, getD, take, drop, length-map, length-take, length-drop, List·getD-map}
 use Rattle.words.specs.Scan.{concatBelow}
 use Rattle.words.specs.Fields.{holds, memberNode, readingWord}
-use Rattle.promise.specs.Trajectory.{Trajectory}
-use Rattle.promise.specs.Procedure.{Procedure}
+use Rattle.model.specs.Trajectory.{Trajectory}
+use Rattle.model.specs.Procedure.{Procedure}
 use Rattle.sets.specs.Ends.{taskSetOf, entryAt, Placeable, Placed, InTable}
 use Rattle.reading.specs.Forms.{Form, Act, Test, Sequence, Choice, If, While, StartWindow, EndWindow, Set, Reserved, formNumber, formAt, fieldX, fieldY, fieldM, fieldN, FormedAs, taskSet}
 use Rattle.reading.specs.Reading.{whole, Reading, act, test, sequence, first, second, taken, otherwise, startWindow, endWindow, set, HasReading}

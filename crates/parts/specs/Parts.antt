@@ -5,8 +5,8 @@ use mathlib.Core.List.{List, [], _∷_}
 use lib.ListN.{getD}
 use Rattle.words.specs.Scan.{concatBelow}
 use Rattle.words.specs.Fields.{readingWord}
-use Rattle.promise.specs.Trajectory.{Trajectory}
-use Rattle.promise.specs.Procedure.{Procedure}
+use Rattle.model.specs.Trajectory.{Trajectory}
+use Rattle.model.specs.Procedure.{Procedure}
 use Rattle.sets.specs.Set.{TaskSet, memberCount, member}
 use Rattle.sets.specs.Ends.{Placed, InTable}
 use Rattle.reading.specs.Reading.{whole, Reading}

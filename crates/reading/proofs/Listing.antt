@@ -11,8 +11,8 @@ use Rattle.sets.specs.Ends.{InTable}
 use Rattle.words.specs.Tests.{indicator}
 use Rattle.bitset.specs.Members.{has, In, countBelow, sumBelow, pairs, popCount}
 use Rattle.bitset.proofs.Counts.{count-le}
-use Rattle.promise.specs.Trajectory.{Trajectory}
-use Rattle.promise.specs.Procedure.{Procedure}
+use Rattle.model.specs.Trajectory.{Trajectory}
+use Rattle.model.specs.Procedure.{Procedure}
 use Rattle.reading.specs.Table.{Found}
 use Rattle.reading.specs.Count.{Triple, Distinct, none, more, Read, Counted}
 use Rattle.reading.proofs.Step.{onward}

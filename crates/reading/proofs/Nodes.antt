@@ -8,8 +8,8 @@ use native.Mathlib.Omega.{arith}
 use lib.ListN.{length, getD, take, drop}
 use Rattle.bitset.specs.Members.{In}
 use Rattle.words.specs.Fields.{form}
-use Rattle.promise.specs.Trajectory.{Trajectory}
-use Rattle.promise.specs.Procedure.{Procedure}
+use Rattle.model.specs.Trajectory.{Trajectory}
+use Rattle.model.specs.Procedure.{Procedure}
 use Rattle.sets.specs.Set.{TaskSet, member, SetRule}
 use Rattle.sets.specs.Ends.{taskSetOf, SetReady, SetRows, InTable}
 use Rattle.sets.proofs.Stored.{rule-map}

@@ -8,8 +8,8 @@ use lib.ListN.{length, getD}
 use Rattle.sets.specs.Ends.{entryAt}
 use Rattle.words.specs.Tests.{implies}
 use Rattle.words.specs.Fields.{form, fails, holds, conditionFormula, conditionI, conditionJ, conditionM, conditionN}
-use Rattle.promise.specs.Trajectory.{Trajectory}
-use Rattle.promise.specs.Procedure.{Procedure}
+use Rattle.model.specs.Trajectory.{Trajectory}
+use Rattle.model.specs.Procedure.{Procedure}
 use Rattle.sets.specs.Set.{TaskSet, memberCount}
 use Rattle.reading.specs.Forms.{Form, Act, Test, Sequence, Choice, If, While, StartWindow, EndWindow, Set, Reserved, formAt, fieldX, fieldY, fieldM, fieldN, taskSet}
 

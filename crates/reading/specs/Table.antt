@@ -6,8 +6,8 @@ use mathlib.Core.List.{List}
 use lib.ListN.{length, getD}
 use Rattle.sets.specs.Ends.{InTable}
 use Rattle.bitset.specs.Members.{In}
-use Rattle.promise.specs.Trajectory.{Trajectory}
-use Rattle.promise.specs.Procedure.{Procedure}
+use Rattle.model.specs.Trajectory.{Trajectory}
+use Rattle.model.specs.Procedure.{Procedure}
 use Rattle.reading.specs.Forms.{Set, formAt, FormedAs}
 use Rattle.reading.specs.Reading.{HasReading}
 use Rattle.reading.specs.Rule.{Rule}

@@ -7,8 +7,8 @@ use mathlib.Core.List.{List, [], map}
 use lib.ListN.{length, getD, take, drop}
 use Rattle.bitset.specs.Members.{has}
 use Rattle.words.specs.Fields.{memberNode}
-use Rattle.promise.specs.Trajectory.{Trajectory}
-use Rattle.promise.specs.Procedure.{Procedure}
+use Rattle.model.specs.Trajectory.{Trajectory}
+use Rattle.model.specs.Procedure.{Procedure}
 use Rattle.reading.specs.Forms.{formAt, FormedAs}
 
 abbrev pub procedureAt : ℕ → List ℕ → List ℕ → List ℕ → List ℕ → Procedure

@@ -13,7 +13,7 @@ use Rattle.words.specs.Fields.{startMoment, startAction}
 use Rattle.words.proofs.Choices.{is-false, both-true}
 use Rattle.job.specs.Parts.{actions, lastMoment, duration}
 use Rattle.job.specs.WellFormed.{WellFormed}
-use Rattle.facts.specs.Actions.{finish, inHand}
+use Rattle.history.specs.Actions.{finish, inHand}
 use Rattle.starts.specs.Rows.{restarts, inHandAlready, together, clashing, clashes}
 use Rattle.words.specs.Scan.{anyBelow}
 use Rattle.starts.specs.Latest.{StartsFormed, Unfinished, Latest, clashesAfter}

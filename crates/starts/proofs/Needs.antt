@@ -12,8 +12,8 @@ use Rattle.words.specs.Fields.{ofKind, kind, fails, holds, fluentOf, roleOf}
 use Rattle.words.specs.Scan.{any, takeWhile}
 use Rattle.job.specs.Parts.{headWord, fluents, actions, lawsOf}
 use Rattle.job.specs.WellFormed.{WellFormed, Indexed}
-use Rattle.facts.specs.Values.{valueAt}
-use Rattle.facts.specs.Tables.{StateAt}
+use Rattle.history.specs.Values.{valueAt}
+use Rattle.history.specs.Tables.{StateAt}
 use Rattle.starts.specs.Rows.{unmet}
 
 -- two tests that agree on the leading words

@@ -11,9 +11,9 @@ use lib.ListN.{length, getD}
 use Rattle.words.specs.Fields.{kind, field, startMoment, startAction}
 use Rattle.words.proofs.Choices.{both-true}
 use Rattle.job.specs.Parts.{actions, lastMoment}
-use Rattle.facts.specs.Actions.{finish}
-use Rattle.facts.specs.Tables.{Durations, Named}
-use Rattle.facts.proofs.Moments.{finish-tabled}
+use Rattle.history.specs.Actions.{finish}
+use Rattle.history.specs.Tables.{Durations, Named}
+use Rattle.history.proofs.Moments.{finish-tabled}
 use Rattle.answers.specs.Rows.{firstOf}
 use Rattle.answers.proofs.Rows.{or-none}
 use Rattle.starts.specs.Rows.{isStart, ascends, wrongWord, numbered, rowsRefusal, startsRefusal}

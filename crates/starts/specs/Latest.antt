@@ -8,7 +8,7 @@ use lib.ListN.{getD, length}
 use Rattle.words.specs.Tests.{indicator}
 use Rattle.words.specs.Fields.{startAction}
 use Rattle.job.specs.Parts.{actions}
-use Rattle.facts.specs.Actions.{finish}
+use Rattle.history.specs.Actions.{finish}
 use Rattle.starts.specs.Rows.{wrongWord, clash}
 
 -- row 6 fits no word

@@ -9,8 +9,8 @@ use Rattle.words.specs.Scan.{any, anyBelow}
 use Rattle.answers.specs.declared.Refusal.{Refusal}
 use Rattle.answers.specs.Rows.{passed, firstRefusal, firstOf}
 use Rattle.job.specs.Parts.{headWord, fluents, actions, lastMoment, lawsOf}
-use Rattle.facts.specs.Actions.{effect, finish, inHand}
-use Rattle.facts.specs.Values.{valueAt}
+use Rattle.history.specs.Actions.{effect, finish, inHand}
+use Rattle.history.specs.Values.{valueAt}
 
 -- a word that is a start of the job; above the word before it, if there is one
 abbrev pub isStart : List ℕ → ℕ → Bool

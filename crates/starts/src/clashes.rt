@@ -7,7 +7,7 @@ ghost use Rattle.words.specs.Scan.{anyBelow};
 ghost use Rattle.answers.specs.Rows.{firstOf};
 ghost use Rattle.job.specs.Parts.{actions};
 ghost use Rattle.job.specs.WellFormed.{WellFormed};
-ghost use Rattle.facts.specs.Tables.{Durations, Effects};
+ghost use Rattle.history.specs.Tables.{Durations, Effects};
 ghost use Rattle.starts.specs.Rows.{clash, clashes, numbered};
 ghost use Rattle.starts.specs.Latest.{StartsFormed, Clashes, clashesAfter};
 use crate::times::finish_of;

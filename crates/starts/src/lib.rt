@@ -1,7 +1,7 @@
 // The rows on starts, 6 to 10, of a well-formed job. Each row's function answers its number at the first word that it fits.
 ghost use mathlib.Core.Path.{_≡_};
 ghost use Rattle.job.specs.WellFormed.{WellFormed, Indexed};
-ghost use Rattle.facts.specs.Tables.{Durations, Effects};
+ghost use Rattle.history.specs.Tables.{Durations, Effects};
 ghost use Rattle.starts.specs.Rows.{startsRefusal};
 
 mod clashes;

@@ -5,7 +5,7 @@ ghost use lib.ListN.{length, getD};
 ghost use Rattle.words.specs.Fields.{startMoment, startAction};
 ghost use Rattle.answers.specs.Rows.{firstOf};
 ghost use Rattle.job.specs.WellFormed.{WellFormed};
-ghost use Rattle.facts.specs.Tables.{Durations};
+ghost use Rattle.history.specs.Tables.{Durations};
 ghost use Rattle.starts.specs.Rows.{endsLate, inHandAlready, numbered};
 ghost use Rattle.starts.specs.Latest.{StartsFormed};
 use answers::Refusal;

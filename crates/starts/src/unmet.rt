@@ -7,12 +7,12 @@ ghost use Rattle.words.specs.Scan.{any, takeWhile};
 ghost use Rattle.answers.specs.Rows.{firstOf};
 ghost use Rattle.job.specs.Parts.{headWord};
 ghost use Rattle.job.specs.WellFormed.{WellFormed, Indexed};
-ghost use Rattle.facts.specs.Tables.{Durations, Effects, Named, StateAt};
+ghost use Rattle.history.specs.Tables.{Durations, Effects, Named, StateAt};
 ghost use Rattle.starts.specs.Rows.{unmet, needsUnmet, numbered};
 ghost use Rattle.starts.specs.Latest.{StartsFormed};
 use answers::Refusal;
-use facts::initial_state;
-use facts::step;
+use history::initial_state;
+use history::step;
 use words::*;
 
 // Row 10: whether a law needs what the state does not say; whether a law of the action whose word stands at `at` does.

@@ -3,7 +3,7 @@ use mathlib.Core.List.{List}
 use mathlib.Core.Path.{_≡_}
 use Prim.Native.Nat.{ℕ}
 use Rattle.job.specs.WellFormed.{WellFormed}
-use Rattle.facts.specs.Tables.{Durations, Effects, Named}
+use Rattle.history.specs.Tables.{Durations, Effects, Named}
 use Rattle.theory.specs.Answers.{planRefusal}
 use Rattle.theory.specs.declared.Plan.{Plan}
 

@@ -5,9 +5,9 @@ use mathlib.Core.List.{List}
 use lib.Dec.{eqb}
 use Rattle.words.specs.Fields.{startMoment, startAction}
 use Rattle.words.specs.Scan.{any}
-use Rattle.promise.specs.Trajectory.{Trajectory}
+use Rattle.model.specs.Trajectory.{Trajectory}
 use Rattle.job.specs.Parts.{lastMoment, duration}
-use Rattle.facts.specs.Values.{valueAt}
+use Rattle.history.specs.Values.{valueAt}
 use Rattle.formulas.specs.Values.{andTable, orTable, formulaAt}
 
 -- a start word is of action a at moment t

@@ -7,9 +7,9 @@ ghost use Rattle.theory.specs.Judged.{Judged};
 use answers::Answer;
 use answers::Refusal;
 use answers::answer_of;
-use facts::durations;
-use facts::effects;
 use facts::fill_facts;
+use history::durations;
+use history::effects;
 use job::check_job;
 use starts::check_starts;
 

@@ -7,8 +7,8 @@ use Rattle.bitset.specs.Members.{has}
 use Rattle.words.specs.Scan.{any}
 use Rattle.job.specs.Parts.{lastMoment, formulaCount, nodeCount, memberWords, conditionWords}
 use Rattle.job.specs.WellFormed.{Indexed}
-use Rattle.facts.specs.Values.{valueAt}
-use Rattle.facts.specs.Tables.{Durations}
+use Rattle.history.specs.Values.{valueAt}
+use Rattle.history.specs.Tables.{Durations}
 use Rattle.formulas.specs.Values.{andTable, orTable, formulaAt}
 use Rattle.theory.specs.Trajectory.{isStartOf}
 use Rattle.trajectory.specs.declared.World.{World}

@@ -2,12 +2,12 @@
 ghost use mathlib.Core.Path.{_≡_};
 ghost use Rattle.job.specs.WellFormed.{WellFormed, Indexed};
 ghost use Rattle.job.specs.Parts.{nodeCount};
-ghost use Rattle.facts.specs.Tables.{Durations, Effects, Named};
+ghost use Rattle.history.specs.Tables.{Durations, Effects, Named};
 ghost use Rattle.theory.specs.Answers.{planRefusal};
 ghost use Rattle.trajectory.specs.Carried.{Represents};
-use facts::durations;
-use facts::effects;
 use formulas::standard_values;
+use history::durations;
+use history::effects;
 use job::check_job;
 use theory::moments::start_moments;
 use theory::runs::condition_counts;

@@ -2,8 +2,8 @@
 use mathlib.Core.Path.{_≡_, _∙_}
 use Prim.Native.Nat.{_-_, _<_, _≤_}
 use Rattle.job.specs.Parts.{formulaCount}
-use Rattle.facts.specs.Values.{valueAt}
-use Rattle.facts.proofs.Values.{value-most}
+use Rattle.history.specs.Values.{valueAt}
+use Rattle.history.proofs.Values.{value-most}
 use Rattle.job.proofs.ByPlace.{formula-place}
 use Rattle.formulas.proofs.Laws.{formula-computed, formula-most}
 use Rattle.formulas.proofs.Columns.{Filling, fill-start, fill-entry, fill-end}

@@ -1,8 +1,8 @@
 -- `formulas::formula_values` meets its contract. The invariant: the state is that at `t`, and the columns before `t` are filled. Assumes nothing.
 use Prim.Native.Nat.{_+_, _-_, _≤_}
-use Rattle.facts.specs.Values.{valueAt}
-use Rattle.facts.specs.Tables.{StateAt}
-use Rattle.facts.proofs.Moments.{state-start}
+use Rattle.history.specs.Values.{valueAt}
+use Rattle.history.specs.Tables.{StateAt}
+use Rattle.history.proofs.Moments.{state-start}
 use Rattle.formulas.specs.Table.{ColumnsBefore}
 use Rattle.formulas.proofs.Columns.{columns-none}
 use native.Mathlib.Omega.{arith}

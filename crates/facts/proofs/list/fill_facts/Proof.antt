@@ -3,9 +3,9 @@ use mathlib.Core.Path.{_≡_}
 use Prim.Native.Nat.{_-_, _≤_}
 use Rattle.words.specs.Scan.{concatBelow}
 use Rattle.job.specs.Parts.{lastMoment}
-use Rattle.facts.specs.Tables.{StateAt}
+use Rattle.history.specs.Tables.{StateAt}
 use Rattle.facts.specs.Facts.{factsAt}
-use Rattle.facts.proofs.Moments.{state-start}
+use Rattle.history.proofs.Moments.{state-start}
 use Rattle.facts.proofs.Lists.{state-facts, facts-few, facts-none, facts-last, gather-more, Written, written-none, written-more}
 use native.Mathlib.Omega.{arith}
 use borrow.Author.Needs.{needs}

@@ -3,7 +3,7 @@ use mathlib.Core.Path.{_≡_}
 use Prim.Native.Nat.{_-_, _≤_}
 use lib.ListN.{getD}
 use Rattle.facts.specs.Facts.{factOf}
-use Rattle.facts.specs.Tables.{stateFacts}
+use Rattle.facts.specs.Written.{stateFacts}
 use Rattle.facts.proofs.Lists.{state-facts-none, state-facts-more, state-facts-most, Written, written-none, written-more}
 use native.Mathlib.Omega.{arith}
 use borrow.Author.Needs.{needs}

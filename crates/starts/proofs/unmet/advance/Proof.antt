@@ -1,7 +1,7 @@
 -- `starts::unmet::advance` meets its contract. The invariant: the state is that at `t`. Assumes nothing.
 use Prim.Native.Nat.{_≤_, _-_}
 use mathlib.Core.Path.{_≡_}
-use Rattle.facts.specs.Tables.{StateAt}
+use Rattle.history.specs.Tables.{StateAt}
 use native.Mathlib.Omega.{arith}
 use Rattle.starts.proofs.unmet.advance.Statement.{statement}
 use Rattle.starts.proofs.unmet.advance.Tie as tie

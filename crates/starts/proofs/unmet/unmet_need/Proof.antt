@@ -6,8 +6,8 @@ use lib.ListN.{length, getD}
 use Rattle.answers.specs.Rows.{firstOf, passed}
 use Rattle.words.specs.Fields.{startMoment}
 use Rattle.answers.proofs.Rows.{first-start}
-use Rattle.facts.specs.Tables.{StateAt}
-use Rattle.facts.proofs.Moments.{state-start}
+use Rattle.history.specs.Tables.{StateAt}
+use Rattle.history.proofs.Moments.{state-start}
 use Rattle.starts.specs.Rows.{needsUnmet, numbered}
 use Rattle.starts.proofs.Below.{row-more, row-found}
 use Rattle.starts.proofs.Needs.{place-inside, needs-state}

@@ -1,0 +1,5 @@
+-- Laws that belong to no one function: Stores (what stores leave), Moments (the state at the next moment, by two passes over
+-- the starts), Values (values are at most 2).
+pub mod Stores
+pub mod Moments
+pub mod Values

@@ -1,0 +1,115 @@
+-- What stores leave in a state or a table: of words taken from the last to the first, the first that passes prevails. Assumes nothing.
+use mathlib.Core.Bool.{Bool, true, false, cond, _&&_, _||_}
+use mathlib.Core.List.{List, [], _∷_}
+use mathlib.Core.Path.{_≡_, refl, sym, _∙_}
+use Prim.Native.Nat.{ℕ, zero, suc, _+_, _-_, _*_, _≤_, _<_}
+use native.Mathlib.Omega.{arith}
+use borrow.Author.Count.{below-more}
+use borrow.Author.Tests.{eqb-true, eqb-false}
+use lib.Dec.{eqb}
+use lib.ListN.{length, getD, drop, set, replicate, length-set}
+use lib.Seq.{getD-set-same, getD-set-other}
+use Rattle.words.specs.Scan.{any, findOr}
+use Rattle.words.proofs.Scan.{drop-next, gives-end}
+use Rattle.history.specs.Stores.{Overlaid, Mapped, RowStored}
+
+module _ {n : ℕ} {test : ℕ → ℕ → Bool} {gives : ℕ → ℕ → ℕ} {old : List ℕ} where
+  -- no word
+  pub overlaid-none : (ws : List ℕ) → Overlaid n test gives old (drop (length ws) ws) old
+  overlaid-none ws = record { size = refl; value = λ f l. sym (gives-end ws (length ws) (test f) (gives f) (getD old f 0) (omega arith)) }
+
+  -- one word more in front
+  pub overlaid-back : {mid new : List ℕ} (ws : List ℕ) (i : ℕ) → 0 < i → i ≤ length ws → Overlaid n test gives old (drop i ws) mid
+      → Overlaid n test gives mid (getD ws (i - 1) 0 ∷ []) new → Overlaid n test gives old (drop (i - 1) ws) new
+  unfolding findOr
+  overlaid-back {mid} {new} ws i p l m h = record { size = h .size ∙ m .size; value = value }
+    where
+      next : i - 1 + 1 ≡ i
+      next = omega arith
+
+      value : (f : ℕ) → f < n → getD new f 0 ≡ findOr (test f) (gives f) (getD old f 0) (drop (i - 1) ws)
+      value f b = rw (drop-next ws (i - 1) (omega arith), next, ← m .value f b) (h .value f b)
+
+-- one word, whose test is on itself and then on the fluent
+module _ (n : ℕ) (says : ℕ → Bool) (further : ℕ → ℕ → Bool) (gives : ℕ → ℕ → ℕ) (w : ℕ) {old : List ℕ} where
+  pub overlaid-hit : {new : List ℕ} → says w ≡ true → length new ≡ length old → ((f : ℕ) → f < n → getD new f 0 ≡ cond (further f w) (gives f w) (getD old f 0))
+      → Overlaid n (λ f v. says v && further f v) gives old (w ∷ []) new
+  unfolding findOr
+  overlaid-hit e s h = record { size = s; value = λ f l. rw e (h f l) }
+
+  pub overlaid-skip : says w ≡ false → Overlaid n (λ f v. says v && further f v) gives old (w ∷ []) old
+  unfolding findOr
+  overlaid-skip e = record { size = refl; value = λ f l. rw e }
+
+-- a word that gives a value to the one fluent that it names
+pub overlaid-store : (n : ℕ) (says : ℕ → Bool) (fluent gives : ℕ → ℕ) (w : ℕ) (old : List ℕ) → says w ≡ true → fluent w < length old
+    → Overlaid n (λ f v. says v && eqb (fluent v) f) (λ f. gives) old (w ∷ []) (set old (fluent w) (gives w))
+overlaid-store n says fluent gives w old e r =
+    overlaid-hit n says (λ f v. eqb (fluent v) f) (λ f. gives) w e (length-set old (fluent w) (gives w)) (λ f l. value f (eqb (fluent w) f) refl)
+  where
+    value : (f : ℕ) (b : Bool) → eqb (fluent w) f ≡ b → getD (set old (fluent w) (gives w)) f 0 ≡ cond b (gives w) (getD old f 0)
+    value f true q = rw (← eqb-true (fluent w) f q) (getD-set-same old (fluent w) (gives w) 0 r)
+    value f false q = getD-set-other old (fluent w) f (gives w) 0 (λ z. eqb-false (fluent w) f q (sym z))
+
+-- 'some word passes' as a value
+pub any-gives : (test : ℕ → Bool) (v other : ℕ) (ws : List ℕ) → findOr test (λ w. v) other ws ≡ cond (any test ws) v other
+unfolding findOr any
+any-gives test v other [] = refl
+any-gives test v other (w ∷ ws) = cases (test w) (any-gives test v other ws)
+  where
+    cases : (b : Bool) → findOr test (λ w. v) other ws ≡ cond (any test ws) v other → cond b v (findOr test (λ w. v) other ws) ≡ cond (b || any test ws) v other
+    cases true e = refl
+    cases false e = e
+
+module _ {make : ℕ → ℕ → ℕ} {old : List ℕ} where
+  pub mapped-none : Mapped 0 make old old
+  mapped-none = record { size = refl; value = λ f l. absurd (omega arith); rest = λ f l. refl }
+
+  pub mapped-more : {n v : ℕ} (cur : List ℕ) → n < length cur → Mapped n make old cur → v ≡ make n (getD cur n 0) → Mapped (n + 1) make old (set cur n v)
+  mapped-more {n} {v} cur r h e =
+      record {
+        size = length-set cur n v ∙ h .size;
+        value =
+            below-more (λ (f : ℕ). getD (set cur n v) f 0 ≡ make f (getD old f 0)) n
+            (λ f l. rw (getD-set-other cur n f v 0 (λ q. omega arith)) (h .value f l))
+            (rw (getD-set-same cur n v 0 r, ← h .rest n (omega arith)) e);
+        rest = λ f l. rw (getD-set-other cur n f v 0 (λ q. omega arith)) (h .rest f (omega arith));
+      }
+
+module _ {row : List ℕ} {a : ℕ} {old : List ℕ} where
+  pub row-none : RowStored row a 0 old old
+  row-none = record { size = refl; here = λ f l. absurd (omega arith); earlier = λ i l. refl }
+
+  pub row-more : {n : ℕ} (cur : List ℕ) → a * 64 + n < length cur → RowStored row a n old cur
+      → RowStored row a (n + 1) old (set cur (a * 64 + n) (getD row n 0))
+  row-more {n} cur r h =
+      record {
+        size = length-set cur (a * 64 + n) (getD row n 0) ∙ h .size;
+        here =
+            below-more (λ (f : ℕ). getD (set cur (a * 64 + n) (getD row n 0)) (a * 64 + f) 0 ≡ getD row f 0) n
+            (λ f l. rw (getD-set-other cur (a * 64 + n) (a * 64 + f) (getD row n 0) 0 (λ q. omega arith)) (h .here f l))
+            (getD-set-same cur (a * 64 + n) (getD row n 0) 0 r);
+        earlier = λ i l. rw (getD-set-other cur (a * 64 + n) i (getD row n 0) 0 (λ q. omega arith)) (h .earlier i l);
+      }
+
+-- a store at i: what holds of each element below i, and of the value stored, holds below i + 1
+pub fill-more : (P : ℕ → ℕ → Type 0) (l : List ℕ) (i v : ℕ) → i < length l
+    → ((k : ℕ) → k < i → P k (getD l k 0)) → P i v → (k : ℕ) → k < i + 1 → P k (getD (set l i v) k 0)
+fill-more P l i v h all here =
+    below-more (λ (k : ℕ). P k (getD (set l i v) k 0)) i
+    (λ k b. rw (getD-set-other l i k v 0 (λ e. omega arith)) (all k b))
+    (rw (getD-set-same l i v 0 h) here)
+
+-- what holds of every element, and of the value stored, holds after the store
+pub set-all : (P : ℕ → Type 0) (l : List ℕ) (i v : ℕ) → ((k : ℕ) → P (getD l k 0)) → P v → (k : ℕ) → P (getD (set l i v) k 0)
+set-all P [] i v h p k = h k
+set-all P (x ∷ l) zero v h p zero = p
+set-all P (x ∷ l) zero v h p (suc k) = h (suc k)
+set-all P (x ∷ l) (suc i) v h p zero = h zero
+set-all P (x ∷ l) (suc i) v h p (suc k) = set-all P l i v (λ j. h (suc j)) p k
+
+-- of a list of one value, every element is that value, or 0 past its end
+pub replicate-all : (P : ℕ → Type 0) (n v : ℕ) → P v → P 0 → (k : ℕ) → P (getD (replicate n v) k 0)
+replicate-all P zero v p q k = q
+replicate-all P (suc n) v p q zero = p
+replicate-all P (suc n) v p q (suc k) = replicate-all P n v p q k

@@ -1,0 +1,13 @@
+-- `history::states::hidden` meets its contract. Assumes nothing.
+use borrow.Author.Tests.{eq-eqb, ne-eqb}
+use Rattle.history.proofs.states.hidden.Statement.{statement}
+use Rattle.history.proofs.states.hidden.Tie as tie
+
+returns : tie.Need-returns
+returns c = rw (ne-eqb _ 1 (c .if1 .taken))
+
+returns-2 : tie.Need-returns-2
+returns-2 c = rw (eq-eqb _ 1 (c .if1 .left))
+
+pub hidden-spec : {M : Type 1} → statement M
+hidden-spec = tie.close (tie.spec returns returns-2)

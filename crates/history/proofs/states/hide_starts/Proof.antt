@@ -1,0 +1,48 @@
+-- `history::states::hide_starts` meets its contract. The invariant: the starts from `i` on are taken. Assumes nothing.
+use mathlib.Core.Path.{_≡_}
+use Prim.Native.Nat.{_-_, _≤_}
+use lib.ListN.{length, drop}
+use Rattle.words.specs.Fields.{unknown}
+use Rattle.job.specs.Parts.{fluents}
+use Rattle.history.specs.Values.{hidesFluent}
+use Rattle.history.specs.Stores.{Overlaid}
+use Rattle.history.proofs.Stores.{overlaid-none, overlaid-back}
+use native.Mathlib.Omega.{arith}
+use borrow.Author.Needs.{needs}
+use Rattle.history.proofs.states.hide_starts.Statement.{statement}
+use Rattle.history.proofs.states.hide_starts.Tie as tie
+
+abbrev Inv-loop : tie.InvT-loop
+Inv-loop job durations effects starts t state₀ i₀ state i = (i ≤ length starts) × Overlaid (fluents job) (hidesFluent job t) (λ f s. unknown) state₀ (drop i starts) state
+
+abbrev μ-loop : tie.MeasureT-loop
+μ-loop job durations effects starts t state₀ i₀ state i = i
+
+loop-holds : tie.Need-loop-holds Inv-loop μ-loop
+loop-holds c = (omega arith, overlaid-none (c .before .before .args .starts .now))
+
+hide-start-requires : tie.Need-hide-start-requires Inv-loop μ-loop
+hide-start-requires c κs =
+    let p = c .before .before .before .before .before .before .pre in
+    (p .0, p .1, p .2, p .3 .action _ (omega arith), rw (c .before .before .before .loop .inv .1 .size) (p .4))
+
+loop-again : tie.Need-loop-again Inv-loop μ-loop
+loop-again c = (omega arith, overlaid-back _ _ (c .before .before .before .loop-test .taken) (c .before .before .before .before .loop .inv .0) (c .before .before .before .before .loop .inv .1) (c .hide-start .ensures))
+
+returns : tie.Need-returns Inv-loop μ-loop
+returns c = let e : c .before .loop .i ≡ 0 = omega arith in rw e at (c .before .loop .inv .1)
+
+pub hide-starts-spec : {M : Type 1} → statement M
+hide-starts-spec =
+    tie.close
+    (tie.spec
+    Inv-loop
+    μ-loop
+    loop-holds
+    (λ c. search needs)
+    (λ c. search needs)
+    (λ c. search needs)
+    hide-start-requires
+    (λ c. search needs)
+    loop-again
+    returns)

@@ -1,0 +1,67 @@
+-- `history::tables::laws_of` meets its contract: the laws are the words of kind 4 that lead what follows the action's own. Assumes nothing.
+use mathlib.Core.List.{List}
+use mathlib.Core.Path.{_≡_, sym}
+use Prim.Native.Nat.{ℕ, _+_, _-_, _≤_, _<_}
+use native.Mathlib.Omega.{arith}
+use borrow.Author.Needs.{needs}
+use lib.ListN.{length, getD, take, drop, length-drop}
+use Rattle.words.specs.Fields.{ofKind}
+use Rattle.words.specs.Scan.{takeWhile}
+use Rattle.words.proofs.Scan.{takeWhile-take, takeWhile-fits}
+use Rattle.job.specs.Parts.{actions, lawsOf}
+use Rattle.job.specs.WellFormed.{WellFormed, Indexed}
+use Rattle.job.proofs.ByPlace.{action-counted, laws-place}
+use Rattle.history.proofs.tables.laws_of.Statement.{statement}
+use Rattle.history.proofs.tables.laws_of.Tie as tie
+
+module _ {job places : List ℕ} {a : ℕ} (w : WellFormed job) (p : Indexed job 3 places) (h : a < actions job) where
+  inside : getD places a 0 + 1 ≤ length job
+  inside = omega (arith, p .inside a (action-counted w h))
+
+  run-fits : getD places a 0 + 1 + length (takeWhile (ofKind 4) (drop (getD places a 0 + 1) job)) ≤ length job
+  run-fits = omega (arith, inside, takeWhile-fits (ofKind 4) (drop (getD places a 0 + 1) job), length-drop (getD places a 0 + 1) job)
+
+  laws : (n : ℕ) → n ≡ length (takeWhile (ofKind 4) (drop (getD places a 0 + 1) job))
+      → take (getD places a 0 + 1 + n - (getD places a 0 + 1)) (drop (getD places a 0 + 1) job) ≡ lawsOf job a
+  laws n e =
+      let q : getD places a 0 + 1 + n - (getD places a 0 + 1) ≡ n = omega arith in
+      rw (q, e, takeWhile-take (ofKind 4) (drop (getD places a 0 + 1) job)) (sym (laws-place p a (action-counted w h)))
+
+mul-from : tie.Need-mul-from
+mul-from c = omega (arith, c .before .pre .0 .few-actions)
+
+element-copy-out-from : tie.Need-element-copy-out-from
+element-copy-out-from c = omega (arith, c .before .pre .0 .few-actions)
+
+add-from : tie.Need-add-from
+add-from c = let pre = c .before .before .pre in omega (arith, pre .0 .short, inside (pre .0) (pre .1) (pre .2))
+
+run-length-requires : tie.Need-run-length-requires
+run-length-requires c κs = let pre = c .before .before .pre in inside (pre .0) (pre .1) (pre .2)
+
+add-end : tie.Need-add-end
+add-end c = let pre = c .before .before .before .pre in omega (arith, pre .0 .short, c .run-length .ensures, run-fits (pre .0) (pre .1) (pre .2))
+
+mul-result : tie.Need-mul-result
+mul-result c = let pre = c .before .before .before .pre in omega (arith, pre .0 .short, c .run-length .ensures, run-fits (pre .0) (pre .1) (pre .2))
+
+part-result-end : tie.Need-part-result-end
+part-result-end c = let pre = c .before .before .before .pre in omega (arith, c .run-length .ensures, run-fits (pre .0) (pre .1) (pre .2))
+
+returns : tie.Need-returns
+returns c = let pre = c .before .before .before .before .pre in laws (pre .0) (pre .1) (pre .2) _ (c .before .run-length .ensures)
+
+pub laws-of-spec : {M : Type 1} → statement M
+laws-of-spec =
+    tie.close
+    (tie.spec
+    mul-from
+    element-copy-out-from
+    add-from
+    run-length-requires
+    add-end
+    mul-result
+    (λ c. search needs)
+    (λ c. search needs)
+    part-result-end
+    returns)

@@ -1,0 +1,28 @@
+-- What the tables of the actions and a state's bytes are, and that starts name actions of the job.
+use mathlib.Core.List.{List}
+use mathlib.Core.Path.{_≡_}
+use Prim.Native.Nat.{ℕ, _+_, _*_, _<_, _≤_}
+use lib.ListN.{length, getD}
+use Rattle.words.specs.Fields.{startAction}
+use Rattle.job.specs.Parts.{fluents, actions, duration}
+use Rattle.history.specs.Actions.{effect}
+use Rattle.history.specs.Values.{valueAt}
+
+-- entry a has the duration of action a
+pub record Durations (job table : List ℕ) : Type 0 where
+  pub entry : (a : ℕ) → a < actions job → getD table a 0 ≡ duration job a
+  pub small : (a : ℕ) → getD table a 0 < 64
+
+-- entry a * 64 + f has the value that action a makes of fluent f
+pub record Effects (job table : List ℕ) : Type 0 where
+  pub size : length table ≡ 4096
+  pub entry : (a f : ℕ) → a < actions job → f < fluents job → getD table (a * 64 + f) 0 ≡ effect job a f
+
+-- the starts name actions of the job
+pub record Named (job starts : List ℕ) : Type 0 where
+  pub action : (i : ℕ) → i < length starts → startAction (getD starts i 0) < actions job
+
+-- the bytes of state are the values of the fluents at moment t
+pub record StateAt (job starts : List ℕ) (t : ℕ) (state : List ℕ) : Type 0 where
+  pub room : fluents job ≤ length state
+  pub value : (f : ℕ) → f < fluents job → getD state f 0 ≡ valueAt job starts t f

@@ -1,0 +1,95 @@
+// Tables of the actions, made once for a job: durations, and effects by action and fluent.
+ghost use mathlib.Core.Path.{_≡_};
+ghost use Prim.Native.Nat.{_+_, _*_, _<_, _≤_};
+ghost use mathlib.Core.List.{_∷_, []};
+ghost use lib.ListN.{length, getD, drop, replicate};
+ghost use Rattle.words.specs.Fields.{unknown};
+ghost use Rattle.job.specs.Parts.{actions, lawsOf};
+ghost use Rattle.job.specs.WellFormed.{WellFormed, Indexed};
+ghost use Rattle.history.specs.Actions.{makesFluent, lawValue};
+ghost use Rattle.history.specs.Tables.{Durations, Effects};
+ghost use Rattle.history.specs.Stores.{Overlaid, RowStored};
+use words::actions_of;
+use words::duration_of;
+use words::fluent_of;
+use words::made_value;
+use words::makes_value;
+use words::role_of;
+use words::run_length;
+
+pub fn durations(job: &[u32], places: &[usize; 64]) -> [usize; 64]
+    requires { ⌜ WellFormed (now job) × Indexed (now job) 3 (now places) ⌝ }
+    ensures { λ r. ⌜ Durations (now (job .entry)) r ⌝ }
+{
+    let n = actions_of(job[0]);
+    let mut table = [0usize; 64];
+    let mut a = 0;
+    while a < n {
+        let at = places[a];
+        table[a] = duration_of(job[at]);
+        a += 1;
+    }
+    table
+}
+
+// The laws of action `a`: the words of kind 4 after its own.
+pub fn laws_of<'a>(job: &'a [u32], places: &[usize; 64], a: usize) -> &'a [u32]
+    requires { ⌜ WellFormed (now job) × Indexed (now job) 3 (now places) × (a < actions (now job)) ⌝ }
+    ensures { λ r. ⌜ now r ≡ lawsOf (now (job .entry)) a ⌝ }
+{
+    let from = places[a] + 1;
+    let end = from + run_length(job, from, 4);
+    &job[from..end]
+}
+
+// Stores what the law `w` makes, over the values that later laws made.
+fn store_law(head: u32, w: u32, row: &mut [u8; 64])
+    requires { ⌜ length (now row) ≡ 64 ⌝ }
+    ensures { λ _. ⌜ Overlaid 64 (makesFluent head) (λ f. lawValue head) (now (row .entry)) (w ∷ []) (now (row .exit)) ⌝ }
+{
+    let role = role_of(head, w);
+    if makes_value(role) {
+        row[fluent_of(head, w)] = made_value(role);
+    }
+}
+
+// The values that an action with these laws makes of the fluents: from the last law to the first, so that the first prevails.
+fn effects_row(head: u32, laws: &[u32]) -> [u8; 64]
+    ensures { λ r. ⌜ Overlaid 64 (makesFluent head) (λ f. lawValue head) (replicate 64 unknown) (now (laws .entry)) r ⌝ }
+{
+    let mut row = [1u8; 64];
+    let mut i = laws.len();
+    while 0 < i {
+        i -= 1;
+        store_law(head, laws[i], &mut row);
+    }
+    row
+}
+
+// Stores the row of action `a`.
+fn store_row(row: &[u8; 64], a: usize, table: &mut [u8; 4096])
+    requires { ⌜ (a < 64) × (length (now table) ≡ 4096) ⌝ }
+    ensures { λ _. ⌜ RowStored (now (row .entry)) a 64 (now (table .entry)) (now (table .exit)) ⌝ }
+{
+    let mut f = 0;
+    while f < 64 {
+        table[a * 64 + f] = row[f];
+        f += 1;
+    }
+}
+
+pub fn effects(job: &[u32], places: &[usize; 64]) -> [u8; 4096]
+    requires { ⌜ WellFormed (now job) × Indexed (now job) 3 (now places) ⌝ }
+    ensures { λ r. ⌜ Effects (now (job .entry)) r ⌝ }
+{
+    let head = job[0];
+    let n = actions_of(head);
+    let mut table = [1u8; 4096];
+    let mut a = 0;
+    while a < n {
+        let row = effects_row(head, laws_of(job, places, a));
+        store_row(&row, a, &mut table);
+        a += 1;
+    }
+    table
+}
