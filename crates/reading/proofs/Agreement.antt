@@ -109,7 +109,7 @@ module _ {P : Procedure} {T : Trajectory} {P′ : Procedure} {T′ : Trajectory}
 
   pub found-same : {t : List ℕ} → Found P T t → Found P′ T′ t
   found-same h = let q = x .count in let r = x .last in record {
-    memberCount = h .size;
+    size = h .size;
     right = λ p b e l m. let k : p < P .count = omega arith in Iff·trans (h .right p b e k (omega arith)) (ends-same k);
     beyond = λ p b e l i. let k = h .beyond p b e l i in (omega (arith, k .0), omega (arith, k .1));
   }
