@@ -6,7 +6,7 @@ use native.Mathlib.Omega.{arith}
 use lib.ListN.{length, length-append}
 use Rattle.model.specs.Trajectory.{Trajectory}
 use Rattle.model.specs.Procedure.{Procedure}
-use Rattle.reading.specs.Forms.{Form, Act, Test, Sequence, Choice, If, While, StartWindow, EndWindow, Set, formAt}
+use Rattle.model.specs.Forms.{Form, Act, Test, Sequence, Choice, If, While, StartWindow, EndWindow, Set, formAt}
 use Rattle.reading.specs.Reading.{whole, Reading, act, test, sequence, first, second, taken, otherwise, loop, startWindow, endWindow, set}
 use Rattle.cases.specs.Cases.{joint, wordsAs, wordsFor}
 

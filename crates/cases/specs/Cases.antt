@@ -13,7 +13,7 @@ use Rattle.theory.specs.Answers.{checkRefusal}
 use Rattle.theory.specs.Trajectory.{trajectoryOf}
 use Rattle.model.specs.Procedure.{Procedure}
 use Rattle.theory.specs.Procedure.{procedureOf}
-use Rattle.reading.specs.Forms.{Form, Act, Test, Sequence, Choice, If, While, StartWindow, EndWindow, Set, Reserved, formAt, fieldX, fieldY}
+use Rattle.model.specs.Forms.{Form, Act, Test, Sequence, Choice, If, While, StartWindow, EndWindow, Set, Reserved, formAt, fieldX, fieldY}
 use Rattle.reading.specs.Count.{Triple}
 use Rattle.reading.specs.Decision.{each, reads}
 

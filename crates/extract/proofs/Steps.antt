@@ -17,7 +17,7 @@ use Rattle.words.specs.Fields.{readingWord}
 use Rattle.words.proofs.Choices.{true-false}
 use Rattle.model.specs.Trajectory.{Trajectory}
 use Rattle.model.specs.Procedure.{Procedure}
-use Rattle.reading.specs.Forms.{Form, While, formNumber, formAt, fieldY}
+use Rattle.model.specs.Forms.{Form, While, formNumber, formAt, fieldY}
 use Rattle.reading.specs.Reading.{whole, passes, Reading, act, test, sequence, first, second, taken, otherwise, loop, done, pass, startWindow, endWindow, set}
 use Rattle.reading.proofs.Step.{onward}
 use Rattle.lengths.specs.Bound.{isWhile}

@@ -2,7 +2,7 @@
 // by a call for a lower node. Each node is named as a child once, so that nothing is walked twice.
 ghost use mathlib.Core.Path.{_≡_};
 ghost use lib.ListN.{length};
-ghost use Rattle.reading.specs.Forms.{While, formAt};
+ghost use Rattle.model.specs.Forms.{While, formAt};
 ghost use Rattle.reading.specs.World.{procedureAt, trajectoryAt};
 ghost use Rattle.extract.specs.Contract.{Full, Rest, Writable, Written, Emittable, Emitted};
 

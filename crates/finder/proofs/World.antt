@@ -30,12 +30,14 @@ use Rattle.theory.specs.Trajectory.{trajectoryOf}
 use Rattle.model.specs.Procedure.{Procedure}
 use Rattle.theory.specs.Procedure.{procedureOf}
 use Rattle.theory.proofs.Followers.{members-at, conditions-at, conditions-fit}
-use Rattle.reading.specs.Forms.{formNumber, formAt, fieldX, FormedAs}
+use Rattle.model.specs.Forms.{formNumber, formAt, fieldX}
+use Rattle.reading.specs.Forms.{FormedAs}
 use Rattle.reading.specs.World.{procedureAt, trajectoryAt, WorldReady}
 use Rattle.reading.proofs.Forms.{form-number}
 use Rattle.reading.proofs.Transfer.{Asks}
 use Rattle.reading.proofs.Agreement.{Agrees, agrees-back, formed-there}
-use Rattle.lengths.specs.Children.{childrenAs, children, NamedOnce}
+use Rattle.model.specs.Forms.{childrenAs, children}
+use Rattle.lengths.specs.Children.{NamedOnce}
 use Rattle.lengths.proofs.Sums.{sum-cong}
 use Rattle.naming.specs.Naming.{childTimes}
 use Rattle.naming.proofs.Naming.{leads-none, follows, once-by-nodes}
@@ -129,7 +131,7 @@ module _ (job starts : List ℕ) (w : World) (formed : WellFormed job) (c : Repr
   unfolding procedureOf trajectoryOf
   agrees = record {
     count = sym (c .count);
-    previous = sym (c .last);
+    last = sym (c .last);
     node = λ p h. node-word p (here h);
     members = λ p h. ap (map memberNode) (members-are p (here h));
     conditions = λ p h. conditions-are p (here h);

@@ -4,7 +4,7 @@ use mathlib.Core.Path.{_≡_}
 use Prim.Native.Nat.{ℕ, _+_, _*_, _<_, _≤_}
 use lib.ListN.{length, getD}
 use Rattle.words.specs.Fields.{startAction}
-use Rattle.job.specs.Parts.{fluents, actions, duration}
+use Rattle.job.specs.Parts.{fluents, actions, lastMoment, duration}
 use Rattle.history.specs.Actions.{effect}
 use Rattle.history.specs.Values.{valueAt}
 
@@ -26,3 +26,8 @@ pub record Named (job starts : List ℕ) : Type 0 where
 pub record StateAt (job starts : List ℕ) (t : ℕ) (state : List ℕ) : Type 0 where
   pub room : fluents job ≤ length state
   pub value : (f : ℕ) → f < fluents job → getD state f 0 ≡ valueAt job starts t f
+
+-- the history of a plan: entry t * 64 + f has the value of fluent f at moment t
+pub record History (job starts table : List ℕ) : Type 0 where
+  pub size : length table ≡ 4096
+  pub entry : (t f : ℕ) → t ≤ lastMoment job → f < fluents job → getD table (t * 64 + f) 0 ≡ valueAt job starts t f

@@ -9,11 +9,12 @@ use native.Mathlib.Omega.{arith}
 use lib.ListN.{length, length-append}
 use Rattle.model.specs.Trajectory.{Trajectory}
 use Rattle.model.specs.Procedure.{Procedure}
-use Rattle.reading.specs.Forms.{Form, Act, Test, Sequence, Choice, If, While, StartWindow, EndWindow, Set, formAt, fieldX, fieldY, fieldM}
+use Rattle.model.specs.Forms.{Form, Act, Test, Sequence, Choice, If, While, StartWindow, EndWindow, Set, formAt, fieldX, fieldY, fieldM}
 use Rattle.reading.specs.Reading.{whole, Reading, act, test, sequence, first, second, taken, otherwise, loop, startWindow, endWindow, set}
 use Rattle.reading.proofs.Step.{onward}
 use Rattle.words.specs.Scan.{count}
-use Rattle.lengths.specs.Children.{childrenAs, children, NamedOnce}
+use Rattle.model.specs.Forms.{childrenAs, children}
+use Rattle.lengths.specs.Children.{NamedOnce}
 use Rattle.lengths.specs.Bound.{isWhile, loopAbove, weight, lengthBound}
 use Rattle.lengths.proofs.Sums.{total, times-first, times-second, times-at, below-times, sum-le, total-cong, total-mul, joined-le}
 use Rattle.lengths.proofs.Tree.{Lower, branch, branch-is, root-is}
@@ -49,7 +50,7 @@ module _ {P : Procedure} (low : Lower P) (once : NamedOnce P) (n : ℕ) where
     light = let own : weight P n p ≡ 1 = rw t refl in branch-is low (weight P n) p l ∙ ap₂ _+_ own (ap (λ (g : Form). total (branch P (weight P n)) (childrenAs P g p)) f)
 
     free : isWhile k ≡ false → (q : ℕ) → 0 < count q (childrenAs P k p) → (q < P .count) × (loopAbove P q ≡ false)
-    free w q h = let (lower, above) = child k f l q h in (omega arith, above ∙ ap₂ (w || t))
+    free w q h = let (lower, above) = child k f l q h in (omega arith, above ∙ ap₂ _||_ w t)
 
   -- the words of a node that no loop is above
   light-le : {T : Trajectory} {p b e : ℕ} {ws : List ℕ} → Reading P T whole p b e ws → p < P .count → loopAbove P p ≡ false → e ≤ n

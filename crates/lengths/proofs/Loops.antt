@@ -8,8 +8,9 @@ use native.Mathlib.Decide.{ℕ-discrete, decLt}
 use native.Mathlib.Omega.{arith}
 use borrow.Author.Tests.{lt-ltb, le-ltb}
 use Rattle.model.specs.Procedure.{Procedure}
-use Rattle.reading.specs.Forms.{formAt}
-use Rattle.lengths.specs.Children.{children, NamedOnce}
+use Rattle.model.specs.Forms.{formAt}
+use Rattle.model.specs.Forms.{children}
+use Rattle.lengths.specs.Children.{NamedOnce}
 use Rattle.lengths.specs.Bound.{isWhile, isChild, loopWithin, loopAbove}
 use Rattle.words.specs.Scan.{anyBelow, count}
 use Rattle.lengths.proofs.Sums.{below-times, sum-two}
@@ -17,28 +18,28 @@ use Rattle.lengths.proofs.Tree.{Lower}
 
 -- ---- tests of the numbers below n
 
-someBelow-cong : {f g : ℕ → Bool} (n : ℕ) → ((i : ℕ) → i < n → f i ≡ g i) → anyBelow f n ≡ anyBelow g n
+anyBelow-cong : {f g : ℕ → Bool} (n : ℕ) → ((i : ℕ) → i < n → f i ≡ g i) → anyBelow f n ≡ anyBelow g n
 unfolding anyBelow
-someBelow-cong zero h = refl
-someBelow-cong (suc n) h = ap₂ (someBelow-cong n (λ i l. h i (omega arith)) || h n (omega arith))
+anyBelow-cong zero h = refl
+anyBelow-cong (suc n) h = ap₂ _||_ (anyBelow-cong n (λ i l. h i (omega arith))) (h n (omega arith))
 
-either-false : (t : Bool) → (t || false) ≡ t
-either-false true = refl
-either-false false = refl
+or-false : (t : Bool) → (t || false) ≡ t
+or-false true = refl
+or-false false = refl
 
-someBelow-none : {f : ℕ → Bool} (n : ℕ) → ((i : ℕ) → i < n → f i ≡ false) → anyBelow f n ≡ false
+anyBelow-none : {f : ℕ → Bool} (n : ℕ) → ((i : ℕ) → i < n → f i ≡ false) → anyBelow f n ≡ false
 unfolding anyBelow
-someBelow-none zero h = refl
-someBelow-none (suc n) h = ap₂ (someBelow-none n (λ i l. h i (omega arith)) || h n (omega arith))
+anyBelow-none zero h = refl
+anyBelow-none (suc n) h = ap₂ _||_ (anyBelow-none n (λ i l. h i (omega arith))) (h n (omega arith))
 
 -- where one number alone may pass, it decides
-someBelow-one : {f : ℕ → Bool} (n i : ℕ) → i < n → ((j : ℕ) → j < n → (j ≡ i → ⊥) → f j ≡ false) → anyBelow f n ≡ f i
+anyBelow-one : {f : ℕ → Bool} (n i : ℕ) → i < n → ((j : ℕ) → j < n → (j ≡ i → ⊥) → f j ≡ false) → anyBelow f n ≡ f i
 unfolding anyBelow
-someBelow-one zero i l h = absurd (omega arith)
-someBelow-one {f} (suc n) i l h =
+anyBelow-one zero i l h = absurd (omega arith)
+anyBelow-one {f} (suc n) i l h =
     by-cases (ℕ-discrete n i)
-    (λ e. ap₂ (someBelow-none n (λ j k. h j (omega arith) (λ d. omega arith)) || ap f e))
-    (λ ne. ap₂ (someBelow-one n i (omega arith) (λ j k. h j (omega arith)) || h n (omega arith) ne) ∙ either-false (f i))
+    (λ e. ap₂ _||_ (anyBelow-none n (λ j k. h j (omega arith) (λ d. omega arith))) (ap f e))
+    (λ ne. ap₂ _||_ (anyBelow-one n i (omega arith) (λ j k. h j (omega arith))) (h n (omega arith) ne) ∙ or-false (f i))
 
 -- ---- loops above a node
 
@@ -53,16 +54,16 @@ module _ {P : Procedure} (low : Lower P) where
   -- more steps than there are nodes above q lead to no more
   steady : (k q : ℕ) → P .count ≤ q + k → loopWithin P (suc k) q ≡ loopWithin P k q
   unfolding loopWithin
-  steady zero q h = someBelow-none (P .count) (λ p l. ap (λ (t : Bool). t && (isWhile (formAt P p) || false)) (unnamed p q l (omega arith)))
+  steady zero q h = anyBelow-none (P .count) (λ p l. ap (λ (t : Bool). t && (isWhile (formAt P p) || false)) (unnamed p q l (omega arith)))
   steady (suc k) q h =
-      someBelow-cong (P .count) (λ p l. by-cases (decLt q p)
+      anyBelow-cong (P .count) (λ p l. by-cases (decLt q p)
       (λ g. ap (λ (t : Bool). isChild P p q && (isWhile (formAt P p) || t)) (steady k p (omega arith)))
       (λ g. let none = unnamed p q l (omega arith) in rw none refl))
 
   -- no loop is above the root
   pub root-free : (r : ℕ) → suc r ≡ P .count → loopAbove P r ≡ false
   unfolding loopWithin
-  root-free r e = sym (steady (P .count) r (omega arith)) ∙ someBelow-none (P .count) (λ p l. rw (unnamed p r l (omega arith)) refl)
+  root-free r e = sym (steady (P .count) r (omega arith)) ∙ anyBelow-none (P .count) (λ p l. rw (unnamed p r l (omega arith)) refl)
 
   -- node p is the one parent of q
   sole : NamedOnce P → (p q : ℕ) → p < P .count → 0 < count q (children P p) → (j : ℕ) → j < P .count → (j ≡ p → ⊥) → isChild P j q ≡ false
@@ -80,5 +81,5 @@ module _ {P : Procedure} (low : Lower P) where
   unfolding loopWithin
   child-above once p q l h =
       sym (steady (P .count) q (omega arith))
-      ∙ someBelow-one (P .count) p l (λ j k ne. rw (sole once p q l h j k ne) refl)
+      ∙ anyBelow-one (P .count) p l (λ j k ne. rw (sole once p q l h j k ne) refl)
       ∙ ap (λ (t : Bool). t && (isWhile (formAt P p) || loopAbove P p)) (lt-ltb 0 (count q (children P p)) h)

@@ -7,7 +7,8 @@ use native.Mathlib.Omega.{arith}
 use Rattle.bitset.specs.Members.{sumBelow}
 use Rattle.model.specs.Procedure.{Procedure}
 use Rattle.words.specs.Scan.{count}
-use Rattle.lengths.specs.Children.{children, NamedOnce}
+use Rattle.model.specs.Forms.{children}
+use Rattle.lengths.specs.Children.{NamedOnce}
 use Rattle.lengths.proofs.Sums.{total, Below, below-le, below-times, sum-cong, sum-both, total-cong, total-times}
 
 -- children have lower numbers

@@ -9,10 +9,11 @@ use lib.ListN.{length, getD, length-append}
 use Rattle.words.specs.Scan.{concatBelow}
 use Rattle.model.specs.Trajectory.{Trajectory}
 use Rattle.model.specs.Procedure.{Procedure}
-use Rattle.reading.specs.Forms.{Form, Act, Test, Sequence, Choice, If, While, StartWindow, EndWindow, Set, Reserved, formAt, fieldY, FormedAs}
+use Rattle.model.specs.Forms.{Form, Act, Test, Sequence, Choice, If, While, StartWindow, EndWindow, Set, Reserved, formAt, fieldY}
+use Rattle.reading.specs.Forms.{FormedAs}
 use Rattle.reading.specs.Reading.{Mode, whole, passes, Reading, act, test, sequence, first, second, taken, otherwise, loop, done, pass, startWindow, endWindow, set}
 use Rattle.reading.proofs.Step.{onward}
-use Rattle.lengths.specs.Children.{childrenAs, children}
+use Rattle.model.specs.Forms.{childrenAs, children}
 use Rattle.lengths.proofs.Sums.{total, Below, below-at, at-below, below-le, total-mul, joined-le}
 use Rattle.lengths.proofs.Tree.{Lower, branch, branch-is}
 

@@ -5,8 +5,8 @@ use lib.Dec.{ltb}
 use Rattle.words.specs.Scan.{anyBelow, count}
 use Rattle.bitset.specs.Members.{sumBelow}
 use Rattle.model.specs.Procedure.{Procedure}
-use Rattle.reading.specs.Forms.{Form, Act, Test, Sequence, Choice, If, While, StartWindow, EndWindow, Set, Reserved, formAt}
-use Rattle.lengths.specs.Children.{children}
+use Rattle.model.specs.Forms.{Form, Act, Test, Sequence, Choice, If, While, StartWindow, EndWindow, Set, Reserved, formAt}
+use Rattle.model.specs.Forms.{children}
 
 abbrev pub isWhile : Form → Bool
 isWhile Act = false

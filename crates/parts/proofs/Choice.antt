@@ -10,7 +10,8 @@ use Rattle.words.specs.Fields.{holds, memberNode, readingWord}
 use Rattle.model.specs.Trajectory.{Trajectory}
 use Rattle.model.specs.Procedure.{Procedure}
 use Rattle.sets.specs.Ends.{taskSetOf, entryAt, Placeable, Placed, InTable}
-use Rattle.reading.specs.Forms.{Form, Act, Test, Sequence, Choice, If, While, StartWindow, EndWindow, Set, Reserved, formNumber, formAt, fieldX, fieldY, fieldM, fieldN, FormedAs, taskSet}
+use Rattle.model.specs.Forms.{Form, Act, Test, Sequence, Choice, If, While, StartWindow, EndWindow, Set, Reserved, formNumber, formAt, fieldX, fieldY, fieldM, fieldN}
+use Rattle.reading.specs.Forms.{FormedAs, taskSet}
 use Rattle.reading.specs.Reading.{whole, Reading, act, test, sequence, first, second, taken, otherwise, startWindow, endWindow, set, HasReading}
 use Rattle.reading.specs.Rule.{Rule}
 use Rattle.reading.proofs.Step.{step, carry}

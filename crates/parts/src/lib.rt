@@ -7,7 +7,7 @@ ghost use Rattle.bitset.specs.Members.{Max};
 ghost use lib.ListN.{length, getD, take, drop};
 ghost use Rattle.words.specs.Fields.{holds, memberNode};
 ghost use Rattle.sets.specs.Ends.{taskSetOf, Placeable};
-ghost use Rattle.reading.specs.Forms.{While, formAt};
+ghost use Rattle.model.specs.Forms.{While, formAt};
 ghost use Rattle.reading.specs.World.{procedureAt, trajectoryAt};
 ghost use Rattle.sets.specs.Ends.{InTable};
 ghost use Rattle.parts.specs.Search.{FirstMeets, CutAt, Ends, StartAt};

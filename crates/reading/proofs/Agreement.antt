@@ -10,7 +10,8 @@ use Rattle.words.specs.Fields.{form}
 use Rattle.model.specs.Trajectory.{Trajectory}
 use Rattle.model.specs.Procedure.{Procedure}
 use Rattle.sets.specs.Set.{TaskSet, memberCount, Formed}
-use Rattle.reading.specs.Forms.{Form, Act, Test, Sequence, Choice, If, While, StartWindow, EndWindow, Set, Reserved, formNumber, formAt, fieldX, taskSet, FormedAs}
+use Rattle.model.specs.Forms.{Form, Act, Test, Sequence, Choice, If, While, StartWindow, EndWindow, Set, Reserved, formNumber, formAt, fieldX}
+use Rattle.reading.specs.Forms.{taskSet, FormedAs}
 use Rattle.reading.specs.Reading.{HasReading}
 use Rattle.reading.specs.Table.{Found, Tabulated}
 use Rattle.reading.specs.Count.{Triple, Read, Counted}

@@ -16,7 +16,8 @@ use Rattle.words.specs.Fields.{form, fails, holds, conditionFormula, conditionI
 use Rattle.model.specs.Trajectory.{Trajectory}
 use Rattle.model.specs.Procedure.{Procedure}
 use Rattle.sets.specs.Set.{TaskSet, memberCount, member, MetAs, Met, Placing, SetRule, Formed}
-use Rattle.reading.specs.Forms.{Form, Act, Test, Sequence, Choice, If, While, StartWindow, EndWindow, Set, Reserved, formAt, fieldX, fieldY, fieldM, fieldN, taskSet, FormedAs}
+use Rattle.model.specs.Forms.{Form, Act, Test, Sequence, Choice, If, While, StartWindow, EndWindow, Set, Reserved, formAt, fieldX, fieldY, fieldM, fieldN}
+use Rattle.reading.specs.Forms.{taskSet, FormedAs}
 use Rattle.reading.specs.Reading.{HasReading}
 use Rattle.reading.specs.Rule.{Rule}
 use Rattle.reading.specs.Decision.{some, each, through, metb, insideb, coveredb, conditionb, placingb, tried, setb, ruleb, reads}

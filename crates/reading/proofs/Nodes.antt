@@ -13,7 +13,8 @@ use Rattle.model.specs.Procedure.{Procedure}
 use Rattle.sets.specs.Set.{TaskSet, member, SetRule}
 use Rattle.sets.specs.Ends.{taskSetOf, SetReady, SetRows, InTable}
 use Rattle.sets.proofs.Stored.{rule-map}
-use Rattle.reading.specs.Forms.{Form, Act, Test, Sequence, Choice, If, While, StartWindow, EndWindow, Set, Reserved, formNumber, formAt, taskSet, FormedAs}
+use Rattle.model.specs.Forms.{Form, Act, Test, Sequence, Choice, If, While, StartWindow, EndWindow, Set, Reserved, formNumber, formAt}
+use Rattle.reading.specs.Forms.{taskSet, FormedAs}
 use Rattle.reading.specs.Rule.{Rule}
 use Rattle.reading.specs.World.{alone, procedureAt, trajectoryAt}
 use Rattle.reading.specs.Table.{rowAt, NodeReady, NodeRows}

@@ -8,7 +8,8 @@ use native.Mathlib.Omega.{arith}
 use Rattle.model.specs.Trajectory.{Trajectory}
 use Rattle.model.specs.Procedure.{Procedure}
 use Rattle.sets.specs.Set.{TaskSet, memberCount, member, SetRule}
-use Rattle.reading.specs.Forms.{Form, Act, Test, Sequence, Choice, If, While, StartWindow, EndWindow, Set, Reserved, formAt, FormedAs}
+use Rattle.model.specs.Forms.{Form, Act, Test, Sequence, Choice, If, While, StartWindow, EndWindow, Set, Reserved, formAt}
+use Rattle.reading.specs.Forms.{FormedAs}
 use Rattle.reading.specs.Reading.{Mode, whole, passes, Reading, act, test, sequence, first, second, taken, otherwise, loop, done, pass, startWindow, endWindow, set, HasReading}
 use Rattle.reading.specs.Rule.{Rule}
 

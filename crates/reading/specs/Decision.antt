@@ -11,7 +11,8 @@ use Rattle.words.specs.Fields.{form, fails, holds, conditionFormula, conditionI
 use Rattle.model.specs.Trajectory.{Trajectory}
 use Rattle.model.specs.Procedure.{Procedure}
 use Rattle.sets.specs.Set.{TaskSet, memberCount}
-use Rattle.reading.specs.Forms.{Form, Act, Test, Sequence, Choice, If, While, StartWindow, EndWindow, Set, Reserved, formAt, fieldX, fieldY, fieldM, fieldN, taskSet}
+use Rattle.model.specs.Forms.{Form, Act, Test, Sequence, Choice, If, While, StartWindow, EndWindow, Set, Reserved, formAt, fieldX, fieldY, fieldM, fieldN}
+use Rattle.reading.specs.Forms.{taskSet}
 
 -- some m below k passes; each does
 unfoldable pub some : (ℕ → Bool) → ℕ → Bool

@@ -11,7 +11,8 @@ use Rattle.words.specs.Fields.{fails, holds, readingWord}
 use Rattle.model.specs.Trajectory.{Trajectory}
 use Rattle.model.specs.Procedure.{Procedure}
 use Rattle.sets.specs.Set.{Placing}
-use Rattle.reading.specs.Forms.{Form, Act, Test, Sequence, Choice, If, While, StartWindow, EndWindow, Set, formAt, fieldX, fieldY, fieldM, fieldN, taskSet}
+use Rattle.model.specs.Forms.{Form, Act, Test, Sequence, Choice, If, While, StartWindow, EndWindow, Set, formAt, fieldX, fieldY, fieldM, fieldN}
+use Rattle.reading.specs.Forms.{taskSet}
 
 pub data Mode : Type 0 where
   whole passes : Mode

@@ -8,7 +8,8 @@ use Rattle.words.specs.Fields.{fails, holds}
 use Rattle.model.specs.Trajectory.{Trajectory}
 use Rattle.model.specs.Procedure.{Procedure}
 use Rattle.sets.specs.Set.{SetRule}
-use Rattle.reading.specs.Forms.{Form, Act, Test, Sequence, Choice, If, While, StartWindow, EndWindow, Set, Reserved, fieldX, fieldY, fieldM, fieldN, taskSet}
+use Rattle.model.specs.Forms.{Form, Act, Test, Sequence, Choice, If, While, StartWindow, EndWindow, Set, Reserved, fieldX, fieldY, fieldM, fieldN}
+use Rattle.reading.specs.Forms.{taskSet}
 
 abbrev pub Rule : Procedure → Trajectory → (ℕ → ℕ → ℕ → Type 0) → Form → ℕ → ℕ → ℕ → Type 0
 Rule P T R Act p b e = (T .starts (fieldX P p) b ≡ true) × (e ≡ b + T .duration (fieldX P p)) × (e ≤ T .last)

@@ -8,7 +8,8 @@ use Rattle.sets.specs.Ends.{InTable}
 use Rattle.bitset.specs.Members.{In}
 use Rattle.model.specs.Trajectory.{Trajectory}
 use Rattle.model.specs.Procedure.{Procedure}
-use Rattle.reading.specs.Forms.{Set, formAt, FormedAs}
+use Rattle.model.specs.Forms.{Set, formAt}
+use Rattle.reading.specs.Forms.{FormedAs}
 use Rattle.reading.specs.Reading.{HasReading}
 use Rattle.reading.specs.Rule.{Rule}
 use Rattle.reading.specs.Count.{Counted}

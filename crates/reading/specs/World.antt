@@ -9,7 +9,8 @@ use Rattle.bitset.specs.Members.{has}
 use Rattle.words.specs.Fields.{memberNode}
 use Rattle.model.specs.Trajectory.{Trajectory}
 use Rattle.model.specs.Procedure.{Procedure}
-use Rattle.reading.specs.Forms.{formAt, FormedAs}
+use Rattle.model.specs.Forms.{formAt}
+use Rattle.reading.specs.Forms.{FormedAs}
 
 abbrev pub procedureAt : ℕ → List ℕ → List ℕ → List ℕ → List ℕ → Procedure
 procedureAt count words places sizes limits = record {

@@ -2,7 +2,7 @@
 ghost use mathlib.Core.Path.{_≡_};
 ghost use Prim.Native.Nat.{_+_, _<_, _≤_};
 ghost use lib.ListN.{length, getD};
-ghost use Rattle.reading.specs.Forms.{Set, formAt};
+ghost use Rattle.model.specs.Forms.{Set, formAt};
 ghost use Rattle.reading.specs.World.{alone, procedureAt, trajectoryAt, WorldReady};
 ghost use Rattle.reading.specs.Table.{NodeReady, NodeRows, Blank, Found, Tabulated};
 

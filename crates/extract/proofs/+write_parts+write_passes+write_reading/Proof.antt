@@ -7,7 +7,7 @@ use lib.ListN.{length, set, length-set}
 use borrow.Author.Needs.{needs}
 use borrow.Fn.Kinds.{In}
 use borrow.Fn.PlainCycle.{Measures, is, falls, and}
-use Rattle.reading.specs.Forms.{formNumber}
+use Rattle.model.specs.Forms.{formNumber}
 use Rattle.reading.specs.World.{procedureAt, trajectoryAt}
 use Rattle.extract.specs.Contract.{Written}
 use Rattle.extract.proofs.Written.{written-none, written-under, written-length}

@@ -5,7 +5,7 @@ use Prim.Native.Nat.{ℕ, _+_, _*_, _<_, _≤_}
 use native.Mathlib.Omega.{arith}
 use borrow.Author.Needs.{needs}
 use lib.ListN.{length, getD}
-use Rattle.reading.specs.Forms.{formNumber}
+use Rattle.model.specs.Forms.{formNumber}
 use Rattle.parts.proofs.Choice.{end-last, rest-chosen, choice-some, choice-chosen, if-chosen, sequence-some, sequence-chosen, end-some, end-chosen, start-some, start-chosen, set-some, set-chosen}
 use Rattle.parts.proofs.choose_parts.Statement.{statement}
 use Rattle.parts.proofs.choose_parts.Tie as tie

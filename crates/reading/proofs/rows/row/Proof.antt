@@ -1,6 +1,6 @@
 -- `reading::rows::row` meets its contract: in each arm the rule of the form is what the row function ensures. Assumes nothing.
 use Rattle.reading.proofs.Forms.{no-form}
-use Rattle.reading.specs.Forms.{formNumber}
+use Rattle.model.specs.Forms.{formNumber}
 use mathlib.Core.Path.{sym, ap, _∙_}
 use native.Mathlib.Omega.{arith}
 use Rattle.sets.proofs.Laws.{in-none}
