@@ -11,7 +11,7 @@ use Rattle.words.specs.Fields.{unknown, holds}
 use Rattle.job.specs.Parts.{headWord, fluents, lastMoment}
 use Rattle.job.specs.WellFormed.{WellFormed}
 use Rattle.history.specs.Values.{valueAt}
-use Rattle.facts.specs.Facts.{factOf, factsAt, factsOf}
+use Rattle.facts.specs.Facts.{factOf, factsAt, factsUpto, factsOf}
 use Rattle.history.proofs.Values.{pick-most}
 
 -- the words ascend strictly, and lie from low to below high
@@ -71,5 +71,5 @@ module _ {job : List ℕ} (w : WellFormed job) (starts : List ℕ) where
       (climbs-gather (least t) (λ f. factOf (headWord job) t f (valueAt job starts t f)) (fluents job) (λ f l. fact-climbs (headWord job) t f (valueAt job starts t f)))
 
   pub facts-ascend : (i j : ℕ) → i < j → j < length (factsOf job starts) → getD (factsOf job starts) i 0 < getD (factsOf job starts) j 0
-  unfolding factsOf
+  unfolding factsOf factsUpto
   facts-ascend = climbs-ascends (climbs-gather (λ t. least t 0) (factsAt job starts) (lastMoment job + 1) (λ t l. moment-climbs t))

@@ -1,47 +1,47 @@
 -- The lists of facts: moment by moment, how long they are, and how one is written after another. Assumes nothing.
 use mathlib.Core.Bool.{Bool, true, false, cond}
-use mathlib.Core.List.{List, [], _∷_, _++_}
+use mathlib.Core.List.{List, [], _∷_, _++_, append-assoc, append-nil}
 use mathlib.Core.Path.{_≡_, refl, ap, _∙_}
-use Prim.Native.Nat.{ℕ, zero, suc, _+_, _*_, _≤_, _<_}
+use Prim.Native.Nat.{ℕ, zero, suc, _+_, _-_, _*_, _≤_, _<_}
 use native.Mathlib.Nat.{add-zero, add-suc, suc-add, suc-mul}
 use native.Mathlib.Numerals.{add-one}
 use native.Mathlib.Omega.{arith}
 use lib.Dec.{eqb}
-use lib.ListN.{length, getD, set, length-append}
+use store.Seg.{take-pre}
+use lib.ListN.{length, getD, set, take, length-append}
 use lib.Seq.{sets, length-sets}
 use Rattle.words.specs.Scan.{concatBelow}
 use Rattle.words.specs.Fields.{unknown, factWord}
 use Rattle.job.specs.Parts.{headWord, fluents, lastMoment}
 use Rattle.job.specs.WellFormed.{WellFormed}
 use Rattle.history.specs.Values.{valueAt}
-use Rattle.facts.specs.Written.{stateFacts}
-use Rattle.history.specs.Tables.{StateAt}
-use Rattle.facts.specs.Facts.{factOf, factsAt, factsOf}
+use Rattle.history.specs.Tables.{History}
+use Rattle.facts.specs.Facts.{factOf, factsAt, factsUpto, factsOf}
+use Rattle.facts.specs.Written.{rowFacts, Written, Filled}
 
 -- one list written after another
 sets-append : (vs ws l : List ℕ) (i : ℕ) → sets l i (vs ++ ws) ≡ sets (sets l i vs) (i + length vs) ws
 sets-append [] ws l i = rw add-zero
 sets-append (v ∷ vs) ws l i = rw (add-suc i (length vs)) (sets-append vs ws (set l i v) (suc i) ∙ rw suc-add)
 
--- words written to a buffer at a position, and the position after them
-pub record Written (old : List ℕ) (at : ℕ) (words : List ℕ) (end : ℕ) (buffer : List ℕ) : Type 0 where
-  pub next : end ≡ at + length words
-  pub held : buffer ≡ sets old at words
-  pub size : length buffer ≡ length old
+module _ {old : List ℕ} {at : ℕ} where
+  pub written-none : Written old at [] at old
+  written-none = record { next = omega arith; held = refl }
 
-pub written-none : {old : List ℕ} {at : ℕ} → Written old at [] at old
-written-none = record { next = omega arith; held = refl; size = refl }
+  pub written-more : {vs ws all mid new : List ℕ} {end end' : ℕ} → all ≡ vs ++ ws → Written old at vs end mid → Written mid end ws end' new → Written old at all end' new
+  written-more {vs} {ws} a v w =
+      record {
+        next = rw (a, length-append) (omega (arith, v .next, w .next));
+        held = w .held ∙ rw (v .held, v .next, a, sets-append);
+      }
 
-pub written-more : {old vs : List ℕ} {at end : ℕ} {buffer : List ℕ} → Written old at vs end buffer → (ws : List ℕ) {all : List ℕ} {end' : ℕ} {new : List ℕ} → all ≡ vs ++ ws
-    → end' ≡ end + length ws → new ≡ sets buffer end ws → Written old at all end' new
-written-more {old} {vs} {at} {end} {buffer} h ws {all} {end'} {new} a e n =
-    record {
-      next = rw (a, length-append) (omega (arith, h .next));
-      held = n ∙ rw (h .held, h .next, a, sets-append);
-      size = ap length n ∙ length-sets buffer end ws ∙ h .size;
-    }
+  pub written-size : {words new : List ℕ} {end : ℕ} → Written old at words end new → length new ≡ length old
+  written-size {words} w = ap length (w .held) ∙ length-sets old at words
 
-pub gather-more : (g : ℕ → List ℕ) (n : ℕ) → concatBelow g (n + 1) ≡ concatBelow g n ++ g n
+pub written-front : {old words new : List ℕ} {end : ℕ} → Written old 0 words end new → Filled old words end new
+written-front w = record { count = omega (arith, w .next); held = w .held }
+
+gather-more : (g : ℕ → List ℕ) (n : ℕ) → concatBelow g (n + 1) ≡ concatBelow g n ++ g n
 unfolding concatBelow
 gather-more g n = rw add-one
 
@@ -63,45 +63,72 @@ fact-most head t f value = cases (eqb value unknown)
     cases true = omega arith
     cases false = omega arith
 
-module _ (head t : ℕ) (state : List ℕ) where
-  pub state-facts-none : stateFacts head t state 0 ≡ []
-  unfolding stateFacts concatBelow
-  state-facts-none = refl
+facts-most : (head t : ℕ) (value : ℕ → ℕ) (n : ℕ) → length (concatBelow (λ f. factOf head t f (value f)) n) ≤ n
+facts-most head t value n = omega (arith, gather-most (λ (f : ℕ). factOf head t f (value f)) 1 n (λ f. fact-most head t f (value f)))
 
-  pub state-facts-more : (n : ℕ) → stateFacts head t state (n + 1) ≡ stateFacts head t state n ++ factOf head t n (getD state n 0)
-  unfolding stateFacts
-  state-facts-more n = gather-more (λ (f : ℕ). factOf head t f (getD state f 0)) n
+-- by a history: one fluent more
+module _ (history : List ℕ) (head t : ℕ) where
+  pub row-none : rowFacts history head t 0 ≡ []
+  unfolding rowFacts concatBelow
+  row-none = refl
 
-  pub state-facts-most : (n : ℕ) → length (stateFacts head t state n) ≤ n
-  unfolding stateFacts
-  state-facts-most n =
-      omega (arith, gather-most (λ (f : ℕ). factOf head t f (getD state f 0)) 1 n (λ f. fact-most head t f (getD state f 0)))
+  pub row-more : (n : ℕ) → rowFacts history head t (n + 1) ≡ rowFacts history head t n ++ factOf head t n (getD history (t * 64 + n) 0)
+  unfolding rowFacts
+  row-more n = gather-more (λ (f : ℕ). factOf head t f (getD history (t * 64 + f) 0)) n
+
+  pub row-most : (n : ℕ) → length (rowFacts history head t n) ≤ n
+  unfolding rowFacts
+  row-most n = facts-most head t (λ f. getD history (t * 64 + f) 0) n
+
+-- by a history: the facts of the moments below t, and one moment more
+unfoldable pub rowsFacts : List ℕ → ℕ → ℕ → ℕ → List ℕ
+rowsFacts history head n t = concatBelow (λ u. rowFacts history head u n) t
+
+module _ (history : List ℕ) (head n : ℕ) where
+  pub rows-none : rowsFacts history head n 0 ≡ []
+  unfolding rowsFacts concatBelow
+  rows-none = refl
+
+  pub rows-more : (t : ℕ) → rowsFacts history head n (t + 1) ≡ rowsFacts history head n t ++ rowFacts history head t n
+  unfolding rowsFacts
+  rows-more t = gather-more (λ (u : ℕ). rowFacts history head u n) t
+
+  pub rows-most : n ≤ 64 → (t : ℕ) → length (rowsFacts history head n t) ≤ t * 64
+  unfolding rowsFacts
+  rows-most l t = gather-most (λ (u : ℕ). rowFacts history head u n) 64 t (λ u. omega (arith, row-most history head u n))
+
+-- they are the facts of the plan that has this history
+pub rows-facts : {job starts history : List ℕ} → History job starts history → (t : ℕ) → t ≤ lastMoment job
+    → rowsFacts history (headWord job) (fluents job) (t + 1) ≡ factsUpto job starts t
+unfolding rowsFacts rowFacts factsUpto factsAt
+rows-facts {job} h t l =
+    gather-same _ _ (t + 1)
+    (λ u m. gather-same _ _ (fluents job) (λ f k. ap (factOf (headWord job) u f) (h .entry u f (omega arith) k)))
 
 module _ (job starts : List ℕ) where
-  -- the facts of the state at a moment are the facts of that moment
-  pub state-facts : (t : ℕ) (state : List ℕ) → StateAt job starts t state → (n : ℕ) → n ≡ fluents job → stateFacts (headWord job) t state n ≡ factsAt job starts t
-  unfolding stateFacts factsAt
-  state-facts t state h n e = rw e (gather-same _ _ (fluents job) (λ f l. ap (factOf (headWord job) t f) (h .value f l)))
-
   moment-most : (t : ℕ) → length (factsAt job starts t) ≤ fluents job
   unfolding factsAt
-  moment-most t =
-      omega (arith, gather-most (λ (f : ℕ). factOf (headWord job) t f (valueAt job starts t f)) 1 (fluents job) (λ f. fact-most (headWord job) t f (valueAt job starts t f)))
+  moment-most t = facts-most (headWord job) t (valueAt job starts t) (fluents job)
 
   -- at most 64 facts a moment
-  pub facts-few : WellFormed job → (t : ℕ) → length (concatBelow (factsAt job starts) t) ≤ t * 64
-  facts-few w t = gather-most (factsAt job starts) 64 t (λ i. omega (arith, moment-most i, w .few-fluents))
-
-  pub facts-none : concatBelow (factsAt job starts) 0 ≡ []
-  unfolding concatBelow
-  facts-none = refl
-
-  -- the facts of the last moment come last
-  pub facts-last : (t : ℕ) → t ≡ lastMoment job → factsOf job starts ≡ concatBelow (factsAt job starts) t ++ factsAt job starts t
-  unfolding factsOf
-  facts-last t e = rw (← e) (gather-more (factsAt job starts) t)
+  pub facts-few : WellFormed job → (t : ℕ) → length (factsUpto job starts t) ≤ (t + 1) * 64
+  unfolding factsUpto
+  facts-few w t = gather-most (factsAt job starts) 64 (t + 1) (λ i. omega (arith, moment-most i, w .few-fluents))
 
   -- all facts fit 4,096 words
   pub facts-fit : WellFormed job → length (factsOf job starts) ≤ 4096
   unfolding factsOf
-  facts-fit w = let m = w .few-moments in omega (arith, facts-few w (lastMoment job + 1))
+  facts-fit w = let m = w .few-moments in omega (arith, facts-few w (lastMoment job))
+
+-- the facts up to a moment come first among all
+gather-split : (g : ℕ → List ℕ) (n k : ℕ) → concatBelow g (n + k) ≡ concatBelow g n ++ concatBelow (λ i. g (n + i)) k
+unfolding concatBelow
+gather-split g n zero = rw (add-zero, append-nil)
+gather-split g n (suc k) = rw (add-suc n k, gather-split g n k, append-assoc)
+
+pub facts-front : (job starts : List ℕ) (t : ℕ) → t ≤ lastMoment job → take (length (factsUpto job starts t)) (factsOf job starts) ≡ factsUpto job starts t
+unfolding factsOf factsUpto
+facts-front job starts t l =
+    let e : lastMoment job + 1 ≡ t + 1 + (lastMoment job - t) = omega arith in
+    rw (e, gather-split (factsAt job starts) (t + 1) (lastMoment job - t))
+    (take-pre (concatBelow (factsAt job starts) (t + 1)) _)

@@ -16,5 +16,9 @@ factOf head t f value = cond (eqb value unknown) [] (factWord head t f value ∷
 unfoldable pub factsAt : List ℕ → List ℕ → ℕ → List ℕ
 factsAt job starts t = concatBelow (λ f. factOf (headWord job) t f (valueAt job starts t f)) (fluents job)
 
+-- the facts of moments 0 to t; all facts
+unfoldable pub factsUpto : List ℕ → List ℕ → ℕ → List ℕ
+factsUpto job starts t = concatBelow (factsAt job starts) (t + 1)
+
 unfoldable pub factsOf : List ℕ → List ℕ → List ℕ
-factsOf job starts = concatBelow (factsAt job starts) (lastMoment job + 1)
+factsOf job starts = factsUpto job starts (lastMoment job)

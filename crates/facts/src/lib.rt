@@ -1,4 +1,5 @@
-// The list of known facts of a plan.
+// The list of known facts of a plan, by its history.
 pub mod list;
 
 pub use list::fill_facts;
+pub use list::fill_upto;

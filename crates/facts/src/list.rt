@@ -1,15 +1,13 @@
-// The list of known facts, written to a buffer.
-ghost use mathlib.Core.Path.{_≡_};
+// The list of known facts, written to a buffer by the history of a plan.
+ghost use mathlib.Core.List.{List};
 ghost use Prim.Native.Nat.{ℕ, _+_, _<_, _≤_};
-ghost use lib.ListN.{length, getD};
-ghost use lib.Seq.{sets};
-ghost use Rattle.job.specs.Parts.{headWord, fluents};
+ghost use lib.ListN.{length};
 ghost use Rattle.job.specs.WellFormed.{WellFormed};
-ghost use Rattle.facts.specs.Facts.{factOf, factsOf};
-ghost use Rattle.facts.specs.Written.{stateFacts};
-ghost use Rattle.history.specs.Tables.{Durations, Effects, Named};
-use history::initial_state;
-use history::step;
+ghost use Rattle.history.specs.Tables.{History};
+ghost use Rattle.facts.specs.Facts.{factOf, factsUpto, factsOf};
+ghost use Rattle.facts.specs.Written.{rowFacts, Written, Filled, Fillable};
+use history::FLUENTS;
+use history::OPEN;
 use words::fact_word;
 use words::fluents_of;
 use words::last_of;
@@ -17,60 +15,58 @@ use words::last_of;
 // Writes the fact of one value, where it is not open, to the buffer at position `at`, and answers the position after it.
 fn write_fact(head: u32, t: usize, f: usize, value: u8, buffer: &mut [u32], at: usize) -> usize
     requires { ⌜ (t < 64) × (f < 64) × (at < length (now buffer)) ⌝ }
-    ensures { λ r. ⌜ r ≡ at + length (factOf head t f value) ⌝ }
-    ensures { λ r. ⌜ now (buffer .exit) ≡ sets (now (buffer .entry)) at (factOf head t f value) ⌝ }
+    ensures { λ r. ⌜ Written (now (buffer .entry)) at (factOf head t f value) r (now (buffer .exit)) ⌝ }
 {
-    if value == 1 {
+    if value == OPEN {
         return at;
     }
     buffer[at] = fact_word(head, t, f, value);
     at + 1
 }
 
-// The same for the facts of the first `n` fluents of a state.
+// The same for the facts at moment `t` of the first `n` fluents.
 fn write_facts(
+    history: &[u8; 4096],
     head: u32,
-    n: usize,
-    state: &[u8; 64],
     t: usize,
+    n: usize,
     buffer: &mut [u32],
     at: usize,
 ) -> usize
-    requires { ⌜ (n ≤ 64) × (t < 64) × (at + n ≤ length (now buffer)) ⌝ }
-    ensures { λ r. ⌜ r ≡ at + length (stateFacts head t (now (state .entry)) n) ⌝ }
-    ensures { λ r. ⌜ now (buffer .exit) ≡ sets (now (buffer .entry)) at (stateFacts head t (now (state .entry)) n) ⌝ }
+    requires { ⌜ (t < 64) × (n ≤ 64) × (at + n ≤ length (now buffer)) ⌝ }
+    ensures { λ r. ⌜ Written (now (buffer .entry)) at (rowFacts (now (history .entry)) head t n) r (now (buffer .exit)) ⌝ }
 {
     let mut end = at;
     let mut f = 0;
     while f < n {
-        end = write_fact(head, t, f, state[f], buffer, end);
+        end = write_fact(head, t, f, history[t * FLUENTS + f], buffer, end);
         f += 1;
     }
     end
 }
 
-// Writes all facts to the front of the buffer, and answers how many they are.
-pub fn fill_facts(
-    job: &[u32],
-    durations: &[usize; 64],
-    effects: &[u8; 4096],
-    starts: &[u32],
-    buffer: &mut [u32],
-) -> usize
-    requires { ⌜ WellFormed (now job) × Durations (now job) (now durations) × Effects (now job) (now effects) × Named (now job) (now starts) × (4096 ≤ length (now buffer)) ⌝ }
-    ensures { λ r. ⌜ r ≡ length (factsOf (now (job .entry)) (now (starts .entry))) ⌝ }
-    ensures { λ r. ⌜ now (buffer .exit) ≡ sets (now (buffer .entry)) 0 (factsOf (now (job .entry)) (now (starts .entry))) ⌝ }
+// Writes the facts of the moments up to `last` to the front of the buffer, and answers how many they are.
+pub fn fill_upto(job: &[u32], history: &[u8; 4096], last: usize, buffer: &mut [u32]) -> usize
+    requires { ⌜ Fillable (now job) last (now buffer) ⌝ }
+    ensures { λ r. ⌜ ((starts : List ℕ) → History (now (job .entry)) starts (now (history .entry))
+        → Filled (now (buffer .entry)) (factsUpto (now (job .entry)) starts last) r (now (buffer .exit))) ⌝ }
 {
     let head = job[0];
     let n = fluents_of(head);
-    let last = last_of(head);
-    let mut state = initial_state(job);
     let mut at = 0;
     let mut t = 0;
-    while t < last {
-        at = write_facts(head, n, &state, t, buffer, at);
-        step(job, durations, effects, starts, t, &mut state);
+    while t <= last {
+        at = write_facts(history, head, t, n, buffer, at);
         t += 1;
     }
-    write_facts(head, n, &state, t, buffer, at)
+    at
+}
+
+// The same for all facts.
+pub fn fill_facts(job: &[u32], history: &[u8; 4096], buffer: &mut [u32]) -> usize
+    requires { ⌜ WellFormed (now job) × (4096 ≤ length (now buffer)) ⌝ }
+    ensures { λ r. ⌜ ((starts : List ℕ) → History (now (job .entry)) starts (now (history .entry))
+        → Filled (now (buffer .entry)) (factsOf (now (job .entry)) starts) r (now (buffer .exit))) ⌝ }
+{
+    fill_upto(job, history, last_of(job[0]), buffer)
 }

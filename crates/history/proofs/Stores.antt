@@ -1,14 +1,15 @@
 -- What stores leave in a state or a table: of words taken from the last to the first, the first that passes prevails. Assumes nothing.
 use mathlib.Core.Bool.{Bool, true, false, cond, _&&_, _||_}
 use mathlib.Core.List.{List, [], _∷_}
-use mathlib.Core.Path.{_≡_, refl, sym, _∙_}
+use mathlib.Core.Path.{_≡_, refl, sym, ap, _∙_}
 use Prim.Native.Nat.{ℕ, zero, suc, _+_, _-_, _*_, _≤_, _<_}
 use native.Mathlib.Omega.{arith}
 use borrow.Author.Count.{below-more}
 use borrow.Author.Tests.{eqb-true, eqb-false}
 use lib.Dec.{eqb}
-use lib.ListN.{length, getD, drop, set, replicate, length-set}
+use lib.ListN.{length, getD, drop, set, replicate, length-set, length-replicate, getD-replicate}
 use lib.Seq.{getD-set-same, getD-set-other}
+use Rattle.words.specs.Fields.{unknown}
 use Rattle.words.specs.Scan.{any, findOr}
 use Rattle.words.proofs.Scan.{drop-next, gives-end}
 use Rattle.history.specs.Stores.{Overlaid, Mapped, RowStored}
@@ -29,6 +30,12 @@ module _ {n : ℕ} {test : ℕ → ℕ → Bool} {gives : ℕ → ℕ → ℕ} {
 
       value : (f : ℕ) → f < n → getD new f 0 ≡ findOr (test f) (gives f) (getD old f 0) (drop (i - 1) ws)
       value f b = rw (drop-next ws (i - 1) (omega arith), next, ← m .value f b) (h .value f b)
+
+-- words over a row of open values
+pub overlaid-open : {n : ℕ} {test : ℕ → ℕ → Bool} {gives : ℕ → ℕ → ℕ} {ws new : List ℕ} → Overlaid n test gives (replicate n unknown) ws new
+    → (f : ℕ) → f < n → getD new f 0 ≡ findOr (test f) (gives f) unknown ws
+overlaid-open {n} {test} {gives} {ws} o f l =
+    o .value f l ∙ ap (λ (v : ℕ). findOr (test f) (gives f) v ws) (getD-replicate n f unknown 0 l)
 
 -- one word, whose test is on itself and then on the fluent
 module _ (n : ℕ) (says : ℕ → Bool) (further : ℕ → ℕ → Bool) (gives : ℕ → ℕ → ℕ) (w : ℕ) {old : List ℕ} where
@@ -90,6 +97,29 @@ module _ {row : List ℕ} {a : ℕ} {old : List ℕ} where
             (λ f l. rw (getD-set-other cur (a * 64 + n) (a * 64 + f) (getD row n 0) 0 (λ q. omega arith)) (h .here f l))
             (getD-set-same cur (a * 64 + n) (getD row n 0) 0 r);
         earlier = λ i l. rw (getD-set-other cur (a * 64 + n) i (getD row n 0) 0 (λ q. omega arith)) (h .earlier i l);
+      }
+
+-- a table of rows of 64 on the way: the first n entries of each row before row a
+pub record Rows (value : ℕ → ℕ → ℕ) (n a : ℕ) (table : List ℕ) : Type 0 where
+  pub size : length table ≡ 4096
+  pub entry : (b f : ℕ) → b < a → f < n → getD table (b * 64 + f) 0 ≡ value b f
+
+module _ {value : ℕ → ℕ → ℕ} {n : ℕ} where
+  pub rows-none : {v : ℕ} → Rows value n 0 (replicate 4096 v)
+  rows-none {v} = record { size = length-replicate {A = ℕ} 4096 v; entry = λ b f l m. absurd (omega arith) }
+
+  -- one row more
+  pub rows-more : {a : ℕ} {row table new : List ℕ} → n ≤ 64 → Rows value n a table → RowStored row a 64 table new
+      → ((f : ℕ) → f < n → getD row f 0 ≡ value a f) → Rows value n (a + 1) new
+  rows-more {a} {row} {table} {new} few all stored this =
+      record {
+        size = stored .size ∙ all .size;
+        entry =
+            λ b f l m.
+            below-more (λ (k : ℕ). getD new (k * 64 + f) 0 ≡ value k f) a
+            (λ k h. stored .earlier (k * 64 + f) (omega arith) ∙ all .entry k f h m)
+            (stored .here f (omega arith) ∙ this f m)
+            b l;
       }
 
 -- a store at i: what holds of each element below i, and of the value stored, holds below i + 1

@@ -1,14 +1,11 @@
--- What stores into a state or a table leave in it.
-use mathlib.Core.Bool.{Bool, not, cond}
+-- What stores into a state or a table leave in it. `size`, of each record: as long as before.
+use mathlib.Core.Bool.{Bool}
 use mathlib.Core.List.{List}
 use mathlib.Core.Path.{_≡_}
 use Prim.Native.Nat.{ℕ, _+_, _*_, _<_, _≤_}
-use lib.Dec.{eqb}
 use lib.ListN.{length, getD}
-use Rattle.words.specs.Fields.{unknown}
 use Rattle.words.specs.Scan.{findOr}
 
--- `size`, of each record: as long as before.
 -- each of the first n bytes is what the first word that passes its test gives it, or else as it was
 pub record Overlaid (n : ℕ) (test : ℕ → ℕ → Bool) (gives : ℕ → ℕ → ℕ) (old words new : List ℕ) : Type 0 where
   pub size : length new ≡ length old
@@ -19,13 +16,6 @@ pub record Mapped (n : ℕ) (make : ℕ → ℕ → ℕ) (old new : List ℕ) : 
   pub size : length new ≡ length old
   pub value : (f : ℕ) → f < n → getD new f 0 ≡ make f (getD old f 0)
   pub rest : (f : ℕ) → n ≤ f → getD new f 0 ≡ getD old f 0
-
--- by a table of effects: what a fluent becomes when action a finishes, and while it hides
-abbrev pub givenBy : List ℕ → ℕ → ℕ → ℕ → ℕ
-givenBy effects a f old = cond (not (eqb (getD effects (a * 64 + f) 0) unknown)) (getD effects (a * 64 + f) 0) old
-
-abbrev pub hiddenBy : List ℕ → ℕ → ℕ → ℕ → ℕ
-hiddenBy effects a f old = cond (not (eqb (getD effects (a * 64 + f) 0) unknown)) unknown old
 
 -- a table of rows of 64: the first n entries of row a are those of `row`, and those of the rows before it are as they were
 pub record RowStored (row : List ℕ) (a n : ℕ) (old new : List ℕ) : Type 0 where

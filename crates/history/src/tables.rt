@@ -9,6 +9,8 @@ ghost use Rattle.job.specs.WellFormed.{WellFormed, Indexed};
 ghost use Rattle.history.specs.Actions.{makesFluent, lawValue};
 ghost use Rattle.history.specs.Tables.{Durations, Effects};
 ghost use Rattle.history.specs.Stores.{Overlaid, RowStored};
+use crate::FLUENTS;
+use crate::OPEN;
 use words::actions_of;
 use words::duration_of;
 use words::fluent_of;
@@ -57,7 +59,7 @@ fn store_law(head: u32, w: u32, row: &mut [u8; 64])
 fn effects_row(head: u32, laws: &[u32]) -> [u8; 64]
     ensures { λ r. ⌜ Overlaid 64 (makesFluent head) (λ f. lawValue head) (replicate 64 unknown) (now (laws .entry)) r ⌝ }
 {
-    let mut row = [1u8; 64];
+    let mut row = [OPEN; 64];
     let mut i = laws.len();
     while 0 < i {
         i -= 1;
@@ -66,14 +68,14 @@ fn effects_row(head: u32, laws: &[u32]) -> [u8; 64]
     row
 }
 
-// Stores the row of action `a`.
-fn store_row(row: &[u8; 64], a: usize, table: &mut [u8; 4096])
+// Stores row `a` of a table.
+pub fn store_row(row: &[u8; 64], a: usize, table: &mut [u8; 4096])
     requires { ⌜ (a < 64) × (length (now table) ≡ 4096) ⌝ }
     ensures { λ _. ⌜ RowStored (now (row .entry)) a 64 (now (table .entry)) (now (table .exit)) ⌝ }
 {
     let mut f = 0;
-    while f < 64 {
-        table[a * 64 + f] = row[f];
+    while f < FLUENTS {
+        table[a * FLUENTS + f] = row[f];
         f += 1;
     }
 }
@@ -84,7 +86,7 @@ pub fn effects(job: &[u32], places: &[usize; 64]) -> [u8; 4096]
 {
     let head = job[0];
     let n = actions_of(head);
-    let mut table = [1u8; 4096];
+    let mut table = [OPEN; 4096];
     let mut a = 0;
     while a < n {
         let row = effects_row(head, laws_of(job, places, a));

@@ -1,16 +1,16 @@
 -- `facts::list::write_fact` meets its contract. Assumes nothing.
 use mathlib.Core.Path.{refl}
 use borrow.Author.Tests.{eq-eqb, ne-eqb}
-use native.Mathlib.Omega.{arith}
+use Rattle.facts.proofs.Lists.{written-none}
 use borrow.Author.Needs.{needs}
 use Rattle.facts.proofs.list.write_fact.Statement.{statement}
 use Rattle.facts.proofs.list.write_fact.Tie as tie
 
 returns : tie.Need-returns
-returns c = rw (eq-eqb _ 1 (c .if1 .taken)) (omega arith, refl)
+returns c = rw (eq-eqb _ 1 (c .if1 .taken)) written-none
 
 returns-2 : tie.Need-returns-2
-returns-2 c = rw (ne-eqb _ 1 (c .before .if1 .left)) (refl, rw (c .fact-word .ensures))
+returns-2 c = rw (ne-eqb _ 1 (c .before .if1 .left)) (record { next = refl; held = rw (c .fact-word .ensures) })
 
 pub write-fact-spec : {M : Type 1} → statement M
 write-fact-spec =

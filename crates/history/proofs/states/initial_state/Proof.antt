@@ -1,12 +1,11 @@
 -- `history::states::initial_state` meets its contract. The invariant: the words from `i` on are stored. Assumes nothing.
-use mathlib.Core.Path.{_≡_, refl, ap, _∙_}
-use Prim.Native.Nat.{ℕ, _-_, _≤_}
-use lib.ListN.{length, getD, drop, replicate, getD-replicate}
+use mathlib.Core.Path.{_≡_, refl, _∙_}
+use Prim.Native.Nat.{_-_, _≤_}
+use lib.ListN.{length, drop, replicate}
 use Rattle.words.specs.Fields.{unknown, knownValue}
-use Rattle.words.specs.Scan.{findOr}
-use Rattle.history.specs.Values.{lists, initially}
+use Rattle.history.specs.Values.{lists, initially, valueAt}
 use Rattle.history.specs.Stores.{Overlaid}
-use Rattle.history.proofs.Stores.{overlaid-none, overlaid-back}
+use Rattle.history.proofs.Stores.{overlaid-none, overlaid-back, overlaid-open}
 use native.Mathlib.Omega.{arith}
 use borrow.Author.Needs.{needs}
 use Rattle.history.proofs.states.initial_state.Statement.{statement}
@@ -28,15 +27,12 @@ loop-again : tie.Need-loop-again Inv-loop μ-loop
 loop-again c = (omega arith, c .store-known .ensures .size ∙ c .before .before .before .before .loop .inv .1, overlaid-back _ _ (c .before .before .before .loop-test .taken) (c .before .before .before .before .loop .inv .0) (c .before .before .before .before .loop .inv .2) (c .store-known .ensures))
 
 returns : tie.Need-returns Inv-loop μ-loop
-unfolding initially
+unfolding initially valueAt
 returns c =
-    let job = c .before .before .before .before .args .job .now in
     let few = c .before .before .before .before .pre .few-fluents in
     let e : c .before .loop .i ≡ 0 = omega arith in
-    let o = rw e at (c .before .loop .inv .2) in (
-      omega (arith, c .before .loop .inv .1),
-      λ f l. o .value f (omega arith) ∙ ap (λ (v : ℕ). findOr (lists (getD job 0 0) f) (knownValue (getD job 0 0)) v job) (getD-replicate 64 f unknown 0 (omega arith)),
-    )
+    let o = rw e at (c .before .loop .inv .2) in
+    record { room = omega (arith, c .before .loop .inv .1); value = λ f l. overlaid-open o f (omega arith) }
 
 pub initial-state-spec : {M : Type 1} → statement M
 initial-state-spec =

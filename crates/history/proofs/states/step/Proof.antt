@@ -4,16 +4,16 @@ use borrow.Author.Needs.{needs}
 use Rattle.history.proofs.states.step.Statement.{statement}
 use Rattle.history.proofs.states.step.Tie as tie
 
-give-starts-requires : tie.Need-give-starts-requires
-give-starts-requires c κs = let p = c .before .before .before .pre in (p .0, p .1, p .2, p .3, p .5 .room)
+apply-starts-requires : tie.Need-apply-starts-requires
+apply-starts-requires c κs = let p = c .before .before .before .pre in (p .0, p .2 .room)
 
-hide-starts-requires : tie.Need-hide-starts-requires
-hide-starts-requires c κs = let p = c .before .before .before .before .before .pre in (p .0, p .1, p .2, p .3, rw (c .before .give-starts .ensures .size) (p .5 .room))
+apply-starts-requires-2 : tie.Need-apply-starts-requires-2
+apply-starts-requires-2 c κs = let p = c .before .before .before .before .before .pre in (p .0, rw (c .before .apply-starts .ensures .size) (p .2 .room))
 
 returns : tie.Need-returns
-returns c = state-next (c .before .before .before .before .before .before .args .t) (c .before .before .before .before .before .before .pre .5) (c .before .before .give-starts .ensures) (c .hide-starts .ensures)
+returns c = state-next (c .before .before .before .before .before .before .args .t) (c .before .before .before .before .before .before .pre .2) (c .before .before .apply-starts .ensures) (c .apply-starts2 .ensures)
 
 pub step-spec : {M : Type 1} → statement M
 step-spec =
     tie.close
-    (tie.spec (λ c. search needs) give-starts-requires (λ c. search needs) hide-starts-requires returns)
+    (tie.spec (λ c. search needs) apply-starts-requires (λ c. search needs) apply-starts-requires-2 returns)

@@ -1,30 +1,31 @@
--- `history::states::hide_effects` meets its contract. The invariant: the bytes below `f` are made. Assumes nothing.
+-- `history::states::apply` meets its contract. The invariant: the bytes below `f` are made. Assumes nothing.
 use mathlib.Core.Path.{_≡_}
 use Prim.Native.Nat.{_≤_, _-_}
-use Rattle.history.specs.Stores.{Mapped, hiddenBy}
+use Rattle.history.specs.Stores.{Mapped}
+use Rattle.history.specs.Passes.{changedBy}
 use Rattle.history.proofs.Stores.{mapped-none, mapped-more}
 use native.Mathlib.Omega.{arith}
 use borrow.Author.Needs.{needs}
-use Rattle.history.proofs.states.hide_effects.Statement.{statement}
-use Rattle.history.proofs.states.hide_effects.Tie as tie
+use Rattle.history.proofs.states.apply.Statement.{statement}
+use Rattle.history.proofs.states.apply.Tie as tie
 
 abbrev Inv-loop : tie.InvT-loop
-Inv-loop effects a n state₀ f₀ state f = (f ≤ n) × Mapped f (hiddenBy effects a) state₀ state
+Inv-loop effects a n hiding state₀ f₀ state f = (f ≤ n) × Mapped f (changedBy effects a hiding) state₀ state
 
 abbrev μ-loop : tie.MeasureT-loop
-μ-loop effects a n state₀ f₀ state f = n - f
+μ-loop effects a n hiding state₀ f₀ state f = n - f
 
 loop-holds : tie.Need-loop-holds Inv-loop μ-loop
 loop-holds c = (omega arith, mapped-none)
 
 loop-again : tie.Need-loop-again Inv-loop μ-loop
-loop-again c = (omega arith, mapped-more _ (omega (arith, c .before .before .before .before .loop .inv .1 .size)) (c .before .before .before .before .loop .inv .1) (c .hidden .ensures))
+loop-again c = (omega arith, mapped-more _ (omega (arith, c .before .before .before .before .loop .inv .1 .size)) (c .before .before .before .before .loop .inv .1) (c .changed .ensures))
 
 returns : tie.Need-returns Inv-loop μ-loop
 returns c = let e : c .before .loop .f ≡ c .before .before .args .n = omega arith in rw e at (c .before .loop .inv .1)
 
-pub hide-effects-spec : {M : Type 1} → statement M
-hide-effects-spec =
+pub apply-spec : {M : Type 1} → statement M
+apply-spec =
     tie.close
     (tie.spec
     Inv-loop

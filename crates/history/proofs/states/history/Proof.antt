@@ -1,0 +1,72 @@
+-- `history::states::history` meets its contract. The invariant: the state is that at `t`, and the rows of the moments before `t` are stored.
+-- Assumes nothing.
+use mathlib.Core.List.{List}
+use Prim.Native.Nat.{ℕ, _+_, _-_, _≤_}
+use Rattle.job.specs.Parts.{fluents}
+use Rattle.history.specs.Values.{valueAt}
+use Rattle.history.specs.Tables.{StateAt}
+use Rattle.history.proofs.Stores.{Rows, rows-none, rows-more}
+use Rattle.history.proofs.Moments.{state-start}
+use native.Mathlib.Omega.{arith}
+use borrow.Author.Needs.{needs}
+use Rattle.history.proofs.states.history.Statement.{statement}
+use Rattle.history.proofs.states.history.Tie as tie
+
+record Walked (job starts : List ℕ) (last t : ℕ) (state table : List ℕ) : Type 0 where
+  bound : t ≤ last + 1
+  reached : StateAt job starts t state
+  stored : Rows (valueAt job starts) (fluents job) t table
+
+abbrev Inv-loop : tie.InvT-loop
+Inv-loop job durations effects starts last table₀ state₀ t₀ table state t = Walked job starts last t state table
+
+abbrev μ-loop : tie.MeasureT-loop
+μ-loop job durations effects starts last table₀ state₀ t₀ table state t = last + 1 - t
+
+shared-slice-read-last-of : tie.Need-shared-slice-read-last-of Inv-loop μ-loop
+shared-slice-read-last-of c = c .before .before .before .pre .well .some
+
+initial-state-requires : tie.Need-initial-state-requires Inv-loop μ-loop
+initial-state-requires c κs = c .before .before .before .before .pre .well
+
+loop-holds : tie.Need-loop-holds Inv-loop μ-loop
+loop-holds c = record { bound = omega arith; reached = state-start (c .initial-state .ensures); stored = rows-none }
+
+store-row-requires : tie.Need-store-row-requires Inv-loop μ-loop
+store-row-requires c κs = (omega (arith, c .before .before .before .before .before .before .before .before .before .pre .well .few-moments, c .before .before .before .before .before .last-of .ensures .0), c .before .before .before .loop .inv .stored .size)
+
+step-requires : tie.Need-step-requires Inv-loop μ-loop
+step-requires c κs =
+    let p = c .before .before .before .before .before .before .before .before .before .before .before .pre in
+    (p, omega (arith, p .well .few-moments, c .before .before .before .before .before .before .before .last-of .ensures .0), c .before .before .before .before .before .loop .inv .reached)
+
+add-t : tie.Need-add-t Inv-loop μ-loop
+add-t c = omega (arith, c .before .before .before .before .before .before .before .before .before .before .before .before .pre .well .few-moments, c .before .before .before .before .before .before .before .before .last-of .ensures .0)
+
+loop-again : tie.Need-loop-again Inv-loop μ-loop
+loop-again c =
+    let p = c .before .before .before .before .before .before .before .before .before .before .before .before .pre in
+    let old = c .before .before .before .before .before .before .loop .inv in
+    record { bound = omega arith; reached = c .step .ensures; stored = rows-more (p .well .few-fluents) (old .stored) (c .before .before .store-row .ensures) (old .reached .value) }
+
+returns : tie.Need-returns Inv-loop μ-loop
+returns c =
+    let rows = c .before .loop .inv .stored in
+    record { size = rows .size; entry = λ t f l m. rows .entry t f (omega (arith, c .before .before .before .last-of .ensures .0)) m }
+
+pub history-spec : {M : Type 1} → statement M
+history-spec =
+    tie.close
+    (tie.spec
+    Inv-loop
+    μ-loop
+    shared-slice-read-last-of
+    (λ c κs. search needs)
+    initial-state-requires
+    loop-holds
+    store-row-requires
+    step-requires
+    add-t
+    (λ c. omega arith)
+    loop-again
+    returns)
