@@ -8,7 +8,7 @@ use Rattle.words.specs.Tests.{indicator}
 use Rattle.starts.specs.Rows.{clash}
 use Rattle.words.specs.Scan.{anyBelow}
 use Rattle.starts.specs.Latest.{Clashes, clashesAfter}
-use Rattle.starts.proofs.Below.{some-start, some-more, some-hit}
+use Rattle.starts.proofs.AnyBelow.{some-start, some-more, some-hit}
 use borrow.Author.Needs.{needs}
 use native.Mathlib.Omega.{arith}
 use Rattle.starts.proofs.clashes.clashes_after.Statement.{statement}
@@ -39,7 +39,7 @@ abbrev turn : tie.After-if13 Inv-loop μ-loop → tie.At-loop Inv-loop μ-loop
 turn c = c .before .before .before
 
 shared-slice-read-actions-of : tie.Need-shared-slice-read-actions-of Inv-loop μ-loop
-shared-slice-read-actions-of c = c .before .before .pre .0 .some
+shared-slice-read-actions-of c = c .before .before .pre .formed .some
 
 loop-holds : tie.Need-loop-holds Inv-loop μ-loop
 loop-holds c = (omega arith, some-start _)
@@ -47,27 +47,27 @@ loop-holds c = (omega arith, some-start _)
 mul-if1 : tie.Need-mul-if1 Inv-loop μ-loop
 mul-if1 c =
     let start = entry1 c in
-    omega (arith, start .pre .0 .few-actions, start .pre .2, c .before .before .actions-of .ensures .0)
+    omega (arith, start .pre .formed .few-actions, start .pre .action, c .before .before .actions-of .ensures .0)
 
 element-copy-out-if1 : tie.Need-element-copy-out-if1 Inv-loop μ-loop
 element-copy-out-if1 c =
     let start = entry1 c in
-    omega (arith, start .pre .0 .few-actions, start .pre .2, c .before .before .actions-of .ensures .0)
+    omega (arith, start .pre .formed .few-actions, start .pre .action, c .before .before .actions-of .ensures .0)
 
 mul-if1-2 : tie.Need-mul-if1-2 Inv-loop μ-loop
 mul-if1-2 c =
     let start = entry1 (c .before) in
-    omega (arith, start .pre .0 .few-actions, start .pre .2, c .before .before .before .actions-of .ensures .0)
+    omega (arith, start .pre .formed .few-actions, start .pre .action, c .before .before .before .actions-of .ensures .0)
 
 add-if1 : tie.Need-add-if1 Inv-loop μ-loop
 add-if1 c =
     let start = entry1 (c .before) in
-    omega (arith, start .pre .0 .few-actions, start .pre .2, c .before .before .before .actions-of .ensures .0)
+    omega (arith, start .pre .formed .few-actions, start .pre .action, c .before .before .before .actions-of .ensures .0)
 
 element-copy-out-if1-2 : tie.Need-element-copy-out-if1-2 Inv-loop μ-loop
 element-copy-out-if1-2 c =
     let start = entry1 (c .before) in
-    omega (arith, start .pre .0 .few-actions, start .pre .2, c .before .before .before .actions-of .ensures .0)
+    omega (arith, start .pre .formed .few-actions, start .pre .action, c .before .before .before .actions-of .ensures .0)
 
 returns : tie.Need-returns Inv-loop μ-loop
 returns c =
@@ -77,7 +77,7 @@ returns c =
     let n = after-actions-of (c .before) .actions-of .ensures .0 in
     let a : head .loop .a < actions (args .job .now) = omega arith in
     sym (some-hit (clashesAfter (args .job .now) (args .latest .now) (args .b) (args .u)) _ (head .loop .a) a
-    (rw (← is-one (clash (args .job .now) (head .loop .a) (args .b)), ← pre .1 .entry (head .loop .a) (args .b) a (pre .2)) (c .if1 .taken)))
+    (rw (← is-one (clash (args .job .now) (head .loop .a) (args .b)), ← pre .entries .entry (head .loop .a) (args .b) a (pre .action)) (c .if1 .taken)))
 
 loop-again : tie.Need-loop-again Inv-loop μ-loop
 loop-again c =
@@ -88,7 +88,7 @@ loop-again c =
     let a : head .loop .a < actions (args .job .now) = omega arith in (
       omega arith,
       some-more (clashesAfter (args .job .now) (args .latest .now) (args .b) (args .u)) _ (head .loop .inv .1)
-          (rw (← is-one (clash (args .job .now) (head .loop .a) (args .b)), ← pre .1 .entry (head .loop .a) (args .b) a (pre .2)) (c .if1 .left)),
+          (rw (← is-one (clash (args .job .now) (head .loop .a) (args .b)), ← pre .entries .entry (head .loop .a) (args .b) a (pre .action)) (c .if1 .left)),
     )
 
 returns-2 : tie.Need-returns-2 Inv-loop μ-loop

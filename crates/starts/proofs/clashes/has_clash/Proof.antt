@@ -5,7 +5,7 @@ use mathlib.Core.Bool.{false}
 use Rattle.job.specs.Parts.{fluents}
 use Rattle.starts.specs.Rows.{opposed, clash}
 use Rattle.words.specs.Scan.{anyBelow}
-use Rattle.starts.proofs.Below.{some-start, some-more, some-hit}
+use Rattle.starts.proofs.AnyBelow.{some-start, some-more, some-hit}
 use borrow.Author.Needs.{needs}
 use native.Mathlib.Omega.{arith}
 use Rattle.starts.proofs.clashes.has_clash.Statement.{statement}
@@ -31,7 +31,7 @@ abbrev turn : tie.After-y Inv-loop μ-loop → tie.At-loop Inv-loop μ-loop
 turn c = c .before .before .before
 
 shared-slice-read-fluents-of : tie.Need-shared-slice-read-fluents-of Inv-loop μ-loop
-shared-slice-read-fluents-of c = c .before .before .pre .0 .some
+shared-slice-read-fluents-of c = c .before .before .pre .formed .some
 
 loop-holds : tie.Need-loop-holds Inv-loop μ-loop
 loop-holds c = (omega arith, some-start _)
@@ -39,32 +39,32 @@ loop-holds c = (omega arith, some-start _)
 mul-x : tie.Need-mul-x Inv-loop μ-loop
 mul-x c =
     let start = entry1 c in
-    omega (arith, start .pre .0 .few-actions, start .pre .2)
+    omega (arith, start .pre .formed .few-actions, start .pre .first)
 
 add-x : tie.Need-add-x Inv-loop μ-loop
 add-x c =
     let start = entry1 c in
-    omega (arith, start .pre .0 .few-actions, start .pre .0 .few-fluents, start .pre .2, c .before .before .fluents-of .ensures .0)
+    omega (arith, start .pre .formed .few-actions, start .pre .formed .few-fluents, start .pre .first, c .before .before .fluents-of .ensures .0)
 
 element-copy-out-x : tie.Need-element-copy-out-x Inv-loop μ-loop
 element-copy-out-x c =
     let start = entry1 c in
-    omega (arith, start .pre .0 .few-actions, start .pre .0 .few-fluents, start .pre .2, c .before .before .fluents-of .ensures .0)
+    omega (arith, start .pre .formed .few-actions, start .pre .formed .few-fluents, start .pre .first, c .before .before .fluents-of .ensures .0)
 
 mul-y : tie.Need-mul-y Inv-loop μ-loop
 mul-y c =
     let start = entry1 (c .before) in
-    omega (arith, start .pre .0 .few-actions, start .pre .3)
+    omega (arith, start .pre .formed .few-actions, start .pre .second)
 
 add-y : tie.Need-add-y Inv-loop μ-loop
 add-y c =
     let start = entry1 (c .before) in
-    omega (arith, start .pre .0 .few-actions, start .pre .0 .few-fluents, start .pre .3, c .before .before .before .fluents-of .ensures .0)
+    omega (arith, start .pre .formed .few-actions, start .pre .formed .few-fluents, start .pre .second, c .before .before .before .fluents-of .ensures .0)
 
 element-copy-out-y : tie.Need-element-copy-out-y Inv-loop μ-loop
 element-copy-out-y c =
     let start = entry1 (c .before) in
-    omega (arith, start .pre .0 .few-actions, start .pre .0 .few-fluents, start .pre .3, c .before .before .before .fluents-of .ensures .0)
+    omega (arith, start .pre .formed .few-actions, start .pre .formed .few-fluents, start .pre .second, c .before .before .before .fluents-of .ensures .0)
 
 returns : tie.Need-returns Inv-loop μ-loop
 unfolding clash
@@ -75,7 +75,7 @@ returns c =
     let n = after-fluents-of (c .before) .fluents-of .ensures .0 in
     let f : head .loop .f < fluents (args .job .now) = omega arith in
     sym (some-hit (opposed (args .job .now) (args .a) (args .b)) _ (head .loop .f) f
-    (rw (← pre .1 .entry (args .a) (head .loop .f) (pre .2) f, ← pre .1 .entry (args .b) (head .loop .f) (pre .3) f) (c .if1 .taken)))
+    (rw (← pre .makes .entry (args .a) (head .loop .f) (pre .first) f, ← pre .makes .entry (args .b) (head .loop .f) (pre .second) f) (c .if1 .taken)))
 
 loop-again : tie.Need-loop-again Inv-loop μ-loop
 loop-again c =
@@ -86,7 +86,7 @@ loop-again c =
     let f : head .loop .f < fluents (args .job .now) = omega arith in (
       omega arith,
       some-more (opposed (args .job .now) (args .a) (args .b)) _ (head .loop .inv .1)
-          (rw (← pre .1 .entry (args .a) (head .loop .f) (pre .2) f, ← pre .1 .entry (args .b) (head .loop .f) (pre .3) f) (c .if1 .left)),
+          (rw (← pre .makes .entry (args .a) (head .loop .f) (pre .first) f, ← pre .makes .entry (args .b) (head .loop .f) (pre .second) f) (c .if1 .left)),
     )
 
 returns-2 : tie.Need-returns-2 Inv-loop μ-loop
