@@ -1,7 +1,7 @@
 -- Whether some number below n passes a test. Assumes nothing.
 use mathlib.Core.Bool.{Bool, true, false, _||_}
 use mathlib.Core.Path.{_≡_, refl, sym, _∙_}
-use Prim.Native.Nat.{ℕ, zero, suc, _+_, _<_}
+use Prim.Native.Nat.{ℕ, zero, suc, _+_, _≤_, _<_}
 use native.Mathlib.Decide.{decLt}
 use native.Mathlib.Numerals.{add-one}
 use native.Mathlib.Omega.{arith}
@@ -9,14 +9,6 @@ use Rattle.words.specs.Scan.{anyBelow}
 use Rattle.words.proofs.Choices.{true-false, is-false, either-true}
 
 module _ (test : ℕ → Bool) where
-  pub some-start : anyBelow test 0 ≡ false
-  unfolding anyBelow
-  some-start = refl
-
-  pub some-more : (i : ℕ) → anyBelow test i ≡ false → test i ≡ false → anyBelow test (i + 1) ≡ false
-  unfolding anyBelow
-  some-more i h e = rw (add-one i, h, e)
-
   pub some-none : (n : ℕ) → ((i : ℕ) → i < n → test i ≡ false) → anyBelow test n ≡ false
   unfolding anyBelow
   some-none zero h = refl
@@ -55,3 +47,23 @@ some-same f g n m to from =
     cases true b p q = sym (p refl)
     cases false true p q = q refl
     cases false false p q = refl
+
+-- a loop at number i of n: none before it passes
+pub record Sought (test : ℕ → Bool) (n i : ℕ) : Type 0 where
+  pub inside : i ≤ n
+  pub none : anyBelow test i ≡ false
+
+module _ {test : ℕ → Bool} {n : ℕ} where
+  pub sought-start : Sought test n 0
+  unfolding anyBelow
+  sought-start = record { inside = omega arith; none = refl }
+
+  pub sought-more : {i : ℕ} → Sought test n i → i < n → test i ≡ false → Sought test n (i + 1)
+  unfolding anyBelow
+  sought-more {i} s l e = record { inside = omega arith; none = rw (add-one i, s .none, e) }
+
+  pub sought-found : {i : ℕ} → Sought test n i → i < n → test i ≡ true → true ≡ anyBelow test n
+  sought-found {i} s l e = sym (some-hit test n i l e)
+
+  pub sought-end : {i : ℕ} → Sought test n i → n ≤ i → false ≡ anyBelow test n
+  sought-end {i} s l = let e : i ≡ n = omega (arith, s .inside) in rw (← e) (sym (s .none))

@@ -172,8 +172,8 @@ module _ {job durations starts : List ℕ} (given : Timed job durations starts) 
   latest-stored ev = rw (ea, ev ∙ finish-is (given .lasts) (given .words) i l) (latest-more job starts words (given .words) i l table latest)
 
   module _ {u : ℕ} (eu : u ≡ startMoment (getD starts i 0)) where
-    pub restart-read : inHandAlready job starts i ≡ ltb u (getD table a 0)
-    restart-read = rw (ea, eu) (restart-is job starts words (given .words) i l table latest)
+    pub latest-restart : inHandAlready job starts i ≡ ltb u (getD table a 0)
+    latest-restart = rw (ea, eu) (restart-is job starts words (given .words) i l table latest)
 
-    pub clash-read : clashes job starts i ≡ anyBelow (clashesAfter job table a u) (actions job)
-    clash-read = rw (ea, eu) (clash-is job starts words (given .words) i l table latest (given .formed))
+    pub latest-clash : clashes job starts i ≡ anyBelow (clashesAfter job table a u) (actions job)
+    latest-clash = rw (ea, eu) (clash-is job starts words (given .words) i l table latest (given .formed))

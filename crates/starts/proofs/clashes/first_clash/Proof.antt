@@ -7,7 +7,7 @@ use Rattle.starts.specs.Rows.{clashes}
 use Rattle.starts.specs.Latest.{Latest}
 use Rattle.starts.proofs.Rows.{Passing, passing-start, passing-more, passing-found, passing-end}
 use Rattle.starts.proofs.StartsFormed.{right-word}
-use Rattle.starts.proofs.LatestFinish.{latest-start, latest-stored, clash-read}
+use Rattle.starts.proofs.LatestFinish.{latest-start, latest-stored, latest-clash}
 use borrow.Author.Needs.{needs}
 use native.Mathlib.Omega.{arith}
 use Rattle.starts.proofs.clashes.first_clash.Statement.{statement}
@@ -37,7 +37,7 @@ words c j = omega (arith, c .before .shared-slice-known3 .given j)
 value : (c : tie.After-clashes-after Inv-loop μ-loop)
     → clashes (entry (body c) .args .job .now) (entry (body c) .args .starts .now) (turn (body c) .loop .i) ≡ c .clashes-after .result
 value c =
-    clash-read (entry (body c) .pre .0) (words (body c)) (body c .before .before .loop-test .taken) (turn (body c) .loop .inv .1)
+    latest-clash (entry (body c) .pre .0) (words (body c)) (body c .before .before .loop-test .taken) (turn (body c) .loop .inv .1)
     (body c .start-action .ensures .0) (c .before .start-moment .ensures .0)
     ∙ sym (c .clashes-after .ensures)
 

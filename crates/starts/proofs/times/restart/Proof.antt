@@ -8,7 +8,7 @@ use borrow.Author.Tests.{lt-ltb, le-ltb}
 use Rattle.starts.specs.Rows.{inHandAlready}
 use Rattle.starts.specs.Latest.{Latest}
 use Rattle.starts.proofs.Rows.{Passing, passing-start, passing-more, passing-found, passing-end}
-use Rattle.starts.proofs.LatestFinish.{latest-start, latest-stored, restart-read}
+use Rattle.starts.proofs.LatestFinish.{latest-start, latest-stored, latest-restart}
 use borrow.Author.Needs.{needs}
 use native.Mathlib.Omega.{arith}
 use Rattle.starts.proofs.times.restart.Statement.{statement}
@@ -36,7 +36,7 @@ value : (c : tie.After-start-moment Inv-loop μ-loop)
     → inHandAlready (entry (c .before) .args .job .now) (entry (c .before) .args .starts .now) (turn (c .before) .loop .i)
     ≡ ltb (c .start-moment .result) (getD (turn (c .before) .loop .latest) (c .before .start-action .result) 0)
 value c =
-    restart-read (entry (c .before) .pre) (words (c .before)) (c .before .before .before .loop-test .taken) (turn (c .before) .loop .inv .1)
+    latest-restart (entry (c .before) .pre) (words (c .before)) (c .before .before .before .loop-test .taken) (turn (c .before) .loop .inv .1)
     (c .before .start-action .ensures .0) (c .start-moment .ensures .0)
 
 returns : tie.Need-returns Inv-loop μ-loop
