@@ -1,9 +1,12 @@
--- Laws that belong to no one function: Below (tests on the positions below n, and rows by such tests), Words (what row 6 shows),
--- Latest (rows 8 and 9 by the latest finishes), Pairs (the table of pairs that clash), Needs (needs by the bytes of a state),
--- Range (the refusal fits an answer's fields).
-pub mod Below
-pub mod Words
-pub mod Latest
-pub mod Pairs
+-- Laws that belong to no one function: AnyBelow (whether some number below n passes a test), Rows (rows on the words of a list), StartsFormed
+-- (what row 6 shows), LatestFinish (rows 8 and 9 by the latest finishes), ClashTable (the table of pairs that clash), Needs (needs by the
+-- history), RefusalFits (the refusal fits an answer's fields), Lists (each word and each two), Lawful (no row fits exactly lawful starts).
+pub mod AnyBelow
+pub mod Rows
+pub mod StartsFormed
+pub mod LatestFinish
+pub mod ClashTable
 pub mod Needs
-pub mod Range
+pub mod RefusalFits
+pub mod Lists
+pub mod Lawful

@@ -1,54 +1,57 @@
--- The needs of an action by the bytes of a state. Assumes nothing.
-use mathlib.Core.Bool.{Bool, true, false, not, cond, _&&_, _||_}
+-- The needs of an action by the history of a plan. Assumes nothing.
+use mathlib.Core.Bool.{Bool, true, not, _&&_, _||_}
 use mathlib.Core.List.{List, [], _∷_}
-use mathlib.Core.Path.{_≡_, refl, ap}
-use Prim.Native.Nat.{ℕ, suc, _+_, _<_}
+use mathlib.Core.Path.{_≡_, refl, ap, sym, _∙_}
+use Prim.Native.Nat.{ℕ, suc, _+_, _*_, _≤_, _<_}
 use native.Mathlib.Omega.{arith}
 use borrow.Author.Tests.{eqb-true}
 use lib.Dec.{eqb}
 use lib.ListN.{length, getD, drop, length-drop}
-use lib.Seq.{getD-drop, drop-drop}
-use Rattle.words.specs.Fields.{ofKind, kind, fails, holds, fluentOf, roleOf}
+use lib.Seq.{getD-drop}
+use Rattle.words.specs.Fields.{ofKind, kind, fails, holds, fluentOf, roleOf, startMoment, startAction}
 use Rattle.words.specs.Scan.{any, takeWhile}
-use Rattle.job.specs.Parts.{headWord, fluents, actions, lawsOf}
-use Rattle.job.specs.WellFormed.{WellFormed, Indexed}
+use Rattle.words.proofs.Scan.{takeWhile-entry}
+use Rattle.job.specs.Parts.{headWord, fluents, actions, lastMoment, lawsOf}
+use Rattle.job.specs.WellFormed.{WellFormed}
+use Rattle.job.proofs.ByPlace.{action-counted, laws-place}
 use Rattle.history.specs.Values.{valueAt}
-use Rattle.history.specs.Tables.{StateAt}
-use Rattle.starts.specs.Rows.{unmet}
+use Rattle.starts.specs.Rows.{unmet, unmetAt, needsUnmet}
+use Rattle.starts.specs.Given.{Recorded}
+use Rattle.starts.proofs.StartsFormed.{right-word}
 
--- two tests that agree on the leading words
-any-agree : (lead test test' : ℕ → Bool) (ws : List ℕ)
-    → ((i : ℕ) → i < length ws → lead (getD ws i 0) ≡ true → test (getD ws i 0) ≡ test' (getD ws i 0))
-    → any test (takeWhile lead ws) ≡ any test' (takeWhile lead ws)
-unfolding any takeWhile
-any-agree lead test test' [] h = refl
-any-agree lead test test' (w ∷ ws) h = cases (lead w) refl (any-agree lead test test' ws (λ i l e. h (suc i) (omega arith) e))
-  where
-    cases : (b : Bool) → lead w ≡ b → any test (takeWhile lead ws) ≡ any test' (takeWhile lead ws)
-        → any test (cond b (w ∷ takeWhile lead ws) []) ≡ any test' (cond b (w ∷ takeWhile lead ws) [])
-    cases true e ih = rw (h 0 (omega arith) e, ih)
-    cases false e ih = refl
+-- two tests that agree on the words of a list
+any-agree : (test test' : ℕ → Bool) (ws : List ℕ) → ((i : ℕ) → i < length ws → test (getD ws i 0) ≡ test' (getD ws i 0)) → any test ws ≡ any test' ws
+unfolding any
+any-agree test test' [] h = refl
+any-agree test test' (w ∷ ws) h = rw (h 0 (omega arith), any-agree test test' ws (λ i l. h (suc i) (omega arith)))
 
-module _ {job places : List ℕ} (formed : WellFormed job) (placed : Indexed job 3 places) (starts state : List ℕ) (t a : ℕ)
-    (h : a < actions job) (at : StateAt job starts t state) where
-  pub place-inside : getD places a 0 < length job
-  place-inside = placed .inside a (omega (arith, formed .counted))
-
-  pub needs-state : any (unmet (headWord job) (λ f. getD state f 0)) (takeWhile (ofKind 4) (drop 1 (drop (getD places a 0) job)))
-      ≡ any (unmet (headWord job) (valueAt job starts t)) (lawsOf job a)
-  unfolding lawsOf
-  needs-state =
-      rw (placed .words a (omega (arith, formed .counted)))
-      (any-agree (ofKind 4) _ _ (drop 1 (drop (getD places a 0) job)) agree)
+module _ {job places history starts : List ℕ} (given : Recorded job places history starts) (a : ℕ) (h : a < actions job) where
+  -- the laws of an action speak of fluents of the job
+  law-fluent : (i : ℕ) → i < length (lawsOf job a) → fluentOf (headWord job) (getD (lawsOf job a) i 0) < fluents job
+  law-fluent i l =
+      let e = laws-place (given .indexed) a (action-counted (given .formed) h) in
+      rw e (leads (rw e at l))
     where
-      agree : (i : ℕ) → i < length (drop 1 (drop (getD places a 0) job)) → ofKind 4 (getD (drop 1 (drop (getD places a 0) job)) i 0) ≡ true
-          → unmet (headWord job) (λ f. getD state f 0) (getD (drop 1 (drop (getD places a 0) job)) i 0)
-          ≡ unmet (headWord job) (valueAt job starts t) (getD (drop 1 (drop (getD places a 0) job)) i 0)
-      agree i l e =
-          let w = getD (drop 1 (drop (getD places a 0) job)) i 0 in
-          let same : w ≡ getD job (getD places a 0 + 1 + i) 0 = rw (drop-drop, getD-drop) in
-          let inside : getD places a 0 + 1 + i < length job = omega (arith, simp (length-drop) at l) in
-          let low : fluentOf (headWord job) w < fluents job =
-          rw same (formed .law (getD places a 0 + 1 + i) inside (rw same at (eqb-true (kind w) 4 e))) in
-          ap (λ (v : ℕ). (eqb (roleOf (headWord job) w) 0 && not (eqb v holds)) || (eqb (roleOf (headWord job) w) 1 && not (eqb v fails)))
-          (at .value (fluentOf (headWord job) w) low)
+      p : ℕ
+      p = getD places a 0 + 1
+
+      leads : i < length (takeWhile (ofKind 4) (drop p job)) → fluentOf (headWord job) (getD (takeWhile (ofKind 4) (drop p job)) i 0) < fluents job
+      leads l =
+          let entry = takeWhile-entry (ofKind 4) (drop p job) i l in
+          let same : getD (drop p job) i 0 ≡ getD job (p + i) 0 = rw getD-drop in
+          rw (entry .0, same)
+          (given .formed .law (p + i) (omega (arith, entry .2, length-drop p job)) (eqb-true (kind (getD job (p + i) 0)) 4 (rw same at (entry .1))))
+
+  pub needs-read : (t : ℕ) → t ≤ lastMoment job → any (unmet (headWord job) (λ f. getD history (t * 64 + f) 0)) (lawsOf job a) ≡ unmetAt job starts t a
+  needs-read t m = any-agree _ _ (lawsOf job a) agree
+    where
+      agree : (i : ℕ) → i < length (lawsOf job a)
+          → unmet (headWord job) (λ f. getD history (t * 64 + f) 0) (getD (lawsOf job a) i 0) ≡ unmet (headWord job) (valueAt job starts t) (getD (lawsOf job a) i 0)
+      agree i l = rw (given .values .entry t (fluentOf (headWord job) (getD (lawsOf job a) i 0)) m (law-fluent i l))
+
+-- row 10 by what the code has read of word i: its action a with its laws, and its moment u
+pub unmet-read : {job places history starts : List ℕ} → Recorded job places history starts → {i : ℕ} → i < length starts
+    → {a : ℕ} → a ≡ startAction (getD starts i 0) → {laws : List ℕ} → laws ≡ lawsOf job a → {u : ℕ} → u ≡ startMoment (getD starts i 0)
+    → any (unmet (headWord job) (λ f. getD history (u * 64 + f) 0)) laws ≡ needsUnmet job starts i
+unfolding needsUnmet
+unmet-read given {i} l ea el eu = let right = right-word (given .words) i l in rw (el, ea, eu) (needs-read given _ (right .action) _ (right .moment))

@@ -1,19 +1,15 @@
--- What rows 7 to 10 use of the rows and the starts before: that row 6 fits no word, and until when each action is in hand.
-use mathlib.Core.Bool.{Bool, false, _&&_}
+-- The tables of rows 8 and 9: until when each action is in hand, and which two clash.
+use mathlib.Core.Bool.{Bool, _&&_}
 use mathlib.Core.List.{List}
 use mathlib.Core.Path.{_≡_}
 use Prim.Native.Nat.{ℕ, _+_, _*_, _<_, _≤_}
 use lib.Dec.{ltb}
-use lib.ListN.{getD, length}
+use lib.ListN.{length, getD}
 use Rattle.words.specs.Tests.{indicator}
 use Rattle.words.specs.Fields.{startAction}
 use Rattle.job.specs.Parts.{actions}
 use Rattle.history.specs.Actions.{finish}
-use Rattle.starts.specs.Rows.{wrongWord, clash}
-
--- row 6 fits no word
-pub record StartsFormed (job starts : List ℕ) : Type 0 where
-  pub right : (i : ℕ) → i < length starts → wrongWord job starts i ≡ false
+use Rattle.starts.specs.Rows.{clash}
 
 -- some start of action a that stands before position i finishes after moment u
 pub record Unfinished (job starts : List ℕ) (i a u : ℕ) : Type 0 where

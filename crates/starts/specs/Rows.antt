@@ -3,8 +3,8 @@ use mathlib.Core.Bool.{Bool, false, not, cond, _&&_, _||_}
 use mathlib.Core.List.{List, [], _∷_}
 use Prim.Native.Nat.{ℕ, zero, suc, _+_, _-_}
 use lib.Dec.{eqb, leb, ltb}
-use lib.ListN.{getD, length}
-use Rattle.words.specs.Fields.{kind, spare, fails, holds, fluentOf, roleOf, startMoment, startAction}
+use lib.ListN.{getD, length, take}
+use Rattle.words.specs.Fields.{kind, fails, holds, fluentOf, roleOf, startMoment, startAction, startSpare}
 use Rattle.words.specs.Scan.{any, anyBelow}
 use Rattle.answers.specs.declared.Refusal.{Refusal}
 use Rattle.answers.specs.Rows.{passed, firstRefusal, firstOf}
@@ -15,7 +15,7 @@ use Rattle.history.specs.Values.{valueAt}
 -- a word that is a start of the job; above the word before it, if there is one
 abbrev pub isStart : List ℕ → ℕ → Bool
 isStart job s =
-    eqb (kind s) 9 && spare s 27 12 && leb (startMoment s) (lastMoment job) && ltb (startAction s) (actions job)
+    eqb (kind s) 9 && startSpare s && leb (startMoment s) (lastMoment job) && ltb (startAction s) (actions job)
 
 abbrev pub ascends : List ℕ → ℕ → Bool
 ascends starts i = eqb i 0 || ltb (getD starts (i - 1) 0) (getD starts i 0)
@@ -61,9 +61,11 @@ unmet head value w =
     (eqb (roleOf head w) 0 && not (eqb (value (fluentOf head w)) holds))
     || (eqb (roleOf head w) 1 && not (eqb (value (fluentOf head w)) fails))
 
+abbrev pub unmetAt : List ℕ → List ℕ → ℕ → ℕ → Bool
+unmetAt job starts t a = any (unmet (headWord job) (valueAt job starts t)) (lawsOf job a)
+
 unfoldable pub needsUnmet : List ℕ → List ℕ → ℕ → Bool
-needsUnmet job starts i =
-    any (unmet (headWord job) (valueAt job starts (startMoment (getD starts i 0)))) (lawsOf job (startAction (getD starts i 0)))
+needsUnmet job starts i = unmetAt job starts (startMoment (getD starts i 0)) (startAction (getD starts i 0))
 
 -- all rows, each with its number
 abbrev pub startRows : List ℕ → List ℕ → List (ℕ × (ℕ → Bool))
@@ -74,6 +76,10 @@ startRows job starts =
     ∷ (9, clashes job starts)
     ∷ (10, needsUnmet job starts)
     ∷ []
+
+-- those that read no state: rows 6 to 9
+abbrev pub timeRows : List ℕ → List ℕ → List (ℕ × (ℕ → Bool))
+timeRows job starts = take 4 (startRows job starts)
 
 -- a row's number at each position that it fits
 abbrev pub numbered : ℕ → (ℕ → Bool) → ℕ → ℕ

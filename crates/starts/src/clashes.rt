@@ -7,16 +7,17 @@ ghost use Rattle.words.specs.Scan.{anyBelow};
 ghost use Rattle.answers.specs.Rows.{firstOf};
 ghost use Rattle.job.specs.Parts.{actions};
 ghost use Rattle.job.specs.WellFormed.{WellFormed};
-ghost use Rattle.history.specs.Tables.{Durations, Effects};
+ghost use Rattle.history.specs.Tables.{Effects};
 ghost use Rattle.starts.specs.Rows.{clash, clashes, numbered};
-ghost use Rattle.starts.specs.Latest.{StartsFormed, Clashes, clashesAfter};
+ghost use Rattle.starts.specs.Latest.{Clashes, clashesAfter};
+ghost use Rattle.starts.specs.Given.{Timed, Paired, Compared};
 use crate::times::finish_of;
 use answers::Refusal;
 use words::*;
 
-// Row 9: whether two actions clash, and the table of all pairs.
+// Whether two actions clash, and the table of all pairs.
 fn has_clash(job: &[u32], effects: &[u8; 4096], a: usize, b: usize) -> bool
-    requires { ⌜ WellFormed (now job) × Effects (now job) (now effects) × (a < actions (now job)) × (b < actions (now job)) ⌝ }
+    requires { ⌜ Paired (now job) (now effects) a b ⌝ }
     ensures { λ r. ⌜ r ≡ clash (now (job .entry)) a b ⌝ }
 {
     let n = fluents_of(job[0]);
@@ -63,7 +64,7 @@ fn clash_table(job: &[u32], effects: &[u8; 4096]) -> [u8; 4096]
 
 // Whether some action that clashes with `b` has its latest finish after moment `u`.
 fn clashes_after(job: &[u32], latest: &[usize; 64], table: &[u8; 4096], b: usize, u: usize) -> bool
-    requires { ⌜ WellFormed (now job) × Clashes (now job) (now table) × (b < actions (now job)) ⌝ }
+    requires { ⌜ Compared (now job) (now table) b ⌝ }
     ensures { λ r. ⌜ r ≡ anyBelow (clashesAfter (now (job .entry)) (now (latest .entry)) b u) (actions (now (job .entry))) ⌝ }
 {
     let n = actions_of(job[0]);
@@ -77,13 +78,14 @@ fn clashes_after(job: &[u32], latest: &[usize; 64], table: &[u8; 4096], b: usize
     false
 }
 
+// Row 9. `latest` has the latest finish of each action's starts so far.
 pub fn first_clash(
     job: &[u32],
     durations: &[usize; 64],
     effects: &[u8; 4096],
     starts: &[u32],
 ) -> Refusal
-    requires { ⌜ WellFormed (now job) × Durations (now job) (now durations) × Effects (now job) (now effects) × StartsFormed (now job) (now starts) ⌝ }
+    requires { ⌜ Timed (now job) (now durations) (now starts) × Effects (now job) (now effects) ⌝ }
     ensures { λ r. ⌜ r ≡ firstOf (numbered 9 (clashes (now (job .entry)) (now (starts .entry)))) (length (now (starts .entry))) ⌝ }
 {
     let table = clash_table(job, effects);

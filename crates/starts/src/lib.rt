@@ -1,31 +1,30 @@
 // The rows on starts, 6 to 10, of a well-formed job. Each row's function answers its number at the first word that it fits.
 ghost use mathlib.Core.Path.{_≡_};
-ghost use Rattle.job.specs.WellFormed.{WellFormed, Indexed};
-ghost use Rattle.history.specs.Tables.{Durations, Effects};
-ghost use Rattle.starts.specs.Rows.{startsRefusal};
+ghost use lib.ListN.{length};
+ghost use Rattle.starts.specs.Rows.{timeRows, rowsRefusal};
+ghost use Rattle.starts.specs.Given.{Tabled};
 
-mod clashes;
-mod order;
-mod times;
-mod unmet;
+pub mod clashes;
+pub mod order;
+pub mod times;
+pub mod unmet;
 
 use answers::Refusal;
-use clashes::first_clash;
-use order::wrong_word;
-use times::late_end;
-use times::restart;
-use unmet::unmet_need;
+pub use clashes::first_clash;
+pub use order::wrong_word;
+pub use times::late_end;
+pub use times::restart;
+pub use unmet::check_needs;
 
-// The first row that fits, at the first word that it fits.
-pub fn check_starts(
+// The first of rows 6 to 9 that fits, at the first word that it fits. Row 10, `check_needs`, comes after them.
+pub fn check_times(
     job: &[u32],
-    places: &[usize; 64],
     durations: &[usize; 64],
     effects: &[u8; 4096],
     starts: &[u32],
 ) -> Refusal
-    requires { ⌜ WellFormed (now job) × Indexed (now job) 3 (now places) × Durations (now job) (now durations) × Effects (now job) (now effects) ⌝ }
-    ensures { λ r. ⌜ r ≡ startsRefusal (now (job .entry)) (now (starts .entry)) ⌝ }
+    requires { ⌜ Tabled (now job) (now durations) (now effects) ⌝ }
+    ensures { λ r. ⌜ r ≡ rowsRefusal (timeRows (now (job .entry)) (now (starts .entry))) (length (now (starts .entry))) ⌝ }
 {
     let wrong = wrong_word(job, starts);
     if wrong.number != 0 {
@@ -39,9 +38,5 @@ pub fn check_starts(
     if again.number != 0 {
         return again;
     }
-    let clash = first_clash(job, durations, effects, starts);
-    if clash.number != 0 {
-        return clash;
-    }
-    unmet_need(job, places, durations, effects, starts)
+    first_clash(job, durations, effects, starts)
 }

@@ -1,6 +1,6 @@
 // Row 6: the words of a plan's starts, and their order.
 ghost use mathlib.Core.Path.{_≡_};
-ghost use Prim.Native.Nat.{_-_, _/_, _%_, _<_};
+ghost use Prim.Native.Nat.{_<_};
 ghost use lib.ListN.{length};
 ghost use Rattle.answers.specs.Rows.{firstOf};
 ghost use Rattle.job.specs.WellFormed.{WellFormed};
@@ -8,14 +8,14 @@ ghost use Rattle.starts.specs.Rows.{isStart, ascends, wrongWord, numbere
 use answers::Refusal;
 use words::*;
 
-// Row 6: whether a word is a start of the job, and above the word before it.
+// Whether a word is a start of the job, and above the word before it.
 fn is_start(job: &[u32], s: u32) -> bool
     requires { ⌜ 0 < length (now job) ⌝ }
     ensures { λ r. ⌜ r ≡ isStart (now (job .entry)) s ⌝ }
 {
     let head = job[0];
     (kind_of(s) == 9)
-        & (s / 4096 % 65536 == 0)
+        & start_spare(s)
         & (start_moment(s) <= last_of(head))
         & (start_action(s) < actions_of(head))
 }
@@ -30,6 +30,7 @@ fn is_above(starts: &[u32], i: usize) -> bool
     starts[i - 1] < starts[i]
 }
 
+// Row 6.
 pub fn wrong_word(job: &[u32], starts: &[u32]) -> Refusal
     requires { ⌜ WellFormed (now job) ⌝ }
     ensures { λ r. ⌜ r ≡ firstOf (numbered 6 (wrongWord (now (job .entry)) (now (starts .entry)))) (length (now (starts .entry))) ⌝ }

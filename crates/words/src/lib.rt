@@ -3,7 +3,7 @@ ghost use mathlib.Core.Bool.{cond};
 ghost use mathlib.Core.Path.{_≡_};
 ghost use Prim.Native.Nat.{_<_, _≤_};
 ghost use lib.ListN.{length, drop};
-ghost use Rattle.words.specs.Fields.{kind, ofKind, form, fluentsOf, actionsOf, lastOf, fluentOf, knownSpare, lawSpare, knownValue, durationOf, roleOf, makes, madeValue, formulaX, formulaY, atomFluent, atomSpare, nodeX, nodeY, nodeM, nodeN, memberNode, conditionFormula, conditionI, conditionJ, conditionM, conditionN, startMoment, startAction, factWord, readingWord};
+ghost use Rattle.words.specs.Fields.{kind, ofKind, form, fluentsOf, actionsOf, lastOf, fluentOf, knownSpare, lawSpare, knownValue, durationOf, roleOf, makes, madeValue, formulaX, formulaY, atomFluent, atomSpare, nodeX, nodeY, nodeM, nodeN, memberNode, conditionFormula, conditionI, conditionJ, conditionM, conditionN, startMoment, startAction, startSpare, factWord, readingWord};
 ghost use Rattle.words.specs.Scan.{takeWhile};
 
 pub fn kind_of(w: u32) -> u32
@@ -197,7 +197,7 @@ pub fn condition_n(w: u32) -> usize
     (w / 1 % 64) as usize
 }
 
-// Start: the moment, and the action.
+// Start: the moment, the action, and whether the bits that it leaves spare are zero.
 pub fn start_moment(s: u32) -> usize
     ensures { λ r. ⌜ (r ≡ startMoment s) × (r < 64) ⌝ }
 {
@@ -208,6 +208,12 @@ pub fn start_action(s: u32) -> usize
     ensures { λ r. ⌜ (r ≡ startAction s) × (r < 64) ⌝ }
 {
     (s / 1 % 64) as usize
+}
+
+pub fn start_spare(s: u32) -> bool
+    ensures { λ r. ⌜ r ≡ startSpare s ⌝ }
+{
+    s / 4096 % 65536 == 0
 }
 
 // The fact word that fluent `f` has a value, other than open, at moment `t`.

@@ -21,7 +21,7 @@ returns-2 c = λ l m. absurd (omega (arith, c .before .before .actions-of .ensur
 has-clash-requires : tie.Need-has-clash-requires
 has-clash-requires c κs =
     let start = entry c in
-    let n = c .before .before .actions-of .ensures .0 in (start .pre .0, start .pre .1, omega arith, omega arith)
+    let n = c .before .before .actions-of .ensures .0 in record { formed = start .pre .0; makes = start .pre .1; first = omega arith; second = omega arith }
 
 returns-3 : tie.Need-returns-3
 returns-3 c = λ l m. rw (sym (c .before .has-clash .ensures) ∙ c .if3 .taken)

@@ -1,7 +1,7 @@
 -- `starts::clashes::clash_table` meets its contract. The invariant: the entries below `k` are right. Assumes nothing.
 use mathlib.Core.Path.{refl}
 use Prim.Native.Nat.{ℕ, _-_, _≤_}
-use Rattle.starts.proofs.Pairs.{Entered, entered-start, entered-more, entered-all}
+use Rattle.starts.proofs.ClashTable.{Entered, entered-start, entered-more, entered-all}
 use native.Mathlib.Omega.{arith}
 use Rattle.starts.proofs.clashes.clash_table.Statement.{statement}
 use Rattle.starts.proofs.clashes.clash_table.Tie as tie

@@ -1,97 +1,46 @@
 -- `starts::clashes::has_clash` meets its contract. The invariant: the actions are not opposed on a fluent below `f`. Assumes nothing.
-use mathlib.Core.Path.{_≡_, sym}
-use Prim.Native.Nat.{ℕ, _-_, _≤_, _<_}
-use mathlib.Core.Bool.{false}
+use mathlib.Core.Path.{_∙_}
+use Prim.Native.Nat.{_-_, _<_}
 use Rattle.job.specs.Parts.{fluents}
 use Rattle.starts.specs.Rows.{opposed, clash}
-use Rattle.words.specs.Scan.{anyBelow}
-use Rattle.starts.proofs.Below.{some-start, some-more, some-hit}
+use Rattle.starts.proofs.AnyBelow.{Sought, sought-start, sought-more, sought-found, sought-end}
+use Rattle.starts.proofs.ClashTable.{opposed-read}
 use borrow.Author.Needs.{needs}
 use native.Mathlib.Omega.{arith}
 use Rattle.starts.proofs.clashes.has_clash.Statement.{statement}
 use Rattle.starts.proofs.clashes.has_clash.Tie as tie
 
 abbrev Inv-loop : tie.InvT-loop
-Inv-loop job effects a b n f₀ f = (f ≤ n) × (anyBelow (opposed job a b) f ≡ false)
+Inv-loop job effects a b n f₀ f = Sought (opposed job a b) (fluents job) f
 
 abbrev μ-loop : tie.MeasureT-loop
 μ-loop job effects a b n f₀ f = n - f
 
 -- the places of the code that the proof speaks of
-abbrev entry1 : tie.In-loop Inv-loop μ-loop → tie.Start Inv-loop μ-loop
-entry1 c = c .before .before .before .before .before
+abbrev entry : tie.In-loop Inv-loop μ-loop → tie.Start Inv-loop μ-loop
+entry c = c .before .before .before .before .before
 
-abbrev entry2 : tie.After-loop Inv-loop μ-loop → tie.Start Inv-loop μ-loop
-entry2 c = c .before .before .before .before .before
+-- fluent f is the job's, and what is read of it stands in the table
+below : (c : tie.In-loop Inv-loop μ-loop) → c .before .loop .f < fluents (entry c .args .job .now)
+below c = omega (arith, c .before .before .fluents-of .ensures .0)
 
-abbrev after-fluents-of : tie.After-y Inv-loop μ-loop → tie.After-fluents-of Inv-loop μ-loop
-after-fluents-of c = c .before .before .before .before
-
-abbrev turn : tie.After-y Inv-loop μ-loop → tie.At-loop Inv-loop μ-loop
-turn c = c .before .before .before
-
-shared-slice-read-fluents-of : tie.Need-shared-slice-read-fluents-of Inv-loop μ-loop
-shared-slice-read-fluents-of c = c .before .before .pre .0 .some
-
-loop-holds : tie.Need-loop-holds Inv-loop μ-loop
-loop-holds c = (omega arith, some-start _)
-
-mul-x : tie.Need-mul-x Inv-loop μ-loop
-mul-x c =
-    let start = entry1 c in
-    omega (arith, start .pre .0 .few-actions, start .pre .2)
-
-add-x : tie.Need-add-x Inv-loop μ-loop
-add-x c =
-    let start = entry1 c in
-    omega (arith, start .pre .0 .few-actions, start .pre .0 .few-fluents, start .pre .2, c .before .before .fluents-of .ensures .0)
-
-element-copy-out-x : tie.Need-element-copy-out-x Inv-loop μ-loop
-element-copy-out-x c =
-    let start = entry1 c in
-    omega (arith, start .pre .0 .few-actions, start .pre .0 .few-fluents, start .pre .2, c .before .before .fluents-of .ensures .0)
-
-mul-y : tie.Need-mul-y Inv-loop μ-loop
-mul-y c =
-    let start = entry1 (c .before) in
-    omega (arith, start .pre .0 .few-actions, start .pre .3)
-
-add-y : tie.Need-add-y Inv-loop μ-loop
-add-y c =
-    let start = entry1 (c .before) in
-    omega (arith, start .pre .0 .few-actions, start .pre .0 .few-fluents, start .pre .3, c .before .before .before .fluents-of .ensures .0)
-
-element-copy-out-y : tie.Need-element-copy-out-y Inv-loop μ-loop
-element-copy-out-y c =
-    let start = entry1 (c .before) in
-    omega (arith, start .pre .0 .few-actions, start .pre .0 .few-fluents, start .pre .3, c .before .before .before .fluents-of .ensures .0)
+rows : (c : tie.In-loop Inv-loop μ-loop) → (entry c .args .a < 64) × (entry c .args .b < 64) × (c .before .loop .f < 64)
+rows c = let pre = entry c .pre in omega (arith, below c, pre .first, pre .second, pre .formed .few-actions, pre .formed .few-fluents)
 
 returns : tie.Need-returns Inv-loop μ-loop
 unfolding clash
 returns c =
-    let start = entry1 (c .before .before .before) in
-    let head = turn (c .before) in
-    let args = start .args in let pre = start .pre in
-    let n = after-fluents-of (c .before) .fluents-of .ensures .0 in
-    let f : head .loop .f < fluents (args .job .now) = omega arith in
-    sym (some-hit (opposed (args .job .now) (args .a) (args .b)) _ (head .loop .f) f
-    (rw (← pre .1 .entry (args .a) (head .loop .f) (pre .2) f, ← pre .1 .entry (args .b) (head .loop .f) (pre .3) f) (c .if1 .taken)))
+    let body = c .before .before .before in
+    sought-found (body .before .loop .inv) (below body) (opposed-read (entry body .pre) _ (below body) ∙ c .if1 .taken)
 
 loop-again : tie.Need-loop-again Inv-loop μ-loop
 loop-again c =
-    let start = entry1 (c .before .before .before) in
-    let head = turn (c .before) in
-    let args = start .args in let pre = start .pre in
-    let n = after-fluents-of (c .before) .fluents-of .ensures .0 in
-    let f : head .loop .f < fluents (args .job .now) = omega arith in (
-      omega arith,
-      some-more (opposed (args .job .now) (args .a) (args .b)) _ (head .loop .inv .1)
-          (rw (← pre .1 .entry (args .a) (head .loop .f) (pre .2) f, ← pre .1 .entry (args .b) (head .loop .f) (pre .3) f) (c .if1 .left)),
-    )
+    let body = c .before .before .before in
+    sought-more (body .before .loop .inv) (below body) (opposed-read (entry body .pre) _ (below body) ∙ c .if1 .left)
 
 returns-2 : tie.Need-returns-2 Inv-loop μ-loop
 unfolding clash
-returns-2 c = let e : c .before .loop .f ≡ fluents (entry2 c .args .job .now) = omega (arith, c .before .before .fluents-of .ensures .0) in rw (← e) (sym (c .before .loop .inv .1))
+returns-2 c = sought-end (c .before .loop .inv) (omega (arith, c .before .before .fluents-of .ensures .0))
 
 pub has-clash-spec : {M : Type 1} → statement M
 has-clash-spec =
@@ -99,15 +48,15 @@ has-clash-spec =
     (tie.spec
     Inv-loop
     μ-loop
-    shared-slice-read-fluents-of
+    (λ c. search needs)
     (λ c κs. search needs)
-    loop-holds
-    mul-x
-    add-x
-    element-copy-out-x
-    mul-y
-    add-y
-    element-copy-out-y
+    (λ c. sought-start)
+    (λ c. omega (arith, rows c))
+    (λ c. omega (arith, rows c))
+    (λ c. omega (arith, rows c))
+    (λ c. omega (arith, rows (c .before)))
+    (λ c. omega (arith, rows (c .before)))
+    (λ c. omega (arith, rows (c .before)))
     returns
     (λ c. omega arith)
     (λ c. omega arith)

@@ -1,58 +1,59 @@
 -- `starts::times::restart` meets its contract. The invariant: the row fits no word before `i`, and the table has the latest finishes of the
 -- starts before `i`. Assumes nothing.
-use mathlib.Core.Path.{_≡_, sym, _∙_}
-use Prim.Native.Nat.{ℕ, _-_, _≤_, _<_, _^_}
+use mathlib.Core.Path.{_≡_, _∙_}
+use Prim.Native.Nat.{ℕ, _-_, _<_, _^_}
 use lib.ListN.{length, getD}
-use Rattle.answers.specs.Rows.{firstOf, passed}
+use lib.Dec.{ltb}
 use borrow.Author.Tests.{lt-ltb, le-ltb}
-use Rattle.answers.proofs.Rows.{first-start}
-use Rattle.starts.specs.Rows.{inHandAlready, numbered}
-use Rattle.starts.proofs.Below.{row-more, row-found}
-use Rattle.starts.proofs.Latest.{latest-start, latest-more, restart-is}
+use Rattle.starts.specs.Rows.{inHandAlready}
 use Rattle.starts.specs.Latest.{Latest}
-use Rattle.starts.proofs.Words.{finish-is}
+use Rattle.starts.proofs.Rows.{Passing, passing-start, passing-more, passing-found, passing-end}
+use Rattle.starts.proofs.LatestFinish.{latest-start, latest-stored, latest-restart}
 use borrow.Author.Needs.{needs}
 use native.Mathlib.Omega.{arith}
 use Rattle.starts.proofs.times.restart.Statement.{statement}
 use Rattle.starts.proofs.times.restart.Tie as tie
 
 abbrev Inv-loop : tie.InvT-loop
-Inv-loop job durations starts latest₀ i₀ latest i = (i ≤ length starts) × (firstOf (numbered 8 (inHandAlready job starts)) i ≡ passed) × Latest job starts i latest
+Inv-loop job durations starts latest₀ i₀ latest i = Passing 8 (inHandAlready job starts) (length starts) i × Latest job starts i latest
 
 abbrev μ-loop : tie.MeasureT-loop
 μ-loop job durations starts latest₀ i₀ latest i = length starts - i
 
-loop-holds : tie.Need-loop-holds Inv-loop μ-loop
-loop-holds c = (omega arith, first-start _, latest-start _ _)
+-- the places of the code that the proof speaks of
+abbrev entry : tie.After-start-action Inv-loop μ-loop → tie.Start Inv-loop μ-loop
+entry c = c .before .before .before .before .before .before
+
+abbrev turn : tie.After-start-action Inv-loop μ-loop → tie.At-loop Inv-loop μ-loop
+turn c = c .before .before .before
+
+-- the words are of 32 bits
+words : (c : tie.After-start-action Inv-loop μ-loop) (j : ℕ) → getD (entry c .args .starts .now) j 0 < 2 ^ 32
+words c j = omega (arith, c .before .shared-slice-known3 .given j)
+
+-- what is tested of word i is whether its action is in hand already
+value : (c : tie.After-start-moment Inv-loop μ-loop)
+    → inHandAlready (entry (c .before) .args .job .now) (entry (c .before) .args .starts .now) (turn (c .before) .loop .i)
+    ≡ ltb (c .start-moment .result) (getD (turn (c .before) .loop .latest) (c .before .start-action .result) 0)
+value c =
+    latest-restart (entry (c .before) .pre) (words (c .before)) (c .before .before .before .loop-test .taken) (turn (c .before) .loop .inv .1)
+    (c .before .start-action .ensures .0) (c .start-moment .ensures .0)
 
 returns : tie.Need-returns Inv-loop μ-loop
-returns c = let args = c .before .before .before .before .before .before .before .before .args in
-    let loop = c .before .before .before .before .before .loop in
-    let test = c .before .before .before .before .loop-test .taken in
-    let is = restart-is (args .job .now) (args .starts .now) (λ j. omega (arith, c .before .before .before .shared-slice-known3 .given j)) (c .before .before .before .before .before .before .before .before .pre .2) (loop .i) test (loop .latest) (loop .inv .2) in
-    sym (row-found (inHandAlready (args .job .now) (args .starts .now)) 8 _ _ (omega arith) (loop .inv .1)
-    (rw (is, ← c .before .start-moment .ensures .0, ← c .before .before .start-action .ensures .0) (lt-ltb _ _ (c .if1 .taken))) test)
+returns c =
+    passing-found (turn (c .before .before) .loop .inv .0) (omega arith) (c .before .before .before .before .loop-test .taken)
+    (value (c .before) ∙ lt-ltb _ _ (c .if1 .taken))
 
 finish-of-requires : tie.Need-finish-of-requires Inv-loop μ-loop
-finish-of-requires c κs = c .before .before .before .before .before .before .before .before .pre .1 .small _
+finish-of-requires c κs = entry (c .before .before) .pre .lasts .small _
 
 loop-again : tie.Need-loop-again Inv-loop μ-loop
-loop-again c = let args = c .before .before .before .before .before .before .before .before .before .args in
-    let pre = c .before .before .before .before .before .before .before .before .before .pre in
-    let loop = c .before .before .before .before .before .before .loop in
-    let test = c .before .before .before .before .before .loop-test .taken in
-    let words : (j : ℕ) → getD (args .starts .now) j 0 < 2 ^ 32 = λ j. omega (arith, c .before .before .before .before .shared-slice-known3 .given j) in
-    let is = restart-is (args .job .now) (args .starts .now) words (pre .2) (loop .i) test (loop .latest) (loop .inv .2) in
-    let a = c .before .before .before .start-action .ensures .0 in (
-      omega arith,
-      row-more (inHandAlready (args .job .now) (args .starts .now)) 8 _ (loop .inv .1)
-          (rw (is, ← c .before .before .start-moment .ensures .0, ← a) (le-ltb _ _ (c .before .if1 .left))),
-      rw (c .finish-of .ensures ∙ finish-is (pre .1) (pre .2) _ test, a)
-          (latest-more (args .job .now) (args .starts .now) words (pre .2) (loop .i) test (loop .latest) (loop .inv .2)),
+loop-again c =
+    let body = c .before .before .before in
+    let inside = body .before .before .loop-test .taken in (
+      passing-more (turn body .loop .inv .0) inside (value (c .before .before) ∙ le-ltb _ _ (c .before .if1 .left)),
+      latest-stored (entry body .pre) (words body) inside (turn body .loop .inv .1) (body .start-action .ensures .0) (c .finish-of .ensures),
     )
-
-returns-2 : tie.Need-returns-2 Inv-loop μ-loop
-returns-2 c = let e : c .before .loop .i ≡ length (c .before .before .before .before .args .starts .now) = omega arith in rw (← e) (sym (c .before .loop .inv .1))
 
 pub restart-spec : {M : Type 1} → statement M
 restart-spec =
@@ -60,7 +61,7 @@ restart-spec =
     (tie.spec
     Inv-loop
     μ-loop
-    loop-holds
+    (λ c. (passing-start, latest-start _ _))
     (λ c. omega arith)
     (λ c. omega arith)
     (λ c κs. search needs)
@@ -74,4 +75,4 @@ restart-spec =
     (λ c. omega arith)
     (λ c. omega arith)
     loop-again
-    returns-2)
+    (λ c. passing-end (c .before .loop .inv .0) (omega arith)))

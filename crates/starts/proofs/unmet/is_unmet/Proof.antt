@@ -8,4 +8,11 @@ returns c = rw (← c .before .before .role-of .ensures .0, ← c .before .fluen
 
 pub is-unmet-spec : {M : Type 1} → statement M
 is-unmet-spec =
-    tie.close (tie.spec (λ c κs. search needs) (λ c κs. search needs) (λ c. search needs) returns)
+    tie.close
+    (tie.spec
+    (λ c κs. search needs)
+    (λ c. search needs)
+    (λ c κs. search needs)
+    (λ c. search needs)
+    (λ c. search needs)
+    returns)

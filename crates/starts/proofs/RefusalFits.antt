@@ -11,8 +11,8 @@ use lib.ListN.{length, getD}
 use Rattle.answers.specs.Rows.{refusalAt, firstOf}
 use Rattle.answers.proofs.Range.{Fitting, pick-fits, refusal-fits, passed-fits, or-fits, first-fits}
 use Rattle.starts.specs.Rows.{wrongWord, endsLate, inHandAlready, clashes, needsUnmet, numbered, rowsRefusal, startsRefusal}
-use Rattle.starts.proofs.Below.{row-fits-none}
-use Rattle.starts.proofs.Words.{few-words}
+use Rattle.starts.proofs.Rows.{row-clear}
+use Rattle.starts.proofs.StartsFormed.{few-words}
 
 numbered-le : (number : ℕ) (test : ℕ → Bool) → number ≤ 13 → (i : ℕ) → numbered number test i ≤ 13
 numbered-le number test h i = cases (test i)
@@ -36,7 +36,7 @@ rows-fit (row ∷ rest) n l h =
 
 module _ (job starts : List ℕ) (words : (i : ℕ) → getD starts i 0 < 2 ^ 32) where
   few : (n : ℕ) → firstOf (numbered 6 (wrongWord job starts)) n .number ≡ 0 → n ≤ 4096
-  few n e = few-words job starts words n (row-fits-none (wrongWord job starts) 6 n (omega arith) e)
+  few n e = few-words job starts words n (row-clear 6 (wrongWord job starts) n (omega arith) e)
 
   first-row-fits : (n : ℕ) → Fitting (firstOf (numbered 6 (wrongWord job starts)) n)
   unfolding firstOf

@@ -1,16 +1,33 @@
--- The table of the pairs of actions that clash, entry after entry. Assumes nothing.
+-- The table of the pairs of actions that clash: how it is made, and what it tells. Assumes nothing.
+use mathlib.Core.Bool.{Bool, true, false, _&&_, _||_}
 use mathlib.Core.List.{List}
-use mathlib.Core.Path.{_≡_, _∙_}
+use mathlib.Core.Path.{_≡_, refl, sym, _∙_}
 use Prim.Native.Nat.{ℕ, _+_, _*_, _/_, _%_, _≤_, _<_}
 use native.Mathlib.Decide.{decLt}
 use native.Mathlib.Omega.{arith}
+use lib.Dec.{eqb}
 use lib.ListN.{length, getD, set, length-set}
 use lib.Seq.{getD-set-same, getD-set-other}
 use Rattle.words.specs.Tests.{indicator}
-use Rattle.job.specs.Parts.{actions}
+use Rattle.job.specs.Parts.{fluents, actions}
 use Rattle.job.specs.WellFormed.{WellFormed}
-use Rattle.starts.specs.Rows.{clash}
+use Rattle.starts.specs.Rows.{opposed, clash}
 use Rattle.starts.specs.Latest.{Clashes}
+use Rattle.starts.specs.Given.{Paired, Compared}
+
+-- two actions are opposed on a fluent where their effects in the table are
+pub opposed-read : {job effects : List ℕ} {a b : ℕ} → Paired job effects a b → (f : ℕ) → f < fluents job
+    → let x = getD effects (a * 64 + f) 0 in let y = getD effects (b * 64 + f) 0 in
+    opposed job a b f ≡ ((eqb x 2 && eqb y 0) || (eqb x 0 && eqb y 2))
+opposed-read {a} {b} given f l = rw (given .makes .entry a f (given .first) l, given .makes .entry b f (given .second) l)
+
+-- an entry tells whether two actions clash
+pub clash-read : {job table : List ℕ} {b : ℕ} → Compared job table b → (a : ℕ) → a < actions job → clash job a b ≡ eqb (getD table (a * 64 + b) 0) 1
+clash-read {job} {b} given a l = rw (given .entries .entry a b l (given .action)) (sym (is-one (clash job a b)))
+  where
+    is-one : (t : Bool) → eqb (indicator t) 1 ≡ t
+    is-one true = refl
+    is-one false = refl
 
 -- an entry that is right, if it is one of the job's pairs
 abbrev pub EntryIs : List ℕ → ℕ → ℕ → Type 0

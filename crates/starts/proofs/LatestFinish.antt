@@ -16,9 +16,10 @@ use Rattle.job.specs.WellFormed.{WellFormed}
 use Rattle.history.specs.Actions.{finish, inHand}
 use Rattle.starts.specs.Rows.{restarts, inHandAlready, together, clashing, clashes}
 use Rattle.words.specs.Scan.{anyBelow}
-use Rattle.starts.specs.Latest.{StartsFormed, Unfinished, Latest, clashesAfter}
-use Rattle.starts.proofs.Below.{some-none, some-hit, some-same}
-use Rattle.starts.proofs.Words.{Right, right-word, moments-ascend, moments-differ}
+use Rattle.starts.specs.Latest.{Unfinished, Latest, clashesAfter}
+use Rattle.starts.specs.Given.{StartsFormed, Timed}
+use Rattle.starts.proofs.AnyBelow.{some-none, some-hit, some-same}
+use Rattle.starts.proofs.StartsFormed.{Right, right-word, finish-is, moments-ascend, moments-differ}
 
 -- before the first start no entry is above 0
 zeros : (n a : ℕ) → _≡_ {A = ℕ} (getD (replicate n 0) a 0) 0
@@ -163,3 +164,16 @@ module _ (job starts : List ℕ) (words : (i : ℕ) → getD starts i 0 < 2 ^ 32
           let p = both-true (ltb u (getD table a 0)) _ e in
           let w = latest .comes a u (ltb-true u (getD table a 0) (p .0)) in
           some-hit test i (w .place) (w .before) (rw (joint (w .place) (w .before), lt-ltb _ _ (w .later), w .action) (p .1))
+
+-- the same by what the code has read: the action a and the moment u of word i, and its finish
+module _ {job durations starts : List ℕ} (given : Timed job durations starts) (words : (i : ℕ) → getD starts i 0 < 2 ^ 32)
+    {i : ℕ} (l : i < length starts) {table : List ℕ} (latest : Latest job starts i table) {a : ℕ} (ea : a ≡ startAction (getD starts i 0)) where
+  pub latest-stored : {v : ℕ} → v ≡ startMoment (getD starts i 0) + getD durations (startAction (getD starts i 0)) 0 → Latest job starts (i + 1) (set table a v)
+  latest-stored ev = rw (ea, ev ∙ finish-is (given .lasts) (given .words) i l) (latest-more job starts words (given .words) i l table latest)
+
+  module _ {u : ℕ} (eu : u ≡ startMoment (getD starts i 0)) where
+    pub latest-restart : inHandAlready job starts i ≡ ltb u (getD table a 0)
+    latest-restart = rw (ea, eu) (restart-is job starts words (given .words) i l table latest)
+
+    pub latest-clash : clashes job starts i ≡ anyBelow (clashesAfter job table a u) (actions job)
+    latest-clash = rw (ea, eu) (clash-is job starts words (given .words) i l table latest (given .formed))

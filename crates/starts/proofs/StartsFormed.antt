@@ -1,4 +1,4 @@
--- What row 6 shows of words that it does not fit: each is a start of the job, and their moments ascend. Assumes nothing.
+-- Starts that row 6 does not fit: each is a start of the job, and their moments ascend. Assumes nothing.
 use mathlib.Core.Bool.{Bool, true, false}
 use mathlib.Core.List.{List}
 use mathlib.Core.Path.{_≡_}
@@ -16,9 +16,9 @@ use Rattle.history.specs.Tables.{Durations, Named}
 use Rattle.history.proofs.Moments.{finish-tabled}
 use Rattle.answers.specs.Rows.{firstOf}
 use Rattle.answers.proofs.Rows.{or-none}
-use Rattle.starts.specs.Rows.{isStart, ascends, wrongWord, numbered, rowsRefusal, startsRefusal}
-use Rattle.starts.specs.Latest.{StartsFormed}
-use Rattle.starts.proofs.Below.{row-fits-none}
+use Rattle.starts.specs.Rows.{isStart, ascends, wrongWord, timeRows, numbered, rowsRefusal, startsRefusal}
+use Rattle.starts.specs.Given.{StartsFormed}
+use Rattle.starts.proofs.Rows.{row-clear, starts-by-rows}
 
 -- what a right word says
 pub record Right (job : List ℕ) (s : ℕ) : Type 0 where
@@ -32,6 +32,9 @@ module _ (job starts : List ℕ) (i : ℕ) (h : wrongWord job starts i ≡ false
   parts : (isStart job (getD starts i 0) ≡ true) × (ascends starts i ≡ true)
   unfolding wrongWord
   parts = both-true _ _ (not-false _ h)
+
+  pub is-start-at : isStart job (getD starts i 0) ≡ true
+  is-start-at = parts .0
 
   pub right-at : Right job (getD starts i 0)
   right-at =
@@ -51,20 +54,36 @@ module _ (job starts : List ℕ) (i : ℕ) (h : wrongWord job starts i ≡ false
       let e : eqb i 0 ≡ false = ne-eqb i 0 (λ z. omega arith) in
       ltb-true _ _ (rw e at (parts .1))
 
--- once row 6 gives no number
+-- once row 6 gives no number; once no row of 6 to 9 does; once no row does
 pub worded : (job starts : List ℕ) → firstOf (numbered 6 (wrongWord job starts)) (length starts) .number ≡ 0 → StartsFormed job starts
-worded job starts e = record { right = row-fits-none (wrongWord job starts) 6 (length starts) (omega arith) e }
+worded job starts e = record { right = row-clear 6 (wrongWord job starts) (length starts) (omega arith) e }
 
--- once no row fits
+pub times-passed : (job starts : List ℕ) → rowsRefusal (timeRows job starts) (length starts) .number ≡ 0 → StartsFormed job starts
+unfolding rowsRefusal
+times-passed job starts e = worded job starts (or-none (firstOf (numbered 6 (wrongWord job starts)) (length starts)) _ e .0)
+
 pub starts-passed : (job starts : List ℕ) → startsRefusal job starts .number ≡ 0 → StartsFormed job starts
-unfolding startsRefusal rowsRefusal
-starts-passed job starts e = worded job starts (or-none (firstOf (numbered 6 (wrongWord job starts)) (length starts)) _ e .0)
+starts-passed job starts e = times-passed job starts (or-none _ _ (rw (starts-by-rows job starts) at e) .0)
 
 pub right-word : {job starts : List ℕ} → StartsFormed job starts → (i : ℕ) → i < length starts → Right job (getD starts i 0)
 right-word h i l = right-at _ _ i (h .right i l)
 
 pub named : {job starts : List ℕ} → StartsFormed job starts → Named job starts
 named h = record { action = λ i l. right-word h i l .action }
+
+-- the words ascend
+pub words-ascend : {job starts : List ℕ} → StartsFormed job starts → (i j : ℕ) → j < i → i < length starts → getD starts j 0 < getD starts i 0
+words-ascend h zero j l m = absurd (omega arith)
+words-ascend {job} {starts} h (suc i) j l m = cases (decLt j i) (λ k. words-ascend h i j k (omega arith))
+  where
+    last : getD starts i 0 < getD starts (suc i) 0
+    last =
+        let same : suc i - 1 ≡ i = omega arith in
+        rw same at (above-at job starts (suc i) (h .right (suc i) m) (omega arith))
+
+    cases : Dec (j < i) → (j < i → getD starts j 0 < getD starts i 0) → getD starts j 0 < getD starts (suc i) 0
+    cases (yes k) ih = omega (arith, last, ih k)
+    cases (no k) ih = let same : j ≡ i = omega arith in rw same last
 
 -- a right start's finish, by the table of durations
 pub finish-is : {job durations starts : List ℕ} → Durations job durations → StartsFormed job starts → (i : ℕ) → i < length starts
@@ -98,27 +117,13 @@ module _ (job starts : List ℕ) (words : (i : ℕ) → getD starts i 0 < 2 ^ 32
       cases (no l) = omega arith
 
   module _ (h : StartsFormed job starts) where
-    -- the words ascend
-    words-ascend : (i j : ℕ) → j < i → i < length starts → getD starts j 0 < getD starts i 0
-    words-ascend zero j l m = absurd (omega arith)
-    words-ascend (suc i) j l m = cases (decLt j i) (λ k. words-ascend i j k (omega arith))
-      where
-        last : getD starts i 0 < getD starts (suc i) 0
-        last =
-            let same : suc i - 1 ≡ i = omega arith in
-            rw same at (above-at job starts (suc i) (h .right (suc i) m) (omega arith))
-
-        cases : Dec (j < i) → (j < i → getD starts j 0 < getD starts i 0) → getD starts j 0 < getD starts (suc i) 0
-        cases (yes k) ih = omega (arith, last, ih k)
-        cases (no k) ih = let same : j ≡ i = omega arith in rw same last
-
     -- so do their moments, strictly where the action is the same
     module _ (i j : ℕ) (l : j < i) (m : i < length starts) where
       pub moments-ascend : startMoment (getD starts j 0) ≤ startMoment (getD starts i 0)
       moments-ascend =
           let e = word-is (right-word h j (omega arith)) (words j) in
           let e' = word-is (right-word h i m) (words i) in
-          let above = words-ascend i j l m in
+          let above = words-ascend h i j l m in
           ordered (getD starts j 0) (getD starts i 0) e e' above
         where
           ordered : (s s' : ℕ) → s ≡ 2415919104 + startMoment s * 64 + startAction s → s' ≡ 2415919104 + startMoment s' * 64 + startAction s' → s < s'
@@ -129,7 +134,7 @@ module _ (job starts : List ℕ) (words : (i : ℕ) → getD starts i 0 < 2 ^ 32
       moments-differ a =
           let e = word-is (right-word h j (omega arith)) (words j) in
           let e' = word-is (right-word h i m) (words i) in
-          let above = words-ascend i j l m in
+          let above = words-ascend h i j l m in
           ordered (getD starts j 0) (getD starts i 0) e e' above a
         where
           ordered : (s s' : ℕ) → s ≡ 2415919104 + startMoment s * 64 + startAction s → s' ≡ 2415919104 + startMoment s' * 64 + startAction s' → s < s'

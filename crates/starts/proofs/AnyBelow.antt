@@ -1,0 +1,69 @@
+-- Whether some number below n passes a test. Assumes nothing.
+use mathlib.Core.Bool.{Bool, true, false, _||_}
+use mathlib.Core.Path.{_≡_, refl, sym, _∙_}
+use Prim.Native.Nat.{ℕ, zero, suc, _+_, _≤_, _<_}
+use native.Mathlib.Decide.{decLt}
+use native.Mathlib.Numerals.{add-one}
+use native.Mathlib.Omega.{arith}
+use Rattle.words.specs.Scan.{anyBelow}
+use Rattle.words.proofs.Choices.{true-false, is-false, either-true}
+
+module _ (test : ℕ → Bool) where
+  pub some-none : (n : ℕ) → ((i : ℕ) → i < n → test i ≡ false) → anyBelow test n ≡ false
+  unfolding anyBelow
+  some-none zero h = refl
+  some-none (suc n) h = rw (some-none n (λ i l. h i (omega arith)), h n (omega arith))
+
+  pub some-hit : (n i : ℕ) → i < n → test i ≡ true → anyBelow test n ≡ true
+  unfolding anyBelow
+  some-hit zero i l e = absurd (omega arith)
+  some-hit (suc n) i l e = cases (decLt i n) (λ m. some-hit n i m e)
+    where
+      cases : Dec (i < n) → (i < n → anyBelow test n ≡ true) → (anyBelow test n || test n) ≡ true
+      cases (yes m) ih = rw (ih m)
+      cases (no m) ih = let same : i ≡ n = omega arith in rw (← same, e) (either-true (anyBelow test i))
+
+  -- what each position that passes implies, some position that passes does
+  pub some-implies : (n : ℕ) (b : Bool) → ((i : ℕ) → i < n → test i ≡ true → b ≡ true) → anyBelow test n ≡ true → b ≡ true
+  unfolding anyBelow
+  some-implies zero b h e = absurd (true-false (sym e))
+  some-implies (suc n) b h e = cases (anyBelow test n) (some-implies n b (λ i l. h i (omega arith))) e
+    where
+      cases : (a : Bool) → (a ≡ true → b ≡ true) → (a || test n) ≡ true → b ≡ true
+      cases true ih e = ih refl
+      cases false ih e = h n (omega arith) e
+
+  -- none passes where not some does
+  pub none-below : (n : ℕ) → anyBelow test n ≡ false → (i : ℕ) → i < n → test i ≡ false
+  none-below n e i l = is-false (test i) (λ q. true-false (sym (some-hit n i l q) ∙ e))
+
+-- two tests of which each, where it passes somewhere, makes the other pass somewhere
+pub some-same : (f g : ℕ → Bool) (n m : ℕ) → ((i : ℕ) → i < n → f i ≡ true → anyBelow g m ≡ true)
+    → ((j : ℕ) → j < m → g j ≡ true → anyBelow f n ≡ true) → anyBelow f n ≡ anyBelow g m
+some-same f g n m to from =
+    cases (anyBelow f n) (anyBelow g m) (some-implies f n (anyBelow g m) to) (some-implies g m (anyBelow f n) from)
+  where
+    cases : (a b : Bool) → (a ≡ true → b ≡ true) → (b ≡ true → a ≡ true) → a ≡ b
+    cases true b p q = sym (p refl)
+    cases false true p q = q refl
+    cases false false p q = refl
+
+-- a loop at number i of n: none before it passes
+pub record Sought (test : ℕ → Bool) (n i : ℕ) : Type 0 where
+  pub inside : i ≤ n
+  pub none : anyBelow test i ≡ false
+
+module _ {test : ℕ → Bool} {n : ℕ} where
+  pub sought-start : Sought test n 0
+  unfolding anyBelow
+  sought-start = record { inside = omega arith; none = refl }
+
+  pub sought-more : {i : ℕ} → Sought test n i → i < n → test i ≡ false → Sought test n (i + 1)
+  unfolding anyBelow
+  sought-more {i} s l e = record { inside = omega arith; none = rw (add-one i, s .none, e) }
+
+  pub sought-found : {i : ℕ} → Sought test n i → i < n → test i ≡ true → true ≡ anyBelow test n
+  sought-found {i} s l e = sym (some-hit test n i l e)
+
+  pub sought-end : {i : ℕ} → Sought test n i → n ≤ i → false ≡ anyBelow test n
+  sought-end {i} s l = let e : i ≡ n = omega (arith, s .inside) in rw (← e) (sym (s .none))

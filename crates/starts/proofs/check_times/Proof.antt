@@ -1,0 +1,61 @@
+-- `starts::check_times` meets its contract: at each `return` the rows before fit no word. Assumes nothing.
+use mathlib.Core.Path.{_≡_, ap, sym, _∙_}
+use Rattle.answers.specs.declared.Refusal.{Refusal}
+use Rattle.starts.specs.Given.{StartsFormed, Timed}
+use Rattle.starts.proofs.Rows.{rows-found, rows-next, rows-last}
+use Rattle.starts.proofs.StartsFormed.{worded}
+use borrow.Author.Needs.{needs}
+use Rattle.starts.proofs.check_times.Statement.{statement}
+use Rattle.starts.proofs.check_times.Tie as tie
+
+-- the places of the code that the proof speaks of
+abbrev entry : tie.Else1 → tie.Start
+entry c = c .before .before .before .before .before
+
+-- row 6 fits no word
+timed : (c : tie.Else1) → Timed (entry c .args .job .now) (entry c .args .durations .now) (entry c .args .starts .now)
+timed c = record {
+  formed = entry c .pre .formed;
+  lasts = entry c .pre .lasts;
+  words = worded _ _ (sym (ap (λ (r : Refusal). r .number) (c .before .before .wrong-word .ensures)) ∙ c .if1 .left);
+}
+
+returns : tie.Need-returns
+returns c = rows-found 6 _ _ _ (c .before .before .wrong-word .ensures) (c .if1 .taken)
+
+returns-2 : tie.Need-returns-2
+returns-2 c =
+    let six = c .before .before .before in
+    rows-next 6 _ _ _ (six .before .before .wrong-word .ensures) (six .if1 .left)
+    (rows-found 7 _ _ _ (c .before .before .late-end .ensures) (c .if2 .taken))
+
+returns-3 : tie.Need-returns-3
+returns-3 c =
+    let seven = c .before .before .before in
+    let six = seven .before .before .before in
+    rows-next 6 _ _ _ (six .before .before .wrong-word .ensures) (six .if1 .left)
+    (rows-next 7 _ _ _ (seven .before .before .late-end .ensures) (seven .if2 .left)
+    (rows-found 8 _ _ _ (c .before .before .restart .ensures) (c .if3 .taken)))
+
+returns-4 : tie.Need-returns-4
+returns-4 c =
+    let eight = c .before in
+    let seven = eight .before .before .before in
+    let six = seven .before .before .before in
+    rows-next 6 _ _ _ (six .before .before .wrong-word .ensures) (six .if1 .left)
+    (rows-next 7 _ _ _ (seven .before .before .late-end .ensures) (seven .if2 .left)
+    (rows-next 8 _ _ _ (eight .before .before .restart .ensures) (eight .if3 .left)
+    (c .first-clash .ensures ∙ rows-last _ _ _)))
+
+pub check-times-spec : {M : Type 1} → statement M
+check-times-spec =
+    tie.close
+    (tie.spec
+    (λ c κs. search needs)
+    returns
+    (λ c κs. timed c)
+    returns-2
+    (λ c κs. timed (c .before .before .before))
+    returns-3
+    (λ c κs. let six = c .before .before .before .before .before .before in (timed six, entry six .pre .makes))
+    returns-4)

@@ -1,0 +1,70 @@
+-- `starts::unmet::check_needs` meets its contract. The invariant: the row fits no word before `i`. Assumes nothing.
+use mathlib.Core.Path.{_≡_, sym, _∙_}
+use Prim.Native.Nat.{_-_}
+use lib.ListN.{length}
+use Rattle.starts.specs.Rows.{needsUnmet}
+use Rattle.starts.proofs.Rows.{Passing, passing-start, passing-more, passing-found, passing-end}
+use Rattle.starts.proofs.Needs.{unmet-read}
+use Rattle.starts.proofs.StartsFormed.{right-word}
+use borrow.Author.Needs.{needs}
+use native.Mathlib.Omega.{arith}
+use Rattle.starts.proofs.unmet.check_needs.Statement.{statement}
+use Rattle.starts.proofs.unmet.check_needs.Tie as tie
+
+abbrev Inv-loop : tie.InvT-loop
+Inv-loop job places history starts head i₀ i = Passing 10 (needsUnmet job starts) (length starts) i
+
+abbrev μ-loop : tie.MeasureT-loop
+μ-loop job places history starts head i₀ i = length starts - i
+
+-- the places of the code that the proof speaks of
+abbrev entry : tie.After-start-action Inv-loop μ-loop → tie.Start Inv-loop μ-loop
+entry c = c .before .before .before .before .before .before .before
+
+abbrev turn : tie.After-start-action Inv-loop μ-loop → tie.At-loop Inv-loop μ-loop
+turn c = c .before .before .before
+
+-- what is tested of word i is whether its needs are unmet
+value : (c : tie.After-has-unmet Inv-loop μ-loop)
+    → let body = c .before .before .before in
+    needsUnmet (entry body .args .job .now) (entry body .args .starts .now) (turn body .loop .i) ≡ c .has-unmet .result
+value c =
+    let body = c .before .before .before in
+    sym (c .has-unmet .ensures
+    ∙ unmet-read (entry body .pre) (body .before .before .loop-test .taken)
+    (body .start-action .ensures .0) (c .before .before .laws-of .ensures) (c .before .start-moment .ensures .0))
+
+laws-of-requires : tie.Need-laws-of-requires Inv-loop μ-loop
+laws-of-requires c κs =
+    let pre = entry c .pre in
+    (pre .formed, pre .indexed, rw (c .start-action .ensures .0) (right-word (pre .words) _ (c .before .before .loop-test .taken) .action))
+
+returns : tie.Need-returns Inv-loop μ-loop
+returns c =
+    let body = c .before .before .before .before in
+    passing-found (turn body .loop .inv) (omega arith) (body .before .before .loop-test .taken) (value (c .before) ∙ c .if1 .taken)
+
+loop-again : tie.Need-loop-again Inv-loop μ-loop
+loop-again c =
+    let body = c .before .before .before .before in
+    passing-more (turn body .loop .inv) (body .before .before .loop-test .taken) (value (c .before) ∙ c .if1 .left)
+
+pub check-needs-spec : {M : Type 1} → statement M
+check-needs-spec =
+    tie.close
+    (tie.spec
+    Inv-loop
+    μ-loop
+    (λ c. search needs)
+    (λ c. passing-start)
+    (λ c. search needs)
+    (λ c. search needs)
+    (λ c κs. search needs)
+    laws-of-requires
+    (λ c κs. search needs)
+    (λ c κs. search needs)
+    returns
+    (λ c. search needs)
+    (λ c. search needs)
+    loop-again
+    (λ c. passing-end (c .before .loop .inv) (omega arith)))

@@ -1,0 +1,19 @@
+-- Starts that no row fits, by the words themselves and not by their positions: one field a row, and two for row 6. `lawful`
+-- (proofs/Lawful.antt) is the law against the rows.
+use mathlib.Core.Bool.{true, false}
+use mathlib.Core.List.{List}
+use mathlib.Core.Path.{_≡_}
+use Prim.Native.Nat.{ℕ, _≤_, _<_}
+use Rattle.words.specs.Fields.{startMoment, startAction}
+use Rattle.job.specs.Parts.{lastMoment}
+use Rattle.history.specs.Actions.{finish}
+use Rattle.starts.specs.Lists.{Each, Pairs}
+use Rattle.starts.specs.Rows.{isStart, restarts, clashing, unmetAt}
+
+pub record Lawful (job starts : List ℕ) : Type 0 where
+  pub words : Each (λ s. isStart job s ≡ true) starts
+  pub order : Pairs (λ s s'. s < s') starts
+  pub ends : Each (λ s. finish job s ≤ lastMoment job) starts
+  pub apart : Pairs (λ s s'. restarts job s s' ≡ false) starts
+  pub agree : Pairs (λ s s'. clashing job s s' ≡ false) starts
+  pub met : Each (λ s. unmetAt job starts (startMoment s) (startAction s) ≡ false) starts
