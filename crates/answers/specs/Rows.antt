@@ -1,5 +1,6 @@
 -- Refusals by number and position, and rows of a table one after the other. Number 0 is no refusal.
 use mathlib.Core.Bool.{Bool, cond}
+use mathlib.Core.List.{List, [], _∷_}
 use Prim.Native.Nat.{ℕ, zero, suc}
 use lib.Dec.{eqb}
 use Rattle.answers.specs.declared.Refusal.{Refusal}
@@ -17,6 +18,12 @@ row fits number position = cond fits (refusal number position) passed
 -- the first of two rows that fits
 abbrev pub firstRefusal : Refusal → Refusal → Refusal
 firstRefusal a b = cond (eqb (a .number) 0) b a
+
+-- the first of some rows that fits
+abbrev pub firstRow : List Refusal → Refusal
+firstRow [] = passed
+firstRow (r ∷ []) = r
+firstRow (r ∷ s ∷ rs) = firstRefusal r (firstRow (s ∷ rs))
 
 -- a number at a position, where it is one
 abbrev pub refusalAt : ℕ → ℕ → Refusal

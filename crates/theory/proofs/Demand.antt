@@ -16,13 +16,12 @@ use Rattle.answers.specs.Packed.{answerOf}
 use Rattle.answers.proofs.Rows.{or-none}
 use Rattle.facts.specs.Facts.{factsOf}
 use Rattle.theory.specs.Answers.{bufferRefusal, planRefusal, factsRefusal, Passes, checkRefusal, fillRefusal, checkAnswer, fillAnswer, written}
-use Rattle.theory.proofs.Laws.{or-passed, equal-passes, passes-equal}
+use Rattle.theory.proofs.Laws.{or-passed, check-rows, equal-passes, passes-equal}
 
 pub passes-exactly : (job starts facts : List ℕ) → Passes job starts facts ↔ ((planRefusal job starts .number ≡ 0) × (facts ≡ factsOf job starts))
-unfolding checkRefusal
 passes-exactly job starts facts = (
-  λ e. let p = or-none (planRefusal job starts) (factsRefusal facts (factsOf job starts) 0) e in (p .0, passes-equal facts (factsOf job starts) 0 (p .1)),
-  λ h. rw (h .1) (ap (λ r. r .number) (sym (or-passed (planRefusal job starts) _ (h .0)) ∙ equal-passes (factsOf job starts) 0)),
+  λ e. let p = or-none (planRefusal job starts) (factsRefusal facts (factsOf job starts) 0) (rw check-rows at e) in (p .0, passes-equal facts (factsOf job starts) 0 (p .1)),
+  λ h. rw (h .1) (ap (λ r. r .number) (check-rows job starts _ ∙ sym (or-passed (planRefusal job starts) _ (h .0)) ∙ equal-passes (factsOf job starts) 0)),
 )
 
 module _ (room : ℕ) (job starts : List ℕ) {l c : ℕ} (accepted : fillAnswer room job starts ≡ Accepted l c) where
@@ -41,7 +40,7 @@ module _ (room : ℕ) (job starts : List ℕ) {l c : ℕ} (accepted : fillAnswer
   filled-length = parts .1
 
   plan-passes : planRefusal job starts .number ≡ 0
-  unfolding fillRefusal
+  unfolding fillRefusal planRefusal
   plan-passes = or-none (bufferRefusal room) (planRefusal job starts) (parts .0) .1
 
   -- the first l words of the buffer are that list
@@ -49,8 +48,8 @@ module _ (room : ℕ) (job starts : List ℕ) {l c : ℕ} (accepted : fillAnswer
   filled-words buffer = rw (accepted, filled-length, take-length) (take-at (factsOf job starts) _ (length (factsOf job starts)) refl)
 
   pub facts-pass : checkAnswer job starts (factsOf job starts) ≡ Accepted 0 0
-  unfolding checkAnswer checkRefusal
-  facts-pass = ap (λ r. answerOf r 0 0) (sym (or-passed (planRefusal job starts) _ plan-passes) ∙ equal-passes (factsOf job starts) 0)
+  unfolding checkAnswer
+  facts-pass = ap (λ r. answerOf r 0 0) (check-rows job starts _ ∙ sym (or-passed (planRefusal job starts) _ plan-passes) ∙ equal-passes (factsOf job starts) 0)
 
   -- check passes with what fill wrote
   pub filled-passes : (buffer : List ℕ) → checkAnswer job starts (take l (written (fillAnswer room job starts) (factsOf job starts) buffer)) ≡ Accepted 0 0

@@ -14,7 +14,11 @@ use Rattle.words.proofs.Scan.{drop-next}
 use Rattle.answers.specs.declared.Refusal.{Refusal}
 use Rattle.answers.specs.Rows.{refusal, passed, firstRefusal}
 use Rattle.answers.specs.Packed.{answerOf}
-use Rattle.theory.specs.Answers.{factsRefusal}
+use Rattle.job.specs.Refusal.{jobRefusal}
+use Rattle.starts.specs.Rows.{startsRefusal}
+use Rattle.facts.specs.Facts.{factsOf}
+use Rattle.facts.specs.Written.{Filled}
+use Rattle.theory.specs.Answers.{planRefusal, factsRefusal, checkRefusal}
 
 -- a row that gives a number is the answer, and one that gives none leaves it to the next
 pub or-refused : (a b : Refusal) → (a .number ≡ 0 → ⊥) → a ≡ firstRefusal a b
@@ -22,6 +26,19 @@ or-refused a b h = rw (ne-eqb (a .number) 0 h)
 
 pub or-passed : (a b : Refusal) → a .number ≡ 0 → b ≡ firstRefusal a b
 or-passed a b h = rw (eq-eqb (a .number) 0 h)
+
+-- rows put together in either way
+pub or-assoc : (a b c : Refusal) → firstRefusal a (firstRefusal b c) ≡ firstRefusal (firstRefusal a b) c
+or-assoc a b c = cases (eqb (a .number) 0) refl
+  where
+    cases : (t : Bool) → eqb (a .number) 0 ≡ t → cond t (firstRefusal b c) a ≡ firstRefusal (cond t b a) c
+    cases true e = refl
+    cases false e = rw e
+
+-- check's rows are those of the plan, and row 11 after them
+pub check-rows : (job starts facts : List ℕ) → checkRefusal job starts facts ≡ firstRefusal (planRefusal job starts) (factsRefusal facts (factsOf job starts) 0)
+unfolding checkRefusal planRefusal
+check-rows job starts facts = or-assoc (jobRefusal job) (startsRefusal job starts) (factsRefusal facts (factsOf job starts) 0)
 
 -- a refusal has no length and no count
 pub answer-refused : (r : Refusal) (l c l' c' : ℕ) → (r .number ≡ 0 → ⊥) → answerOf r l c ≡ answerOf r l' c'
@@ -70,8 +87,12 @@ passes-equal (a ∷ given) (b ∷ wanted) i e = cases (eqb a b) refl e (passes-e
     cases false t e ih = absurd (omega arith)
 
 -- words written from the front
-pub sets-front : (l vs : List ℕ) → length vs ≤ length l → sets l 0 vs ≡ take (length vs) vs ++ drop (length vs) l
+sets-front : (l vs : List ℕ) → length vs ≤ length l → sets l 0 vs ≡ take (length vs) vs ++ drop (length vs) l
 sets-front l vs h = sets-eq vs l 0 (rw zero-add h) ∙ rw (zero-add, take-length)
 
-pub take-front : (l vs : List ℕ) (n : ℕ) → length vs ≤ length l → n ≡ length vs → take n (sets l 0 vs) ≡ vs
-take-front l vs n h e = rw (e, sets-front l vs h, take-length) (take-at vs _ (length vs) refl)
+pub filled-front : {old words : List ℕ} {n : ℕ} {new : List ℕ} → Filled old words n new → length words ≤ length old
+    → (take n new ≡ words) × (new ≡ take n words ++ drop n old)
+filled-front {old} {words} {n} {new} f h = (
+  rw (f .held, f .count, sets-front old words h, take-length) (take-at words _ (length words) refl),
+  rw (f .held, f .count) (sets-front old words h),
+)

@@ -6,5 +6,3 @@ pub mod Laws
 pub mod Passing
 pub mod Demand
 pub mod Range
-pub mod StartSets
-pub mod Followers

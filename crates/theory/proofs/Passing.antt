@@ -1,31 +1,51 @@
--- What a check of a job that is not refused gives the rows after it. Assumes nothing.
+-- What a job that rows 1 to 5 pass has: its index is that of all its words. Assumes nothing.
 use mathlib.Core.List.{List}
-use mathlib.Core.Path.{_≡_, ap, sym, _∙_}
-use Prim.Native.Nat.{ℕ}
+use mathlib.Core.Path.{_≡_, ap, _∙_}
+use Prim.Native.Nat.{ℕ, _≤_}
 use native.Mathlib.Omega.{arith}
 use borrow.Author.Tests.{eq-eqb}
-use Rattle.answers.specs.declared.Refusal.{Refusal}
+use lib.ListN.{length}
 use Rattle.job.specs.declared.Checked.{Checked}
+use Rattle.job.specs.declared.Index.{Index}
 use Rattle.job.specs.Refusal.{jobRefusal}
-use Rattle.job.specs.Index.{checkedOf}
+use Rattle.job.specs.Index.{placesUpto, checkedOf}
+use Rattle.job.specs.Parts.{total, formulaCount, nodeCount}
 use Rattle.job.specs.WellFormed.{WellFormed, Indexed}
 use Rattle.job.proofs.WellFormed.{well-formed}
-use Rattle.job.proofs.Where.{placed}
+use Rattle.answers.proofs.Rows.{or-none}
+use Rattle.starts.specs.Rows.{startsRefusal}
+use Rattle.theory.specs.Answers.{planRefusal}
+use Rattle.job.proofs.Where.{placed, positions-count}
 
-module _ (job : List ℕ) (r : Checked) (is : r ≡ checkedOf job) where
-  pub checked-refusal : r .refusal ≡ jobRefusal job
+pub checked-refusal : (job : List ℕ) (r : Checked) → r ≡ checkedOf job → r .refusal ≡ jobRefusal job
+unfolding checkedOf
+checked-refusal job r is = rw is
+
+-- a plan that rows 1 to 10 pass: its job is well formed
+pub plan-formed : (job starts : List ℕ) → planRefusal job starts .number ≡ 0 → WellFormed job
+unfolding planRefusal
+plan-formed job starts clear = well-formed job (or-none (jobRefusal job) (startsRefusal job starts) clear .0)
+
+module _ (job : List ℕ) {index : Index} (clear : jobRefusal job .number ≡ 0) (is : index ≡ checkedOf job .index) where
+  formed : WellFormed job
+  formed = well-formed job clear
+
+  pub actions-indexed : Indexed job 3 (index .actions .position)
   unfolding checkedOf
-  checked-refusal = rw is
+  actions-indexed = rw (is, eq-eqb (jobRefusal job .number) 0 clear) (placed job 3 (omega (arith, formed .counted, formed .few-actions)))
 
-  module _ (none : r .refusal .number ≡ 0) where
-    number-none : jobRefusal job .number ≡ 0
-    number-none = sym (ap (λ (s : Refusal). s .number) checked-refusal) ∙ none
+  pub formulas-indexed : Indexed job 5 (index .formulas .position)
+  unfolding checkedOf
+  formulas-indexed = rw (is, eq-eqb (jobRefusal job .number) 0 clear) (placed job 5 (formed .few-formulas))
 
-    pub checked-formed : WellFormed job
-    checked-formed = well-formed job number-none
+  pub nodes-indexed : Indexed job 6 (index .nodes .position)
+  unfolding checkedOf
+  nodes-indexed = rw (is, eq-eqb (jobRefusal job .number) 0 clear) (placed job 6 (formed .few-nodes))
 
-    pub checked-placed : Indexed job 3 (r .index .actions .position)
-    unfolding checkedOf
-    checked-placed =
-        rw (is, eq-eqb (jobRefusal job .number) 0 number-none)
-        (placed job 3 (omega (arith, checked-formed .counted, checked-formed .few-actions)))
+  pub formulas-counted : index .formulas .total ≡ formulaCount job
+  unfolding checkedOf placesUpto
+  formulas-counted = rw (is, eq-eqb (jobRefusal job .number) 0 clear) (positions-count 5 job (length job))
+
+  pub nodes-counted : index .nodes .total ≡ nodeCount job
+  unfolding checkedOf placesUpto
+  nodes-counted = rw (is, eq-eqb (jobRefusal job .number) 0 clear) (positions-count 6 job (length job))

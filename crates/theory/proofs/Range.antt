@@ -19,7 +19,8 @@ use Rattle.job.proofs.Range.{job-fits}
 use Rattle.facts.specs.Facts.{factsOf}
 use Rattle.facts.proofs.Lists.{facts-fit}
 use Rattle.starts.specs.Rows.{startsRefusal}
-use Rattle.starts.proofs.Range.{starts-fit}
+use Rattle.starts.proofs.RefusalFits.{starts-fit}
+use Rattle.theory.proofs.Laws.{check-rows}
 use Rattle.theory.specs.Answers.{bufferRefusal, planRefusal, factsRefusal, checkRefusal, fillRefusal, checkAnswer, fillAnswer}
 
 -- a second row that fits only where it is reached
@@ -56,15 +57,16 @@ module _ (job starts : List ℕ) (words : (i : ℕ) → getD starts i 0 < 2 ^ 32
   plan-fits = or-fits (jobRefusal job) (startsRefusal job starts) (job-fits job) (starts-fit job starts words)
 
   pub check-range : (facts : List ℕ) → InRange (checkAnswer job starts facts)
-  unfolding checkAnswer checkRefusal
+  unfolding checkAnswer
   check-range facts =
-      answer-fits _ 0 0
+      answer-fits (checkRefusal job starts facts) 0 0
+      (rw (check-rows job starts facts)
       (next-fits (planRefusal job starts) (factsRefusal facts (factsOf job starts) 0) plan-fits
-      (λ e. differ-fits facts (factsOf job starts) 0 (omega (arith, few-facts job starts e))))
+      (λ e. differ-fits facts (factsOf job starts) 0 (omega (arith, few-facts job starts e)))))
       (omega arith) (omega arith)
 
   pub fill-range : (room : ℕ) → InRange (fillAnswer room job starts)
-  unfolding fillAnswer fillRefusal
+  unfolding fillAnswer fillRefusal planRefusal
   fill-range room =
       length-fits _ _ (or-fits (bufferRefusal room) (planRefusal job starts) (row-fits (ltb room 4096) 12 0 (omega arith) (omega arith)) plan-fits)
       (λ e. few-facts job starts (or-none (bufferRefusal room) (planRefusal job starts) e .1))

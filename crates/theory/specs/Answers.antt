@@ -8,7 +8,7 @@ use lib.ListN.{length, take, drop}
 use Rattle.answers.specs.declared.Refusal.{Refusal}
 use Rattle.answers.specs.declared.Answer.{Answer}
 use Rattle.answers.specs.declared.Answer.the-variants.{Accepted, Refused}
-use Rattle.answers.specs.Rows.{refusal, passed, row, firstRefusal}
+use Rattle.answers.specs.Rows.{refusal, passed, row, firstRow}
 use Rattle.answers.specs.Packed.{answerOf}
 use Rattle.job.specs.Refusal.{jobRefusal}
 use Rattle.facts.specs.Facts.{factsOf}
@@ -18,10 +18,6 @@ use Rattle.starts.specs.Rows.{startsRefusal}
 abbrev pub bufferRefusal : ℕ → Refusal
 bufferRefusal room = row (ltb room 4096) 12 0
 
--- rows 1 to 10
-unfoldable pub planRefusal : List ℕ → List ℕ → Refusal
-planRefusal job starts = firstRefusal (jobRefusal job) (startsRefusal job starts)
-
 -- row 11, on what is left of the two lists at position i: there they differ, or one of them ends
 unfoldable pub factsRefusal : List ℕ → List ℕ → ℕ → Refusal
 factsRefusal [] [] i = passed
@@ -29,12 +25,24 @@ factsRefusal [] (b ∷ ys) i = refusal 11 i
 factsRefusal (a ∷ xs) [] i = refusal 11 i
 factsRefusal (a ∷ xs) (b ∷ ys) i = cond (eqb a b) (factsRefusal xs ys (suc i)) (refusal 11 i)
 
--- check runs rows 1 to 11, fill rows 12 and 1 to 10
+-- the rows of a plan, 1 to 10, each group of them one after the other; check adds row 11, and fill begins with row 12
+abbrev pub planRows : List ℕ → List ℕ → List Refusal
+planRows job starts = jobRefusal job ∷ startsRefusal job starts ∷ []
+
+abbrev pub checkRows : List ℕ → List ℕ → List ℕ → List Refusal
+checkRows job starts facts = planRows job starts ++ (factsRefusal facts (factsOf job starts) 0 ∷ [])
+
+abbrev pub fillRows : ℕ → List ℕ → List ℕ → List Refusal
+fillRows room job starts = bufferRefusal room ∷ planRows job starts
+
+unfoldable pub planRefusal : List ℕ → List ℕ → Refusal
+planRefusal job starts = firstRow (planRows job starts)
+
 unfoldable pub checkRefusal : List ℕ → List ℕ → List ℕ → Refusal
-checkRefusal job starts facts = firstRefusal (planRefusal job starts) (factsRefusal facts (factsOf job starts) 0)
+checkRefusal job starts facts = firstRow (checkRows job starts facts)
 
 unfoldable pub fillRefusal : ℕ → List ℕ → List ℕ → Refusal
-fillRefusal room job starts = firstRefusal (bufferRefusal room) (planRefusal job starts)
+fillRefusal room job starts = firstRow (fillRows room job starts)
 
 -- a plan passes where no row of check fits
 abbrev pub Passes : List ℕ → List ℕ → List ℕ → Type 0

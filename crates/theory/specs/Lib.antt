@@ -3,5 +3,3 @@
 -- of the crate promise).
 pub mod Answers
 pub mod Judged
-pub mod Trajectory
-pub mod Procedure

@@ -2,7 +2,9 @@
 ghost use mathlib.Core.Path.{_≡_};
 ghost use lib.ListN.{length};
 ghost use Rattle.facts.specs.Facts.{factsOf};
-ghost use Rattle.theory.specs.Answers.{factsRefusal, checkAnswer, fillAnswer, written};
+ghost use Rattle.job.specs.Refusal.{jobRefusal};
+ghost use Rattle.job.specs.Index.{checkedOf};
+ghost use Rattle.theory.specs.Answers.{planRefusal, factsRefusal, checkRefusal, checkAnswer, fillAnswer, written};
 ghost use Rattle.theory.specs.Judged.{Judged};
 use answers::Answer;
 use answers::Refusal;
@@ -10,44 +12,68 @@ use answers::answer_of;
 use facts::fill_facts;
 use history::durations;
 use history::effects;
+use job::Index;
 use job::check_job;
-use starts::check_starts;
+use starts::check_needs;
+use starts::check_times;
 
-pub mod moments;
-pub mod runs;
-
-// The refusal of rows 1 to 10, and the tables of the actions of a plan that passes them.
+// The refusal of the rows that were run, and of a plan that passes them the index of the job's words, the durations of its actions and its
+// history.
 pub struct Plan {
     pub refusal: Refusal,
+    pub index: Index,
     pub durations: [usize; 64],
-    pub effects: [u8; 4096],
+    pub history: [u8; 4096],
 }
 
-pub fn judge(job: &[u32], starts: &[u32]) -> Plan
-    ensures { λ r. ⌜ Judged (now (job .entry)) (now (starts .entry)) r ⌝ }
+// A refused plan: nothing is promised of its tables.
+fn refused(refusal: Refusal, index: Index) -> Plan
+    ensures { λ r. ⌜ r .refusal ≡ refusal ⌝ }
 {
-    let checked = check_job(job);
-    let refusal = checked.refusal;
-    if refusal.number != 0 {
-        let durations = [0usize; 64];
-        let effects = [0u8; 4096];
-        return Plan {
-            refusal,
-            durations,
-            effects,
-        };
+    let durations = [0usize; 64];
+    let history = [0u8; 4096];
+    Plan {
+        refusal,
+        index,
+        durations,
+        history,
     }
-    let index = checked.index;
+}
+
+// Rows 6 to 10 of a job that passes rows 1 to 5.
+fn judge_starts(job: &[u32], index: Index, starts: &[u32]) -> Plan
+    requires { ⌜ (jobRefusal (now job) .number ≡ 0) × (index ≡ checkedOf (now job) .index) ⌝ }
+    ensures { λ r. ⌜ Judged (planRefusal (now (job .entry)) (now (starts .entry))) (now (job .entry)) (now (starts .entry)) r ⌝ }
+{
     let actions = index.actions;
     let places = actions.position;
     let durations = durations(job, &places);
     let effects = effects(job, &places);
-    let refusal = check_starts(job, &places, &durations, &effects, starts);
+    let times = check_times(job, &durations, &effects, starts);
+    if times.number != 0 {
+        return refused(times, index);
+    }
+    let history = history::history(job, &durations, &effects, starts);
+    let refusal = check_needs(job, &places, &history, starts);
     Plan {
         refusal,
+        index,
         durations,
-        effects,
+        history,
     }
+}
+
+// Rows 1 to 10.
+pub fn judge(job: &[u32], starts: &[u32]) -> Plan
+    ensures { λ r. ⌜ Judged (planRefusal (now (job .entry)) (now (starts .entry))) (now (job .entry)) (now (starts .entry)) r ⌝ }
+{
+    let checked = check_job(job);
+    let refusal = checked.refusal;
+    let index = checked.index;
+    if refusal.number != 0 {
+        return refused(refusal, index);
+    }
+    judge_starts(job, index, starts)
 }
 
 // Row 11: the first difference of two lists.
@@ -83,19 +109,33 @@ pub fn compare_facts(given: &[u32], wanted: &[u32]) -> Refusal
 }
 
 // Rows 1 to 11.
-pub fn check_plan(job: &[u32], starts: &[u32], facts: &[u32]) -> Answer
-    ensures { λ r. ⌜ r ≡ checkAnswer (now (job .entry)) (now (starts .entry)) (now (facts .entry)) ⌝ }
+pub fn judge_facts(job: &[u32], starts: &[u32], facts: &[u32]) -> Plan
+    ensures { λ r. ⌜ Judged (checkRefusal (now (job .entry)) (now (starts .entry)) (now (facts .entry))) (now (job .entry)) (now (starts .entry)) r ⌝ }
 {
     let plan = judge(job, starts);
     let rows = plan.refusal;
     if rows.number != 0 {
-        return answer_of(rows, 0, 0);
+        return plan;
     }
+    let index = plan.index;
     let durations = plan.durations;
-    let effects = plan.effects;
+    let history = plan.history;
     let mut wanted = [0u32; 4096];
-    let n = fill_facts(job, &durations, &effects, starts, &mut wanted);
-    answer_of(compare_facts(facts, &wanted[..n]), 0, 0)
+    let n = fill_facts(job, &history, &mut wanted);
+    let refusal = compare_facts(facts, &wanted[..n]);
+    Plan {
+        refusal,
+        index,
+        durations,
+        history,
+    }
+}
+
+pub fn check_plan(job: &[u32], starts: &[u32], facts: &[u32]) -> Answer
+    ensures { λ r. ⌜ r ≡ checkAnswer (now (job .entry)) (now (starts .entry)) (now (facts .entry)) ⌝ }
+{
+    let plan = judge_facts(job, starts, facts);
+    answer_of(plan.refusal, 0, 0)
 }
 
 // Rows 12 and 1 to 10; then the facts are written to the front of the buffer.
@@ -118,8 +158,7 @@ pub fn fill_plan(job: &[u32], starts: &[u32], buffer: &mut [u32]) -> Answer
     if refused.number != 0 {
         return answer_of(refused, 0, 0);
     }
-    let durations = plan.durations;
-    let effects = plan.effects;
-    let n = fill_facts(job, &durations, &effects, starts, buffer);
+    let history = plan.history;
+    let n = fill_facts(job, &history, buffer);
     answer_of(refused, n, 0)
 }

@@ -1,47 +1,70 @@
 -- `theory::fill_plan` meets its contract: a row refuses and leaves the buffer, or the facts are written. Assumes nothing.
-use mathlib.Core.Path.{_∙_, ap}
+use mathlib.Core.Path.{_≡_, sym, _∙_, ap}
+use Prim.Native.Nat.{ℕ, _≤_}
 use borrow.Author.Tests.{lt-ltb, le-ltb, eq-eqb, ne-eqb}
 use lib.ListN.{length}
 use lib.Seq.{length-sets}
+use Rattle.answers.specs.declared.Refusal.{Refusal}
+use Rattle.answers.specs.Packed.{answerOf}
 use Rattle.facts.specs.Facts.{factsOf}
+use Rattle.facts.specs.Written.{Filled}
 use Rattle.facts.proofs.Lists.{facts-fit}
-use Rattle.theory.specs.Answers.{fillRefusal, fillAnswer}
-use Rattle.theory.specs.Judged.{Judged}
-use Rattle.theory.proofs.Laws.{answer-refused, sets-front}
+use Rattle.theory.specs.Answers.{planRefusal, fillRefusal, fillAnswer}
+use Rattle.theory.proofs.Laws.{answer-refused, filled-front}
+use Rattle.theory.proofs.Passing.{plan-formed}
 use borrow.Author.Needs.{needs}
 use native.Mathlib.Omega.{arith}
 use Rattle.theory.proofs.fill_plan.Statement.{statement}
 use Rattle.theory.proofs.fill_plan.Tie as tie
+
+-- the places of the code that the proof speaks of
+abbrev judged : tie.Else2 → tie.After-judge
+judged c = c .before .before .before
+
+abbrev entry : tie.After-judge → tie.Start
+entry c = c .before .before .before .before .before
+
+abbrev ahead : tie.After-fill-facts → tie.Else2
+ahead c = c .before .before .before .before
+
+clear : (c : tie.Else2) → planRefusal (entry (judged c) .args .job .now) (entry (judged c) .args .starts .now) .number ≡ 0
+clear c = sym (ap (λ (r : Refusal). r .number) (judged c .judge .ensures .refusal)) ∙ c .if2 .left
+
+filled : (c : tie.After-fill-facts)
+    → let s = entry (judged (ahead c)) in Filled (s .args .buffer .now) (factsOf (s .args .job .now) (s .args .starts .now)) (c .fill-facts .result) (c .fill-facts .last .1 .1 .0)
+filled c = c .fill-facts .ensures _ (judged (ahead c) .judge .ensures .passed (clear (ahead c)) .history)
 
 returns : tie.Need-returns
 unfolding fillAnswer fillRefusal
 returns c = (c .answer-of .ensures ∙ rw (lt-ltb _ _ (c .before .if1 .taken)), rw (c .answer-of .ensures))
 
 returns-2 : tie.Need-returns-2
-unfolding fillAnswer fillRefusal
-returns-2 c = let never = c .before .if2 .taken in
-    let e = c .before .before .before .before .judge .ensures .refusal in
-    let made = c .answer-of2 .ensures ∙ answer-refused _ 0 0 (length (factsOf (c .before .before .before .before .before .before .before .before .before .args .job .now) (c .before .before .before .before .before .before .before .before .before .args .starts .now))) 0 never in
-    (made ∙ rw (le-ltb _ _ (c .before .before .before .before .before .if1 .left), ← e), rw (c .answer-of2 .ensures, ne-eqb _ 0 never))
+unfolding fillAnswer fillRefusal planRefusal
+returns-2 c =
+    let j = c .before .before .before .before in
+    let never = c .before .if2 .taken in
+    let facts = factsOf (entry j .args .job .now) (entry j .args .starts .now) in
+    let made = c .answer-of2 .ensures ∙ answer-refused _ 0 0 (length facts) 0 never in
+    (made ∙ rw (le-ltb _ _ (j .before .if1 .left), ← j .judge .ensures .refusal), rw (c .answer-of2 .ensures, ne-eqb _ 0 never))
 
 fill-facts-requires : tie.Need-fill-facts-requires
-fill-facts-requires c κs = let j = c .before .before .before .before .before .before .before .before .judge .ensures in
-    let ok = c .before .before .before .before .before .if2 .left in
-    (j .formed ok, j .durations ok, j .effects ok, j .named ok, c .before .before .before .before .before .before .before .before .before .if1 .left)
+fill-facts-requires c κs = let e = c .before .before .before in (plan-formed _ _ (clear e), judged e .before .if1 .left)
 
 same-length : tie.Need-same-length
-same-length c = ap length (c .before .before .before .fill-facts .ensures .1) ∙ simp length-sets
+same-length c = ap length (filled (c .before .before .before) .held) ∙ simp length-sets
 
 returns-3 : tie.Need-returns-3
-unfolding fillAnswer fillRefusal
-returns-3 c = let j = c .before .before .before .before .before .before .before .before .before .before .before .before .judge .ensures in
-    let ok = c .before .before .before .before .before .before .before .before .before .if2 .left in
-    let room = c .before .before .before .before .before .before .before .before .before .before .before .before .before .if1 .left in
-    let n = c .before .before .before .fill-facts .ensures .0 in
-    let fit = facts-fit (c .before .before .before .before .before .before .before .before .before .before .before .before .before .before .before .before .before .args .job .now) (c .before .before .before .before .before .before .before .before .before .before .before .before .before .before .before .before .before .args .starts .now) (j .formed ok) in (
-      c .answer-of3 .ensures ∙ rw (le-ltb _ _ room, ← j .refusal, n),
-      rw (c .answer-of3 .ensures, eq-eqb _ 0 ok, n)
-          (c .before .before .before .fill-facts .ensures .1 ∙ sets-front (c .before .before .before .before .before .before .before .before .before .before .before .before .before .before .before .before .before .args .buffer .now) (factsOf (c .before .before .before .before .before .before .before .before .before .before .before .before .before .before .before .before .before .args .job .now) (c .before .before .before .before .before .before .before .before .before .before .before .before .before .before .before .before .before .args .starts .now)) (omega arith)),
+unfolding fillAnswer fillRefusal planRefusal
+returns-3 c =
+    let f = c .before .before .before in
+    let e = ahead f in
+    let j = judged e in
+    let s = entry j in
+    let room = j .before .if1 .left in
+    let fit = facts-fit (s .args .job .now) (s .args .starts .now) (plan-formed _ _ (clear e)) in (
+      c .answer-of3 .ensures ∙ ap (λ (n : ℕ). answerOf (j .judge .result .refusal) n 0) (filled f .count)
+          ∙ ap (λ (r : Refusal). answerOf r (length (factsOf (s .args .job .now) (s .args .starts .now))) 0) (j .judge .ensures .refusal) ∙ rw (le-ltb _ _ room),
+      rw (c .answer-of3 .ensures, eq-eqb _ 0 (e .if2 .left)) (filled-front (filled f) (omega arith) .1),
     )
 
 pub fill-plan-spec : {M : Type 1} → statement M

@@ -1,58 +1,39 @@
 -- `theory::judge` meets its contract: the job is refused, or it passes and the rows on starts say the rest. Assumes nothing.
-use mathlib.Core.Path.{sym, _∙_, ap}
+use mathlib.Core.Path.{_≡_, sym, _∙_, ap}
 use Rattle.answers.specs.declared.Refusal.{Refusal}
+use Rattle.job.specs.declared.Checked.{Checked}
 use Rattle.job.specs.Refusal.{jobRefusal}
 use Rattle.starts.specs.Rows.{startsRefusal}
-use Rattle.starts.proofs.Words.{named, starts-passed}
 use Rattle.theory.specs.Answers.{planRefusal}
-use Rattle.theory.specs.Judged.{Judged}
-use Rattle.theory.proofs.Laws.{or-refused, or-passed}
-use Rattle.theory.proofs.Passing.{checked-refusal, checked-formed, checked-placed}
+use Rattle.theory.proofs.Laws.{or-refused}
+use Rattle.theory.proofs.Passing.{checked-refusal}
 use borrow.Author.Needs.{needs}
 use Rattle.theory.proofs.judge.Statement.{statement}
 use Rattle.theory.proofs.judge.Tie as tie
 
+-- the places of the code that the proof speaks of
+abbrev checked : tie.After-index → tie.After-check-job
+checked c = c .before .before
+
+abbrev entry : tie.After-check-job → tie.Start
+entry c = c .before .before .before
+
+refusal-is : (k : tie.After-check-job) → k .check-job .result .refusal ≡ jobRefusal (entry k .args .job .now)
+refusal-is k = checked-refusal _ _ (k .check-job .ensures)
+
 returns : tie.Need-returns
 unfolding planRefusal
-returns c = let is = checked-refusal _ _ (c .before .before .before .check-job .ensures) in
-    let never = c .if1 .taken in
-    record {
-      refusal = is ∙ or-refused (jobRefusal (c .before .before .before .before .before .before .args .job .now)) (startsRefusal (c .before .before .before .before .before .before .args .job .now) (c .before .before .before .before .before .before .args .starts .now)) (λ z. never (ap (λ (r : Refusal). r .number) is ∙ z));
-      formed = λ z. absurd (never z);
-      durations = λ z. absurd (never z);
-      effects = λ z. absurd (never z);
-      named = λ z. absurd (never z);
-    }
+returns c =
+    let k = checked (c .before .before .before) in
+    let never = c .before .if1 .taken in
+    let s = entry k in
+    let is = refusal-is k ∙ or-refused (jobRefusal (s .args .job .now)) (startsRefusal (s .args .job .now) (s .args .starts .now)) (λ z. never (ap (λ (r : Refusal). r .number) (refusal-is k) ∙ z)) in
+    record { refusal = c .refused .ensures ∙ is; passed = λ z. absurd (never (ap (λ (r : Refusal). r .number) is ∙ z)) }
 
-durations-requires : tie.Need-durations-requires
-durations-requires c κs = (checked-formed _ _ (c .before .before .before .before .before .before .before .check-job .ensures) (c .before .before .before .before .if1 .left), checked-placed _ _ (c .before .before .before .before .before .before .before .check-job .ensures) (c .before .before .before .before .if1 .left))
-
-effects-requires : tie.Need-effects-requires
-effects-requires c κs = (checked-formed _ _ (c .before .before .before .before .before .before .before .before .before .check-job .ensures) (c .before .before .before .before .before .before .if1 .left), checked-placed _ _ (c .before .before .before .before .before .before .before .before .before .check-job .ensures) (c .before .before .before .before .before .before .if1 .left))
-
-check-starts-requires : tie.Need-check-starts-requires
-check-starts-requires c κs = (checked-formed _ _ (c .before .before .before .before .before .before .before .before .before .before .before .before .before .check-job .ensures) (c .before .before .before .before .before .before .before .before .before .before .if1 .left), checked-placed _ _ (c .before .before .before .before .before .before .before .before .before .before .before .before .before .check-job .ensures) (c .before .before .before .before .before .before .before .before .before .before .if1 .left), c .before .before .before .before .before .durations .ensures, c .before .before .before .effects .ensures)
-
-returns-2 : tie.Need-returns-2
-unfolding planRefusal
-returns-2 c = let checked = c .before .before .before .before .before .before .before .before .before .before .before .before .before .before .check-job .ensures in
-    let none = c .before .before .before .before .before .before .before .before .before .before .before .if1 .left in
-    let is = checked-refusal _ _ checked in
-    record {
-      refusal = c .check-starts .ensures ∙ or-passed (jobRefusal (c .before .before .before .before .before .before .before .before .before .before .before .before .before .before .before .before .before .args .job .now)) (startsRefusal (c .before .before .before .before .before .before .before .before .before .before .before .before .before .before .before .before .before .args .job .now) (c .before .before .before .before .before .before .before .before .before .before .before .before .before .before .before .before .before .args .starts .now)) (sym (ap (λ (r : Refusal). r .number) is) ∙ none);
-      formed = λ z. checked-formed _ _ checked none;
-      durations = λ z. c .before .before .before .before .before .before .durations .ensures;
-      effects = λ z. c .before .before .before .before .effects .ensures;
-      named = λ z. named (starts-passed _ _ (sym (ap (λ (r : Refusal). r .number) (c .check-starts .ensures)) ∙ z));
-    }
+judge-starts-requires : tie.Need-judge-starts-requires
+judge-starts-requires c κs =
+    let k = checked (c .before .before) in
+    (sym (ap (λ (r : Refusal). r .number) (refusal-is k)) ∙ c .if1 .left, ap (λ (r : Checked). r .index) (k .check-job .ensures))
 
 pub judge-spec : {M : Type 1} → statement M
-judge-spec =
-    tie.close
-    (tie.spec
-    (λ c κs. search needs)
-    returns
-    durations-requires
-    effects-requires
-    check-starts-requires
-    returns-2)
+judge-spec = tie.close (tie.spec (λ c κs. search needs) (λ c κs. search needs) returns judge-starts-requires (λ c. search needs))

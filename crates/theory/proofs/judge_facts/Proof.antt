@@ -1,0 +1,91 @@
+-- `theory::judge_facts` meets its contract: a row before refuses, or it is left to the facts. Assumes nothing.
+use mathlib.Core.Path.{_≡_, sym, _∙_, ap}
+use Prim.Native.Nat.{ℕ, _≤_}
+use mathlib.Core.List.{List}
+use lib.ListN.{length, replicate}
+use lib.Seq.{length-take-le, length-sets}
+use Rattle.answers.specs.declared.Refusal.{Refusal}
+use Rattle.facts.specs.Facts.{factsOf}
+use Rattle.facts.specs.Written.{Filled}
+use Rattle.facts.proofs.Lists.{facts-fit}
+use Rattle.theory.specs.Answers.{planRefusal, factsRefusal}
+use Rattle.theory.specs.Judged.{Passed}
+use Rattle.theory.proofs.Laws.{or-refused, or-passed, check-rows, filled-front}
+use Rattle.theory.proofs.Passing.{plan-formed}
+use borrow.Author.Needs.{needs}
+use native.Mathlib.Omega.{arith}
+use Rattle.theory.proofs.judge_facts.Statement.{statement}
+use Rattle.theory.proofs.judge_facts.Tie as tie
+
+-- the places of the code that the proof speaks of
+abbrev entry : tie.After-judge → tie.Start
+entry c = c .before .before .before .before
+
+abbrev judged : tie.Else1 → tie.After-judge
+judged c = c .before .before .before
+
+abbrev ahead : tie.After-fill-facts → tie.Else1
+ahead c = c .before .before .before .before .before .before
+
+-- of a plan that rows 1 to 10 pass
+clear : (c : tie.Else1) → planRefusal (entry (judged c) .args .job .now) (entry (judged c) .args .starts .now) .number ≡ 0
+clear c = sym (ap (λ (r : Refusal). r .number) (judged c .judge .ensures .refusal)) ∙ c .if1 .left
+
+passing : (c : tie.Else1) → Passed (entry (judged c) .args .job .now) (entry (judged c) .args .starts .now) (judged c .judge .result)
+passing c = judged c .judge .ensures .passed (clear c)
+
+-- the facts are written, and fit the working list
+filled : (c : tie.After-fill-facts)
+    → let s = entry (judged (ahead c)) in Filled (replicate 4096 0) (factsOf (s .args .job .now) (s .args .starts .now)) (c .fill-facts .result) (c .fill-facts .last .1 .1 .0)
+filled c = c .fill-facts .ensures _ (passing (ahead c) .history)
+
+fits : (c : tie.After-fill-facts) → c .fill-facts .result ≤ length (c .fill-facts .last .1 .1 .0)
+fits c =
+    let s = entry (judged (ahead c)) in
+    let fit = facts-fit (s .args .job .now) (s .args .starts .now) (plan-formed _ _ (clear (ahead c))) in
+    let len : length (c .fill-facts .last .1 .1 .0) ≡ 4096 = ap length (filled c .held) ∙ simp length-sets in
+    omega (arith, filled c .count)
+
+returns : tie.Need-returns
+returns c =
+    let j = c .before .before .before in
+    let s = entry j in
+    let never = c .if1 .taken in
+    let e = j .judge .ensures .refusal in
+    let is = e ∙ or-refused _ _ (λ z. never (ap (λ (r : Refusal). r .number) e ∙ z)) ∙ sym (check-rows (s .args .job .now) (s .args .starts .now) (s .args .facts .now)) in
+    record { refusal = is; passed = λ z. absurd (never (ap (λ (r : Refusal). r .number) is ∙ z)) }
+
+fill-facts-requires : tie.Need-fill-facts-requires
+fill-facts-requires c κs = (plan-formed _ _ (clear (c .before .before .before .before .before)), omega arith)
+
+array-share-prefix-wanted : tie.Need-array-share-prefix-wanted
+array-share-prefix-wanted c = fits (c .before)
+
+slice-aggregate-compare-facts : tie.Need-slice-aggregate-compare-facts
+slice-aggregate-compare-facts c = sym (length-take-le _ _ (fits (c .before .before)))
+
+returns-2 : tie.Need-returns-2
+returns-2 c =
+    let f = c .before .before .before in
+    let s = entry (judged (ahead f)) in
+    let facts = factsOf (s .args .job .now) (s .args .starts .now) in
+    let fit = facts-fit (s .args .job .now) (s .args .starts .now) (plan-formed _ _ (clear (ahead f))) in
+    let same = filled-front (filled f) (omega arith) .0 in
+    let p = passing (ahead f) in
+    record {
+      refusal = c .compare-facts .ensures ∙ ap (λ (l : List ℕ). factsRefusal (s .args .facts .now) l 0) same ∙ or-passed _ _ (clear (ahead f)) ∙ sym (check-rows (s .args .job .now) (s .args .starts .now) (s .args .facts .now));
+      passed = λ z. record { clear = p .clear; index = p .index; durations = p .durations; history = p .history };
+    }
+
+pub judge-facts-spec : {M : Type 1} → statement M
+judge-facts-spec =
+    tie.close
+    (tie.spec
+    (λ c κs. search needs)
+    returns
+    (λ c. search needs)
+    fill-facts-requires
+    array-share-prefix-wanted
+    slice-aggregate-compare-facts
+    (λ c κs. search needs)
+    returns-2)

@@ -1,0 +1,99 @@
+-- `theory::judge_starts` meets its contract: rows 6 to 9 refuse, or they pass and row 10 says the rest. Assumes nothing.
+use mathlib.Core.Path.{_≡_, sym, _∙_, ap}
+use Rattle.answers.specs.declared.Refusal.{Refusal}
+use Rattle.job.specs.Refusal.{jobRefusal}
+use Rattle.job.proofs.WellFormed.{well-formed}
+use Rattle.starts.specs.Rows.{startsRefusal}
+use Rattle.starts.proofs.Rows.{starts-by-rows}
+use Rattle.starts.proofs.StartsFormed.{times-passed, named}
+use Rattle.theory.specs.Answers.{planRefusal}
+use Rattle.theory.proofs.Laws.{or-refused, or-passed}
+use Rattle.theory.proofs.Passing.{actions-indexed}
+use borrow.Author.Needs.{needs}
+use Rattle.theory.proofs.judge_starts.Statement.{statement}
+use Rattle.theory.proofs.judge_starts.Tie as tie
+
+-- the places of the code that the proof speaks of
+abbrev timed : tie.After-check-times → tie.Start
+timed c = c .before .before .before .before .before .before .before .before .before .before .before
+
+-- rows 1 to 5 pass, so that the rows on starts are the answer
+starts-rows : (s : tie.Start) → startsRefusal (s .args .job .now) (s .args .starts .now) ≡ planRefusal (s .args .job .now) (s .args .starts .now)
+unfolding planRefusal
+starts-rows s = or-passed (jobRefusal (s .args .job .now)) (startsRefusal (s .args .job .now) (s .args .starts .now)) (s .pre .0)
+
+durations-requires : tie.Need-durations-requires
+durations-requires c κs =
+    let s = c .before .before .before .before .before in
+    (well-formed _ (s .pre .0), actions-indexed _ (s .pre .0) (s .pre .1))
+
+effects-requires : tie.Need-effects-requires
+effects-requires c κs =
+    let s = c .before .before .before .before .before .before .before in
+    (well-formed _ (s .pre .0), actions-indexed _ (s .pre .0) (s .pre .1))
+
+check-times-requires : tie.Need-check-times-requires
+check-times-requires c κs = record {
+  formed = well-formed _ (c .before .before .before .before .before .before .before .before .before .before .pre .0);
+  lasts = c .before .before .before .before .durations .ensures;
+  makes = c .before .before .effects .ensures;
+}
+
+returns : tie.Need-returns
+returns c =
+    let times = c .before .before .before in
+    let s = timed times in
+    let never = c .before .if1 .taken in
+    let rows = starts-by-rows (s .args .job .now) (s .args .starts .now) in
+    let is = times .check-times .ensures ∙ or-refused _ _ (λ z. never (ap (λ (r : Refusal). r .number) (times .check-times .ensures) ∙ z)) ∙ sym rows ∙ starts-rows s in
+    record { refusal = c .refused .ensures ∙ is; passed = λ z. absurd (never (ap (λ (r : Refusal). r .number) is ∙ z)) }
+
+history-requires : tie.Need-history-requires
+history-requires c κs =
+    let times = c .before .before .before .before in
+    record {
+      well = well-formed _ (timed times .pre .0);
+      tables = record { durations = times .before .before .before .before .before .durations .ensures; effects = times .before .before .before .effects .ensures };
+      named = named (times-passed _ _ (sym (ap (λ (r : Refusal). r .number) (times .check-times .ensures)) ∙ c .before .before .if1 .left));
+    }
+
+check-needs-requires : tie.Need-check-needs-requires
+check-needs-requires c κs =
+    let times = c .before .before .before .before .before .before .before in
+    let s = timed times in
+    record {
+      formed = well-formed _ (s .pre .0);
+      indexed = actions-indexed _ (s .pre .0) (s .pre .1);
+      values = c .before .before .history .ensures;
+      words = times-passed _ _ (sym (ap (λ (r : Refusal). r .number) (times .check-times .ensures)) ∙ c .before .before .before .before .before .if1 .left);
+    }
+
+returns-2 : tie.Need-returns-2
+returns-2 c =
+    let times = c .before .before .before .before .before .before .before .before in
+    let s = timed times in
+    let none = c .before .before .before .before .before .before .if1 .left in
+    let rows = starts-by-rows (s .args .job .now) (s .args .starts .now) in
+    let is = c .check-needs .ensures ∙ or-passed _ _ (sym (ap (λ (r : Refusal). r .number) (times .check-times .ensures)) ∙ none) ∙ sym rows ∙ starts-rows s in
+    record {
+      refusal = is;
+      passed = λ z. record {
+        clear = z;
+        index = s .pre .1;
+        durations = times .before .before .before .before .before .durations .ensures;
+        history = c .before .before .before .history .ensures;
+      };
+    }
+
+pub judge-starts-spec : {M : Type 1} → statement M
+judge-starts-spec =
+    tie.close
+    (tie.spec
+    durations-requires
+    effects-requires
+    check-times-requires
+    (λ c κs. search needs)
+    returns
+    history-requires
+    check-needs-requires
+    returns-2)
