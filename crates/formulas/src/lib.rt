@@ -7,6 +7,7 @@ ghost use Rattle.history.specs.Values.{valueAt};
 ghost use Rattle.history.specs.Tables.{History};
 ghost use Rattle.formulas.specs.Values.{andTable, orTable, byTable, formValue};
 ghost use Rattle.formulas.specs.Table.{Small, Connectives, tabled, Grounds, ColumnsBefore, Fillable, FormulaTable};
+use history::FAILS;
 use history::FLUENTS;
 use history::HOLDS;
 use words::atom_fluent;
@@ -14,6 +15,9 @@ use words::form_of;
 use words::formula_x;
 use words::formula_y;
 use words::last_of;
+
+// The entries of a row of the tables of 'and' and 'or', one for each value.
+pub const VALUES: usize = 3;
 
 // The lesser and the greater in the order fails < open < holds.
 pub const AND: [u8; 9] = [0, 0, 0, 0, 1, 1, 0, 1, 2];
@@ -27,7 +31,7 @@ fn by_table(table: &[u8; 9], a: u8, b: u8) -> u8
     requires { ⌜ (a ≤ 2) × (b ≤ 2) ⌝ }
     ensures { λ r. ⌜ r ≡ byTable (now (table .entry)) a b ⌝ }
 {
-    table[a as usize * 3 + b as usize]
+    table[a as usize * VALUES + b as usize]
 }
 
 // The value of the formula word `w` at moment `t`, by the history and the table so far.
@@ -94,7 +98,7 @@ pub fn formula_values(
         → FormulaTable (now (and .entry)) (now (or .entry)) (now (job .entry)) (valueAt (now (job .entry)) starts) r) ⌝ }
 {
     let last = last_of(job[0]);
-    let mut values = [0u8; 4096];
+    let mut values = [FAILS; 4096];
     let mut t = 0;
     while t <= last {
         fill_moment(and, or, job, formulas, count, history, t, &mut values);

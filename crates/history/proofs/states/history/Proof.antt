@@ -14,6 +14,7 @@ use Rattle.history.proofs.states.history.Tie as tie
 
 record Walked (job starts : List ℕ) (last t : ℕ) (state table : List ℕ) : Type 0 where
   bound : t ≤ last + 1
+  few : last ≤ 63
   reached : StateAt job starts t state
   stored : Rows (valueAt job starts) (fluents job) t table
 
@@ -30,24 +31,26 @@ initial-state-requires : tie.Need-initial-state-requires Inv-loop μ-loop
 initial-state-requires c κs = c .before .before .before .before .pre .well
 
 loop-holds : tie.Need-loop-holds Inv-loop μ-loop
-loop-holds c = record { bound = omega arith; reached = state-start (c .initial-state .ensures); stored = rows-none }
-
-store-row-requires : tie.Need-store-row-requires Inv-loop μ-loop
-store-row-requires c κs = (omega (arith, c .before .before .before .before .before .before .before .before .before .pre .well .few-moments, c .before .before .before .before .before .last-of .ensures .0), c .before .before .before .loop .inv .stored .size)
+loop-holds c =
+    let p = c .before .before .before .before .before .pre in
+    record {
+      bound = omega arith;
+      few = rw (c .before .last-of .ensures .0) (p .well .few-moments);
+      reached = state-start (c .initial-state .ensures);
+      stored = rows-none;
+    }
 
 step-requires : tie.Need-step-requires Inv-loop μ-loop
 step-requires c κs =
     let p = c .before .before .before .before .before .before .before .before .before .before .before .pre in
-    (p, omega (arith, p .well .few-moments, c .before .before .before .before .before .before .before .last-of .ensures .0), c .before .before .before .before .before .loop .inv .reached)
-
-add-t : tie.Need-add-t Inv-loop μ-loop
-add-t c = omega (arith, c .before .before .before .before .before .before .before .before .before .before .before .before .pre .well .few-moments, c .before .before .before .before .before .before .before .before .last-of .ensures .0)
+    let old = c .before .before .before .before .before .loop .inv in
+    record { walk = p; soon = omega arith; state = old .reached }
 
 loop-again : tie.Need-loop-again Inv-loop μ-loop
 loop-again c =
     let p = c .before .before .before .before .before .before .before .before .before .before .before .before .pre in
     let old = c .before .before .before .before .before .before .loop .inv in
-    record { bound = omega arith; reached = c .step .ensures; stored = rows-more (p .well .few-fluents) (old .stored) (c .before .before .store-row .ensures) (old .reached .value) }
+    record { bound = omega arith; few = old .few; reached = c .step .ensures; stored = rows-more (p .well .few-fluents) (old .stored) (c .before .before .store-row .ensures) (old .reached .value) }
 
 returns : tie.Need-returns Inv-loop μ-loop
 returns c =
@@ -64,9 +67,9 @@ history-spec =
     (λ c κs. search needs)
     initial-state-requires
     loop-holds
-    store-row-requires
+    (λ c κs. search needs)
     step-requires
-    add-t
-    (λ c. omega arith)
+    (λ c. search needs)
+    (λ c. search needs)
     loop-again
     returns)

@@ -5,13 +5,13 @@ use Rattle.history.proofs.states.step.Statement.{statement}
 use Rattle.history.proofs.states.step.Tie as tie
 
 apply-starts-requires : tie.Need-apply-starts-requires
-apply-starts-requires c κs = let p = c .before .before .before .pre in (p .0, p .2 .room)
+apply-starts-requires c κs = let p = c .before .before .before .pre in (p .walk, p .state .room)
 
 apply-starts-requires-2 : tie.Need-apply-starts-requires-2
-apply-starts-requires-2 c κs = let p = c .before .before .before .before .before .pre in (p .0, rw (c .before .apply-starts .ensures .size) (p .2 .room))
+apply-starts-requires-2 c κs = let p = c .before .before .before .before .before .pre in (p .walk, rw (c .before .apply-starts .ensures .size) (p .state .room))
 
 returns : tie.Need-returns
-returns c = state-next (c .before .before .before .before .before .before .args .t) (c .before .before .before .before .before .before .pre .2) (c .before .before .apply-starts .ensures) (c .apply-starts2 .ensures)
+returns c = state-next (c .before .before .before .before .before .before .args .t) (c .before .before .before .before .before .before .pre .state) (c .before .before .apply-starts .ensures) (c .apply-starts2 .ensures)
 
 pub step-spec : {M : Type 1} → statement M
 step-spec =
