@@ -24,15 +24,25 @@ Inv-loop job durations effects starts last table₀ state₀ t₀ table state t 
 abbrev μ-loop : tie.MeasureT-loop
 μ-loop job durations effects starts last table₀ state₀ t₀ table state t = last + 1 - t
 
+-- the places of the code that the proof speaks of
+abbrev entry-place1 : tie.After-last-of Inv-loop μ-loop → tie.Start Inv-loop μ-loop
+entry-place1 c = c .before .before .before .before
+
+abbrev entry-place2 : tie.After-state2 Inv-loop μ-loop → tie.Start Inv-loop μ-loop
+entry-place2 c = entry-place1 (c .before .before .before .before .before .before .before)
+
+abbrev turn : tie.After-state2 Inv-loop μ-loop → tie.At-loop Inv-loop μ-loop
+turn c = c .before .before .before .before .before
+
 shared-slice-read-last-of : tie.Need-shared-slice-read-last-of Inv-loop μ-loop
 shared-slice-read-last-of c = c .before .before .before .pre .well .some
 
 initial-state-requires : tie.Need-initial-state-requires Inv-loop μ-loop
-initial-state-requires c κs = c .before .before .before .before .pre .well
+initial-state-requires c κs = entry-place1 c .pre .well
 
 loop-holds : tie.Need-loop-holds Inv-loop μ-loop
 loop-holds c =
-    let p = c .before .before .before .before .before .pre in
+    let p = entry-place1 (c .before) .pre in
     record {
       bound = omega arith;
       few = rw (c .before .last-of .ensures .0) (p .well .few-moments);
@@ -42,14 +52,14 @@ loop-holds c =
 
 step-requires : tie.Need-step-requires Inv-loop μ-loop
 step-requires c κs =
-    let p = c .before .before .before .before .before .before .before .before .before .before .before .pre in
-    let old = c .before .before .before .before .before .loop .inv in
+    let p = entry-place2 c .pre in
+    let old = turn c .loop .inv in
     record { walk = p; soon = omega arith; state = old .reached }
 
 loop-again : tie.Need-loop-again Inv-loop μ-loop
 loop-again c =
-    let p = c .before .before .before .before .before .before .before .before .before .before .before .before .pre in
-    let old = c .before .before .before .before .before .before .loop .inv in
+    let p = entry-place2 (c .before) .pre in
+    let old = turn (c .before) .loop .inv in
     record { bound = omega arith; few = old .few; reached = c .step .ensures; stored = rows-more (p .well .few-fluents) (old .stored) (c .before .before .store-row .ensures) (old .reached .value) }
 
 returns : tie.Need-returns Inv-loop μ-loop

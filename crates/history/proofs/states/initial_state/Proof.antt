@@ -17,6 +17,13 @@ Inv-loop job head state₀ i₀ state i = (i ≤ length job) × Overlaid 64 (lis
 abbrev μ-loop : tie.MeasureT-loop
 μ-loop job head state₀ i₀ state i = i
 
+-- the places of the code that the proof speaks of
+abbrev entry : tie.After-loop Inv-loop μ-loop → tie.Start Inv-loop μ-loop
+entry c = c .before .before .before .before
+
+abbrev turn : tie.After-store-known Inv-loop μ-loop → tie.At-loop Inv-loop μ-loop
+turn c = c .before .before .before .before
+
 loop-holds : tie.Need-loop-holds Inv-loop μ-loop
 loop-holds c = (omega arith, overlaid-none (c .before .before .args .job .now))
 
@@ -24,12 +31,14 @@ store-known-requires : tie.Need-store-known-requires Inv-loop μ-loop
 store-known-requires c κs = c .before .before .before .loop .inv .1 .size
 
 loop-again : tie.Need-loop-again Inv-loop μ-loop
-loop-again c = (omega arith, overlaid-back _ _ (c .before .before .before .loop-test .taken) (c .before .before .before .before .loop .inv .0) (c .before .before .before .before .loop .inv .1) (c .store-known .ensures))
+loop-again c =
+    let head-here = turn c in
+    (omega arith, overlaid-back _ _ (c .before .before .before .loop-test .taken) (head-here .loop .inv .0) (head-here .loop .inv .1) (c .store-known .ensures))
 
 returns : tie.Need-returns Inv-loop μ-loop
 unfolding initially valueAt
 returns c =
-    let few = c .before .before .before .before .pre .few-fluents in
+    let few = entry c .pre .few-fluents in
     let e : c .before .loop .i ≡ 0 = omega arith in
     let o = rw e at (c .before .loop .inv .1) in
     record { room = omega (arith, o .size); value = λ f l. overlaid-open o f (omega arith) }

@@ -20,6 +20,16 @@ Inv-loop job places head n table₀ a₀ table a = Turn job n a table
 abbrev μ-loop : tie.MeasureT-loop
 μ-loop job places head n table₀ a₀ table a = n - a
 
+-- the places of the code that the proof speaks of
+abbrev entry-place : tie.At-loop Inv-loop μ-loop → tie.Start Inv-loop μ-loop
+entry-place c = c .before .before .before .before
+
+abbrev turn : tie.After-store-row Inv-loop μ-loop → tie.At-loop Inv-loop μ-loop
+turn c = c .before .before .before .before .before .before
+
+abbrev after-laws-of : tie.After-store-row Inv-loop μ-loop → tie.After-laws-of Inv-loop μ-loop
+after-laws-of c = c .before .before .before .before
+
 shared-slice-read-head : tie.Need-shared-slice-read-head Inv-loop μ-loop
 shared-slice-read-head c = c .before .before .pre .0 .some
 
@@ -29,18 +39,18 @@ loop-holds c =
 
 laws-of-requires : tie.Need-laws-of-requires Inv-loop μ-loop
 laws-of-requires c κs =
-    let p = c .before .before .before .before .before .pre in
+    let p = entry-place (c .before) .pre in
     (p .0, p .1, rw (c .before .before .actions-of .ensures .0) at (c .loop-test .taken))
 
 loop-again : tie.Need-loop-again Inv-loop μ-loop
 loop-again c =
-    let old = c .before .before .before .before .before .before .loop .inv in
-    let row = effect-row _ _ (rw (c .before .before .before .before .laws-of .ensures) at (c .before .before .before .effects-row .ensures)) in
+    let old = turn c .loop .inv in
+    let row = effect-row _ _ (rw (after-laws-of c .laws-of .ensures) at (c .before .before .before .effects-row .ensures)) in
     record { bound = omega arith; few = old .few; stored = rows-more (omega arith) (old .stored) (c .store-row .ensures) row }
 
 returns : tie.Need-returns Inv-loop μ-loop
 returns c =
-    let p = c .before .before .before .before .before .pre in
+    let p = entry-place (c .before) .pre in
     let rows = c .before .loop .inv .stored in
     record {
       size = rows .size;

@@ -17,6 +17,10 @@ Inv-loop head laws row₀ i₀ row i = (i ≤ length laws) × Overlaid 64 (makes
 abbrev μ-loop : tie.MeasureT-loop
 μ-loop head laws row₀ i₀ row i = i
 
+-- the places of the code that the proof speaks of
+abbrev turn : tie.After-store-law Inv-loop μ-loop → tie.At-loop Inv-loop μ-loop
+turn c = c .before .before .before .before
+
 loop-holds : tie.Need-loop-holds Inv-loop μ-loop
 loop-holds c = (omega arith, overlaid-none (c .before .args .laws .now))
 
@@ -24,7 +28,9 @@ store-law-requires : tie.Need-store-law-requires Inv-loop μ-loop
 store-law-requires c κs = c .before .before .before .loop .inv .1 .size
 
 loop-again : tie.Need-loop-again Inv-loop μ-loop
-loop-again c = (omega arith, overlaid-back _ _ (c .before .before .before .loop-test .taken) (c .before .before .before .before .loop .inv .0) (c .before .before .before .before .loop .inv .1) (c .store-law .ensures))
+loop-again c =
+    let head-here = turn c in
+    (omega arith, overlaid-back _ _ (c .before .before .before .loop-test .taken) (head-here .loop .inv .0) (head-here .loop .inv .1) (c .store-law .ensures))
 
 returns : tie.Need-returns Inv-loop μ-loop
 returns c = let e : c .before .loop .i ≡ 0 = omega arith in rw e at (c .before .loop .inv .1)
