@@ -25,6 +25,13 @@ Inv-loop and or job formulas count history t values₀ head k₀ values k = Turn
 abbrev μ-loop : tie.MeasureT-loop
 μ-loop and or job formulas count history t values₀ head k₀ values k = count - k
 
+-- the places of the code that the proof speaks of
+abbrev entry : tie.After-at Inv-loop μ-loop → tie.Start Inv-loop μ-loop
+entry c = c .before .before .before .before .before
+
+abbrev place : tie.After-form-value-arg Inv-loop μ-loop → tie.After-at Inv-loop μ-loop
+place c = c .before .before
+
 shared-slice-read-head : tie.Need-shared-slice-read-head Inv-loop μ-loop
 shared-slice-read-head c = c .before .before .pre .grounds .well .some
 
@@ -40,24 +47,25 @@ loop-holds c =
 
 mul-form-value : tie.Need-mul-form-value Inv-loop μ-loop
 mul-form-value c =
-    let g = c .before .before .before .before .before .pre .grounds in
+    let g = entry c .pre .grounds in
     omega (arith, g .indexed .inside (c .before .before .loop .k) (rw (g .counted) at (c .before .loop-test .taken)))
 
 shared-slice-read-form-value : tie.Need-shared-slice-read-form-value Inv-loop μ-loop
 shared-slice-read-form-value c =
-    let g = c .before .before .before .before .before .before .pre .grounds in
+    let g = entry (c .before) .pre .grounds in
     g .indexed .inside (c .before .before .before .loop .k) (rw (g .counted) at (c .before .before .loop-test .taken))
 
 form-value-requires : tie.Need-form-value-requires Inv-loop μ-loop
-form-value-requires c κs = let old = c .before .before .before .before .loop .inv in (old .filled .small, old .soon)
+form-value-requires c κs = let old = place c .before .before .loop .inv in (old .filled .small, old .soon)
 
 loop-again : tie.Need-loop-again Inv-loop μ-loop
 loop-again c =
-    let p = c .before .before .before .before .before .before .before .before .pre in
-    let a = c .before .before .before .before .before .before .before .before .args in
-    let turn = c .before .before .before .before .before .loop in
+    let start = entry (place (c .before)) in
+    let p = start .pre in
+    let a = start .args in
+    let turn = place (c .before) .before .before .loop in
     let old = turn .inv in
-    let l : turn .k < formulaCount (a .job .now) = rw (p .grounds .counted) at (c .before .before .before .before .loop-test .taken) in
+    let l : turn .k < formulaCount (a .job .now) = omega (arith, p .grounds .counted, place (c .before) .before .loop-test .taken) in
     let e : c .form-value .result ≡ formulaAt (a .and .now) (a .or .now) (a .job .now) (tabled (a .history .now)) (turn .k) (a .t)
     = rw (← formula-place (p .grounds .indexed) (turn .k) l) at (c .form-value .ensures)
     ∙ formula-found (a .and .now) (a .or .now) (p .grounds .well) (tabled (a .history .now)) (turn .k) (a .t) l (turn .values) (old .filled .here) in
@@ -71,7 +79,8 @@ loop-again c =
 
 returns : tie.Need-returns Inv-loop μ-loop
 returns c =
-    let e : c .before .loop .k ≡ formulaCount (c .before .before .before .before .args .job .now) = omega (arith, c .before .before .before .before .pre .grounds .counted) in
+    let start = c .before .before .before .before in
+    let e : c .before .loop .k ≡ formulaCount (start .args .job .now) = omega (arith, start .pre .grounds .counted) in
     fill-end (rw e at (c .before .loop .inv .filled))
 
 pub fill-moment-spec : {M : Type 1} → statement M

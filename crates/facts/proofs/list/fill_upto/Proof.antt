@@ -4,7 +4,7 @@ use mathlib.Core.Path.{_≡_}
 use Prim.Native.Nat.{ℕ, _+_, _-_, _≤_}
 use lib.ListN.{length, getD}
 use Rattle.facts.specs.Written.{Written}
-use Rattle.facts.proofs.Lists.{rowsFacts, rows-none, rows-more, rows-most, rows-facts, written-none, written-more, written-size, written-front}
+use Rattle.facts.proofs.Lists.{rowsFacts, rows-none, rows-more, rows-most, rows-filled, written-none, written-more, written-size}
 use native.Mathlib.Omega.{arith}
 use borrow.Author.Needs.{needs}
 use Rattle.facts.proofs.list.fill_upto.Statement.{statement}
@@ -23,12 +23,19 @@ Inv-loop job history last buffer₀ head n at₀ t₀ buffer at t = Turn history
 abbrev μ-loop : tie.MeasureT-loop
 μ-loop job history last buffer₀ head n at₀ t₀ buffer at t = last + 1 - t
 
+-- the places of the code that the proof speaks of
+abbrev entry : tie.After-fluents-of Inv-loop μ-loop → tie.Start Inv-loop μ-loop
+entry c = c .before .before .before .before
+
+abbrev turn-of : tie.After-slice-known2 Inv-loop μ-loop → tie.At-loop Inv-loop μ-loop
+turn-of c = c .before .before .before .before .before
+
 shared-slice-read-head : tie.Need-shared-slice-read-head Inv-loop μ-loop
 shared-slice-read-head c = c .before .before .before .pre .well .some
 
 loop-holds : tie.Need-loop-holds Inv-loop μ-loop
 loop-holds c =
-    let p = c .before .before .before .before .pre in
+    let p = entry c .pre in
     record {
       bound = omega arith;
       soon = omega (arith, p .moment, p .well .few-moments);
@@ -39,7 +46,7 @@ loop-holds c =
 
 write-facts-requires : tie.Need-write-facts-requires Inv-loop μ-loop
 write-facts-requires c κs =
-    let a = c .before .before .before .before .before .before .before .args in
+    let a = entry (c .before .before .before) .args in
     let turn = c .before .before .loop in
     let w = turn .inv .written in
     let most = rows-most (a .history .now) (getD (a .job .now) 0 0) _ (turn .inv .few) (turn .t) in
@@ -47,8 +54,8 @@ write-facts-requires c κs =
 
 loop-again : tie.Need-loop-again Inv-loop μ-loop
 loop-again c =
-    let a = c .before .before .before .before .before .before .before .before .before .before .args in
-    let turn = c .before .before .before .before .before .loop in
+    let a = entry (turn-of c .before) .args in
+    let turn = turn-of c .loop in
     let old = turn .inv in
     record {
       bound = omega arith;
@@ -63,10 +70,10 @@ same-length c = written-size (c .before .loop .inv .written)
 
 returns : tie.Need-returns Inv-loop μ-loop
 returns c starts h =
-    let p = c .before .before .before .before .before .before .pre in
-    let a = c .before .before .before .before .before .before .args in
-    let e : c .before .loop .t ≡ a .last + 1 = omega arith in
-    written-front (rw (e, c .before .before .fluents-of .ensures .0, rows-facts h (a .last) (p .moment)) at (c .before .loop .inv .written))
+    let start = entry (c .before .before) in
+    let p = start .pre in
+    let a = start .args in
+    rows-filled h (p .moment) (c .before .before .fluents-of .ensures .0) (omega arith) (c .before .loop .inv .written)
 
 pub fill-upto-spec : {M : Type 1} → statement M
 fill-upto-spec =
