@@ -24,8 +24,8 @@ loop-holds c = (omega arith, mapped-none)
 
 loop-again : tie.Need-loop-again Inv-loop μ-loop
 loop-again c =
-    let head = turn c in
-    (omega arith, mapped-more _ (omega (arith, head .loop .inv .1 .size)) (head .loop .inv .1) (c .changed .ensures))
+    let old = turn c .loop .inv .1 in
+    (omega arith, mapped-more _ (omega (arith, old .size)) old (c .changed .ensures))
 
 returns : tie.Need-returns Inv-loop μ-loop
 returns c = let e : c .before .loop .f ≡ c .before .before .args .n = omega arith in rw e at (c .before .loop .inv .1)

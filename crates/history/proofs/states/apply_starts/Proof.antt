@@ -33,8 +33,8 @@ apply-start-requires c κs =
 
 loop-again : tie.Need-loop-again Inv-loop μ-loop
 loop-again c =
-    let head = turn c in
-    (omega arith, overlaid-back _ _ (c .before .before .before .loop-test .taken) (head .loop .inv .0) (head .loop .inv .1) (c .apply-start .ensures))
+    let old = turn c .loop .inv in
+    (omega arith, overlaid-back _ _ (c .before .before .before .loop-test .taken) (old .0) (old .1) (c .apply-start .ensures))
 
 returns : tie.Need-returns Inv-loop μ-loop
 returns c = let e : c .before .loop .i ≡ 0 = omega arith in rw e at (c .before .loop .inv .1)

@@ -25,11 +25,8 @@ abbrev μ-loop : tie.MeasureT-loop
 μ-loop job durations effects starts last table₀ state₀ t₀ table state t = last + 1 - t
 
 -- the places of the code that the proof speaks of
-abbrev entry-place1 : tie.After-last-of Inv-loop μ-loop → tie.Start Inv-loop μ-loop
-entry-place1 c = c .before .before .before .before
-
-abbrev entry-place2 : tie.After-state2 Inv-loop μ-loop → tie.Start Inv-loop μ-loop
-entry-place2 c = entry-place1 (c .before .before .before .before .before .before .before)
+abbrev start : tie.After-last-of Inv-loop μ-loop → tie.Start Inv-loop μ-loop
+start c = c .before .before .before .before
 
 abbrev turn : tie.After-state2 Inv-loop μ-loop → tie.At-loop Inv-loop μ-loop
 turn c = c .before .before .before .before .before
@@ -38,11 +35,11 @@ shared-slice-read-last-of : tie.Need-shared-slice-read-last-of Inv-loop μ-loop
 shared-slice-read-last-of c = c .before .before .before .pre .well .some
 
 initial-state-requires : tie.Need-initial-state-requires Inv-loop μ-loop
-initial-state-requires c κs = entry-place1 c .pre .well
+initial-state-requires c κs = start c .pre .well
 
 loop-holds : tie.Need-loop-holds Inv-loop μ-loop
 loop-holds c =
-    let p = entry-place1 (c .before) .pre in
+    let p = start (c .before) .pre in
     record {
       bound = omega arith;
       few = rw (c .before .last-of .ensures .0) (p .well .few-moments);
@@ -52,15 +49,15 @@ loop-holds c =
 
 step-requires : tie.Need-step-requires Inv-loop μ-loop
 step-requires c κs =
-    let p = entry-place2 c .pre in
-    let old = turn c .loop .inv in
-    record { walk = p; soon = omega arith; state = old .reached }
+    let here = turn c in
+    record { walk = start (here .before .before) .pre; soon = omega arith; state = here .loop .inv .reached }
 
 loop-again : tie.Need-loop-again Inv-loop μ-loop
 loop-again c =
-    let p = entry-place2 (c .before) .pre in
-    let old = turn (c .before) .loop .inv in
-    record { bound = omega arith; few = old .few; reached = c .step .ensures; stored = rows-more (p .well .few-fluents) (old .stored) (c .before .before .store-row .ensures) (old .reached .value) }
+    let here = turn (c .before) in
+    let few = start (here .before .before) .pre .well .few-fluents in
+    let old = here .loop .inv in
+    record { bound = omega arith; few = old .few; reached = c .step .ensures; stored = rows-more few (old .stored) (c .before .before .store-row .ensures) (old .reached .value) }
 
 returns : tie.Need-returns Inv-loop μ-loop
 returns c =

@@ -32,8 +32,8 @@ store-known-requires c κs = c .before .before .before .loop .inv .1 .size
 
 loop-again : tie.Need-loop-again Inv-loop μ-loop
 loop-again c =
-    let head-here = turn c in
-    (omega arith, overlaid-back _ _ (c .before .before .before .loop-test .taken) (head-here .loop .inv .0) (head-here .loop .inv .1) (c .store-known .ensures))
+    let old = turn c .loop .inv in
+    (omega arith, overlaid-back _ _ (c .before .before .before .loop-test .taken) (old .0) (old .1) (c .store-known .ensures))
 
 returns : tie.Need-returns Inv-loop μ-loop
 unfolding initially valueAt

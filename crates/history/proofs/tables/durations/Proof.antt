@@ -25,14 +25,14 @@ abbrev μ-loop : tie.MeasureT-loop
 μ-loop job places n table₀ a₀ table a = n - a
 
 -- the places of the code that the proof speaks of
-abbrev entry-place : tie.After-at Inv-loop μ-loop → tie.Start Inv-loop μ-loop
-entry-place c = c .before .before .before .before .before .before
+abbrev entry-of : tie.After-at Inv-loop μ-loop → tie.Start Inv-loop μ-loop
+entry-of c = c .before .before .before .before .before .before
 
 abbrev after-actions-of : tie.After-shared-slice-known3 Inv-loop μ-loop → tie.After-actions-of Inv-loop μ-loop
 after-actions-of c = c .before .before .before .before
 
-abbrev turn-place : tie.After-duration-of Inv-loop μ-loop → tie.At-loop Inv-loop μ-loop
-turn-place c = c .before .before .before .before
+abbrev turn-of : tie.After-duration-of Inv-loop μ-loop → tie.At-loop Inv-loop μ-loop
+turn-of c = c .before .before .before .before
 
 shared-slice-read-actions-of : tie.Need-shared-slice-read-actions-of Inv-loop μ-loop
 shared-slice-read-actions-of c = c .before .before .pre .0 .some
@@ -49,22 +49,22 @@ loop-holds c =
 
 mul-duration-of : tie.Need-mul-duration-of Inv-loop μ-loop
 mul-duration-of c =
-    let p = entry-place c .pre in
+    let p = entry-of c .pre in
     let known = action-counted (p .0) (rw (c .before .before .before .actions-of .ensures .0) at (c .before .loop-test .taken)) in
     omega (arith, p .1 .inside (c .before .before .loop .a) known)
 
 shared-slice-read-duration-of : tie.Need-shared-slice-read-duration-of Inv-loop μ-loop
 shared-slice-read-duration-of c =
-    let p = entry-place (c .before) .pre in
+    let p = entry-of (c .before) .pre in
     let known = action-counted (p .0) (rw (after-actions-of c .actions-of .ensures .0) at (c .before .before .loop-test .taken)) in
     p .1 .inside (c .before .before .before .loop .a) known
 
 loop-again : tie.Need-loop-again Inv-loop μ-loop
 loop-again c =
-    let start = entry-place (c .before .before) in
+    let start = entry-of (c .before .before) in
     let p = start .pre in
     let job = start .args .job .now in
-    let turn = turn-place c .loop in
+    let turn = turn-of c .loop in
     let known = action-counted (p .0) (rw (after-actions-of (c .before) .actions-of .ensures .0) at (c .before .before .before .loop-test .taken)) in
     record {
       bound = omega arith;

@@ -21,8 +21,8 @@ abbrev μ-loop : tie.MeasureT-loop
 μ-loop job places head n table₀ a₀ table a = n - a
 
 -- the places of the code that the proof speaks of
-abbrev entry-place : tie.At-loop Inv-loop μ-loop → tie.Start Inv-loop μ-loop
-entry-place c = c .before .before .before .before
+abbrev entry-of : tie.At-loop Inv-loop μ-loop → tie.Start Inv-loop μ-loop
+entry-of c = c .before .before .before .before
 
 abbrev turn : tie.After-store-row Inv-loop μ-loop → tie.At-loop Inv-loop μ-loop
 turn c = c .before .before .before .before .before .before
@@ -39,7 +39,7 @@ loop-holds c =
 
 laws-of-requires : tie.Need-laws-of-requires Inv-loop μ-loop
 laws-of-requires c κs =
-    let p = entry-place (c .before) .pre in
+    let p = entry-of (c .before) .pre in
     (p .0, p .1, rw (c .before .before .actions-of .ensures .0) at (c .loop-test .taken))
 
 loop-again : tie.Need-loop-again Inv-loop μ-loop
@@ -50,7 +50,7 @@ loop-again c =
 
 returns : tie.Need-returns Inv-loop μ-loop
 returns c =
-    let p = entry-place (c .before) .pre in
+    let p = entry-of (c .before) .pre in
     let rows = c .before .loop .inv .stored in
     record {
       size = rows .size;
