@@ -1,4 +1,4 @@
--- The list of facts ascends strictly. Assumes nothing.
+-- The lists of facts ascend strictly. Assumes nothing.
 use mathlib.Core.Bool.{Bool, true, false, cond}
 use mathlib.Core.List.{List, [], _∷_, _++_}
 use Prim.Native.Nat.{ℕ, zero, suc, _+_, _*_, _^_, _≤_, _<_}
@@ -70,6 +70,10 @@ module _ {job : List ℕ} (w : WellFormed job) (starts : List ℕ) where
       to-higher low
       (climbs-gather (least t) (λ f. factOf (headWord job) t f (valueAt job starts t f)) (fluents job) (λ f l. fact-climbs (headWord job) t f (valueAt job starts t f)))
 
+  pub upto-ascend : (t i j : ℕ) → i < j → j < length (factsUpto job starts t) → getD (factsUpto job starts t) i 0 < getD (factsUpto job starts t) j 0
+  unfolding factsUpto
+  upto-ascend t = climbs-ascends (climbs-gather (λ u. least u 0) (factsAt job starts) (t + 1) (λ u l. moment-climbs u))
+
   pub facts-ascend : (i j : ℕ) → i < j → j < length (factsOf job starts) → getD (factsOf job starts) i 0 < getD (factsOf job starts) j 0
-  unfolding factsOf factsUpto
-  facts-ascend = climbs-ascends (climbs-gather (λ t. least t 0) (factsAt job starts) (lastMoment job + 1) (λ t l. moment-climbs t))
+  unfolding factsOf
+  facts-ascend = upto-ascend (lastMoment job)

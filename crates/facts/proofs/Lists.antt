@@ -38,9 +38,6 @@ module _ {old : List ℕ} {at : ℕ} where
   pub written-size : {words new : List ℕ} {end : ℕ} → Written old at words end new → length new ≡ length old
   written-size {words} w = ap length (w .held) ∙ length-sets old at words
 
-pub written-front : {old words new : List ℕ} {end : ℕ} → Written old 0 words end new → Filled old words end new
-written-front w = record { count = omega (arith, w .next); held = w .held }
-
 gather-more : (g : ℕ → List ℕ) (n : ℕ) → concatBelow g (n + 1) ≡ concatBelow g n ++ g n
 unfolding concatBelow
 gather-more g n = rw add-one
@@ -97,13 +94,19 @@ module _ (history : List ℕ) (head n : ℕ) where
   unfolding rowsFacts
   rows-most l t = gather-most (λ (u : ℕ). rowFacts history head u n) 64 t (λ u. omega (arith, row-most history head u n))
 
--- they are the facts of the plan that has this history
-pub rows-facts : {job starts history : List ℕ} → History job starts history → (t : ℕ) → t ≤ lastMoment job
+-- by the history of a plan they are its facts
+rows-facts : {job starts history : List ℕ} → History job starts history → (t : ℕ) → t ≤ lastMoment job
     → rowsFacts history (headWord job) (fluents job) (t + 1) ≡ factsUpto job starts t
 unfolding rowsFacts rowFacts factsUpto factsAt
 rows-facts {job} h t l =
     gather-same _ _ (t + 1)
     (λ u m. gather-same _ _ (fluents job) (λ f k. ap (factOf (headWord job) u f) (h .entry u f (omega arith) k)))
+
+pub rows-filled : {job starts history old new : List ℕ} {last n t end : ℕ} → History job starts history → last ≤ lastMoment job → n ≡ fluents job → t ≡ last + 1
+    → Written old 0 (rowsFacts history (headWord job) n t) end new → Filled old (factsUpto job starts last) end new
+rows-filled {last = last} h l e q w =
+    let facts = rw (e, q, rows-facts h last l) at w in
+    record { count = omega (arith, facts .next); held = facts .held }
 
 module _ (job starts : List ℕ) where
   moment-most : (t : ℕ) → length (factsAt job starts t) ≤ fluents job

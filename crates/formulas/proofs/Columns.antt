@@ -6,10 +6,10 @@ use native.Mathlib.Omega.{arith}
 use borrow.Author.Count.{below-more}
 use lib.ListN.{length, getD, set, replicate, length-set, length-replicate}
 use lib.Seq.{getD-set-same, getD-set-other}
-use Rattle.job.specs.Parts.{formulaCount}
+use Rattle.job.specs.Parts.{lastMoment, formulaCount}
 use Rattle.history.proofs.Stores.{set-all, replicate-all}
 use Rattle.formulas.specs.Values.{formulaAt}
-use Rattle.formulas.specs.Table.{Small, ColumnAt, ColumnsBefore}
+use Rattle.formulas.specs.Table.{Small, ColumnAt, ColumnsBefore, FormulaTable}
 
 pub record Filling (conj disj job : List ℕ) (fluent : ℕ → ℕ → ℕ) (t k : ℕ) (values : List ℕ) : Type 0 where
   pub size : length values ≡ 4096
@@ -25,6 +25,9 @@ module _ {conj disj job : List ℕ} {fluent : ℕ → ℕ → ℕ} where
         small = record { most = replicate-all (λ (v : ℕ). v ≤ 2) 4096 0 (omega arith) (omega arith) };
         column = λ u l. absurd (omega arith);
       }
+
+  pub columns-all : {t : ℕ} {values : List ℕ} → ColumnsBefore conj disj job fluent t values → lastMoment job < t → FormulaTable conj disj job fluent values
+  columns-all h l = record { small = h .small; entry = λ k u m n. h .column u (omega arith) .entry k m }
 
   module _ {t : ℕ} where
     pub fill-start : {values : List ℕ} → ColumnsBefore conj disj job fluent t values → Filling conj disj job fluent t 0 values

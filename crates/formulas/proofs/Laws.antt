@@ -1,4 +1,5 @@
--- Laws of the values of formulas: they are three, and a formula's value follows from those of lower ones. Assumes nothing.
+-- Laws of the values of formulas: they are three, and follow from those of lower formulas and of the fluents at the moments up to theirs.
+-- Assumes nothing.
 use mathlib.Core.Bool.{Bool, true, false, cond}
 use mathlib.Core.List.{List}
 use mathlib.Core.Path.{_≡_, refl, sym, _∙_}
@@ -8,22 +9,26 @@ use borrow.Author.Tests.{eqb-true, eqb-false, eq-eqb}
 use lib.Dec.{eqb}
 use lib.ListN.{getD}
 use Rattle.words.specs.Fields.{form, holds, formulaX, formulaY, atomFluent}
-use Rattle.job.specs.Parts.{headWord, formulaWord, formulaCount}
+use Rattle.job.specs.Parts.{headWord, fluents, lastMoment, formulaWord, formulaCount}
 use Rattle.job.specs.WellFormed.{WellFormed}
 use Rattle.history.specs.Values.{valueAt}
-use Rattle.history.specs.Tables.{StateAt}
-use Rattle.history.proofs.Values.{pick-most}
+use Rattle.history.specs.Tables.{History}
+use Rattle.history.proofs.Values.{pick-most, value-most}
 use Rattle.formulas.specs.Values.{byTable, formValue, formulaBelow, formulaAt}
-use Rattle.formulas.specs.Table.{Small, ColumnAt}
+use Rattle.formulas.specs.Table.{Connectives, tabled, Valued, ColumnAt, FormulaTable}
+
+pick-when : (t : Bool) {a : ℕ} (b : ℕ) {m : ℕ} → (t ≡ true → a ≤ m) → b ≤ m → cond t a b ≤ m
+pick-when true b h l = h refl
+pick-when false b h l = l
 
 module _ (conj disj : List ℕ) (head w : ℕ) where
-  pub form-most : Small conj → Small disj → (fluent lower : ℕ → ℕ → ℕ) (t : ℕ) → ((f : ℕ) → fluent t f ≤ 2) → formValue conj disj head w fluent lower t ≤ 2
+  pub form-most : Connectives conj disj → (fluent lower : ℕ → ℕ → ℕ) (t : ℕ) → (form w ≡ 1 → fluent t (atomFluent head w) ≤ 2) → formValue conj disj head w fluent lower t ≤ 2
   unfolding formValue
-  form-most c d fluent lower t h =
+  form-most c fluent lower t h =
       pick-most (eqb (form w) 0) holds _ (omega arith)
-      (pick-most (eqb (form w) 1) _ _ (h _)
+      (pick-when (eqb (form w) 1) _ (λ e. h (eqb-true (form w) 1 e))
       (pick-most (eqb (form w) 2) _ _ (omega arith)
-      (pick-most (eqb (form w) 3) _ _ (c .most _) (d .most _))))
+      (pick-most (eqb (form w) 3) _ _ (c .conjunction .most _) (c .disjunction .most _))))
 
   -- only what the form refers to matters
   pub form-agree : (fluent fluent' lower lower' : ℕ → ℕ → ℕ) (t : ℕ) → (form w ≡ 1 → fluent t (atomFluent head w) ≡ fluent' t (atomFluent head w))
@@ -68,20 +73,49 @@ module _ (conj disj job : List ℕ) (fluent : ℕ → ℕ → ℕ) where
       cases true e ih = let same = eqb-true x k e in rw same (sym (formula-rule k t))
       cases false e ih = ih (omega (arith, eqb-false x k e))
 
-  pub formula-most : Small conj → Small disj → ((t f : ℕ) → fluent t f ≤ 2) → (k t : ℕ) → formulaAt conj disj job fluent k t ≤ 2
-  formula-most c d h k t = rw (formula-rule k t) (form-most conj disj (headWord job) (formulaWord job k) c d _ _ t (h t))
-
--- what is computed from a state and a column so far is the value
-module _ (conj disj : List ℕ) {job : List ℕ} (p : WellFormed job) (starts : List ℕ) where
-  pub formula-computed : (k t : ℕ) → k < formulaCount job → (state values : List ℕ)
-      → StateAt job starts t state → ColumnAt conj disj job (valueAt job starts) t k values
-      → formValue conj disj (headWord job) (formulaWord job k) (λ u f. getD state f 0) (λ x u. getD values (x * 64 + u) 0) t
-      ≡ formulaAt conj disj job (valueAt job starts) k t
-  formula-computed k t l state values s h =
-      form-agree conj disj (headWord job) (formulaWord job k) _ _ _ _ t (λ e. s .value _ (p .formula k l .fluent e))
+module _ (conj disj : List ℕ) {job : List ℕ} (p : WellFormed job) where
+  -- what is found from the fluents and a column so far is the value
+  pub formula-found : (fluent : ℕ → ℕ → ℕ) (k t : ℕ) → k < formulaCount job → (values : List ℕ) → ColumnAt conj disj job fluent t k values
+      → formValue conj disj (headWord job) (formulaWord job k) fluent (λ x u. getD values (x * 64 + u) 0) t ≡ formulaAt conj disj job fluent k t
+  formula-found fluent k t l values h =
+      form-agree conj disj (headWord job) (formulaWord job k) _ _ _ _ t (λ e. refl)
       (λ e. lower _ (p .formula k l .lower-x e))
       (λ e. lower _ (p .formula k l .lower-y e))
-      ∙ sym (formula-rule conj disj job (valueAt job starts) k t)
+      ∙ sym (formula-rule conj disj job fluent k t)
     where
-      lower : (x : ℕ) → x < k → getD values (x * 64 + t) 0 ≡ formulaBelow conj disj job (valueAt job starts) k x t
-      lower x m = h .entry x m ∙ sym (below-is conj disj job (valueAt job starts) k x t m)
+      lower : (x : ℕ) → x < k → getD values (x * 64 + t) 0 ≡ formulaBelow conj disj job fluent k x t
+      lower x m = h .entry x m ∙ sym (below-is conj disj job fluent k x t m)
+
+  pub formula-most : {history : List ℕ} → Connectives conj disj → Valued job history → (k t : ℕ) → k < formulaCount job → t ≤ lastMoment job
+      → formulaAt conj disj job (tabled history) k t ≤ 2
+  formula-most c v k t l m =
+      rw (formula-rule conj disj job _ k t)
+      (form-most conj disj (headWord job) (formulaWord job k) c _ _ t (λ e. v .most t _ m (p .formula k l .fluent e)))
+
+  -- the values at the moments up to m follow from the fluents at those moments
+  module _ (fluent fluent' : ℕ → ℕ → ℕ) (m : ℕ) (same : (t f : ℕ) → t ≤ m → f < fluents job → fluent t f ≡ fluent' t f) where
+    below-same : (n : ℕ) → n ≤ formulaCount job → (x t : ℕ) → t ≤ m → formulaBelow conj disj job fluent n x t ≡ formulaBelow conj disj job fluent' n x t
+    unfolding formulaBelow
+    below-same zero l x t b = refl
+    below-same (suc n) l x t b =
+        rw (
+          below-same n (omega arith) x t b,
+          form-agree conj disj (headWord job) (formulaWord job n) fluent fluent' (formulaBelow conj disj job fluent n) (formulaBelow conj disj job fluent' n) t
+              (λ e. same t _ b (p .formula n (omega arith) .fluent e)) (λ e. below-same n (omega arith) _ t b) (λ e. below-same n (omega arith) _ t b),
+        )
+
+    pub formula-same : (k t : ℕ) → k < formulaCount job → t ≤ m → formulaAt conj disj job fluent k t ≡ formulaAt conj disj job fluent' k t
+    unfolding formulaAt
+    formula-same k t l b = below-same (suc k) l k t b
+
+  -- by the history of a plan: the plan's values
+  pub table-same : {starts history values : List ℕ} → History job starts history → FormulaTable conj disj job (tabled history) values
+      → FormulaTable conj disj job (valueAt job starts) values
+  table-same {starts} {history} h f =
+      record {
+        small = f .small;
+        entry = λ k t l m. f .entry k t l m ∙ formula-same (tabled history) (valueAt job starts) (lastMoment job) (h .entry) k t l m;
+      }
+
+pub history-valued : {job starts history : List ℕ} → History job starts history → Valued job history
+history-valued {job} {starts} h = record { most = λ t f l m. rw (h .entry t f l m) (value-most job starts t f) }

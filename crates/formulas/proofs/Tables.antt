@@ -11,7 +11,7 @@ use lib.Dec.{eqb, leb}
 use lib.ListN.{length, getD, List·getD-eq-default}
 use Rattle.words.proofs.Choices.{both-true}
 use Rattle.formulas.specs.Values.{andTable, orTable, byTable}
-use Rattle.formulas.specs.Table.{Small}
+use Rattle.formulas.specs.Table.{Small, Connectives}
 
 -- every number below n passes
 abbrev allBelow : (ℕ → Bool) → ℕ → Bool
@@ -50,8 +50,5 @@ small table s e = record { most = λ i. cases i (decLt i 9) }
     cases i (yes h) = leb-true (getD table i 0) 2 (all-at (λ i. leb (getD table i 0) 2) 9 e i h)
     cases i (no h) = omega (arith, List·getD-eq-default table 0 {n = i} (omega arith))
 
-pub and-small : Small andTable
-and-small = small andTable refl refl
-
-pub or-small : Small orTable
-or-small = small orTable refl refl
+pub connectives : Connectives andTable orTable
+connectives = record { conjunction = small andTable refl refl; disjunction = small orTable refl refl }

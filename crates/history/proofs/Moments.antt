@@ -1,10 +1,11 @@
 -- The state at the next moment: what starts that finish make, and over that what starts that hide leave open. Assumes nothing.
-use mathlib.Core.Bool.{Bool, true, false}
+use mathlib.Core.Bool.{Bool, true, false, cond, _&&_}
 use mathlib.Core.List.{List, [], _∷_}
 use mathlib.Core.Path.{_≡_, _∙_}
 use Prim.Native.Nat.{ℕ, zero, suc, _+_, _<_}
 use native.Mathlib.Numerals.{add-one}
 use native.Mathlib.Omega.{arith}
+use lib.Dec.{eqb, ltb}
 use lib.ListN.{length, getD, replicate}
 use Rattle.words.specs.Fields.{unknown, startMoment, startAction}
 use Rattle.job.specs.Parts.{headWord, fluents, actions, lawsOf}
@@ -40,6 +41,10 @@ state-next {job} {starts} t {old} {mid} {new} s g h = record { room = rw (h .siz
 pub finish-tabled : {job durations : List ℕ} → Durations job durations → (s : ℕ) → startAction s < actions job
     → startMoment s + getD durations (startAction s) 0 ≡ finish job s
 finish-tabled d s h = rw (d .entry (startAction s) h)
+
+pub acts-tabled : {job durations : List ℕ} (hiding : Bool) (t s : ℕ) → Durations job durations → startAction s < actions job → {u a : ℕ} → u ≡ startMoment s → a ≡ startAction s
+    → {r : Bool} → r ≡ cond hiding (ltb u t && ltb t (u + getD durations a 0)) (eqb (u + getD durations a 0) t) → r ≡ acts job hiding t s
+acts-tabled hiding t s d h e q r = r ∙ rw (e, q, finish-tabled d s h)
 
 pub start-applied : {job effects old new : List ℕ} (hiding : Bool) (t s : ℕ) → Effects job effects → startAction s < actions job → acts job hiding t s ≡ true
     → Mapped (fluents job) (changedBy effects (startAction s) hiding) old new → Passed job hiding t (s ∷ []) old new

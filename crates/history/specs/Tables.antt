@@ -39,6 +39,12 @@ pub record StateAt (job starts : List ℕ) (t : ℕ) (state : List ℕ) : Type 0
   pub room : fluents job ≤ length state
   pub value : (f : ℕ) → f < fluents job → getD state f 0 ≡ valueAt job starts t f
 
+-- a state from which a walk goes on
+pub record Steppable (job durations effects starts : List ℕ) (t : ℕ) (bytes : List ℕ) : Type 0 where
+  pub walk : Walkable job durations effects starts
+  pub soon : t < 64
+  pub state : StateAt job starts t bytes
+
 -- the history of a plan: entry t * 64 + f has the value of fluent f at moment t
 pub record History (job starts table : List ℕ) : Type 0 where
   pub size : length table ≡ 4096

@@ -1,10 +1,8 @@
 -- The value of a fluent at a moment. (The values at a moment are the field's state; 'known' is a value other than open.)
 use mathlib.Core.Bool.{Bool, cond, _&&_}
 use mathlib.Core.List.{List}
-use mathlib.Core.Path.{_≡_}
-use Prim.Native.Nat.{ℕ, zero, suc, _<_, _≤_}
+use Prim.Native.Nat.{ℕ, zero, suc}
 use lib.Dec.{eqb}
-use lib.ListN.{length, getD}
 use Rattle.words.specs.Fields.{kind, unknown, fluentOf, knownValue, startAction}
 use Rattle.words.specs.Scan.{any, findOr}
 use Rattle.job.specs.Parts.{headWord}

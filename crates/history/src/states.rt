@@ -9,7 +9,7 @@ ghost use Rattle.words.specs.Fields.{knownValue};
 ghost use Rattle.job.specs.Parts.{fluents};
 ghost use Rattle.job.specs.WellFormed.{WellFormed};
 ghost use Rattle.history.specs.Values.{lists};
-ghost use Rattle.history.specs.Tables.{Walkable, StateAt, History};
+ghost use Rattle.history.specs.Tables.{Walkable, StateAt, Steppable, History};
 ghost use Rattle.history.specs.Stores.{Overlaid, Mapped};
 ghost use Rattle.history.specs.Passes.{changed, changedBy, Passed};
 use crate::FLUENTS;
@@ -133,7 +133,7 @@ fn step(
     t: usize,
     state: &mut [u8; 64],
 )
-    requires { ⌜ Walkable (now job) (now durations) (now effects) (now starts) × (t < 64) × StateAt (now job) (now starts) t (now state) ⌝ }
+    requires { ⌜ Steppable (now job) (now durations) (now effects) (now starts) t (now state) ⌝ }
     ensures { λ _. ⌜ StateAt (now (job .entry)) (now (starts .entry)) (t + 1) (now (state .exit)) ⌝ }
 {
     apply_starts(job, durations, effects, starts, false, t + 1, state);

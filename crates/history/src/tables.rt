@@ -1,8 +1,8 @@
 // Tables of the actions, made once for a job: durations, and effects by action and fluent.
 ghost use mathlib.Core.Path.{_≡_};
-ghost use Prim.Native.Nat.{_+_, _*_, _<_, _≤_};
+ghost use Prim.Native.Nat.{_<_};
 ghost use mathlib.Core.List.{_∷_, []};
-ghost use lib.ListN.{length, getD, drop, replicate};
+ghost use lib.ListN.{length, replicate};
 ghost use Rattle.words.specs.Fields.{unknown};
 ghost use Rattle.job.specs.Parts.{actions, lawsOf};
 ghost use Rattle.job.specs.WellFormed.{WellFormed, Indexed};

@@ -1,76 +1,87 @@
 -- `formulas::fill_moment` meets its contract. The invariant: the entries of the formulas below `k` are written. Assumes nothing.
+use mathlib.Core.List.{List}
 use mathlib.Core.Path.{_≡_, _∙_}
-use Prim.Native.Nat.{_-_, _<_, _≤_}
+use Prim.Native.Nat.{ℕ, _-_, _<_, _≤_}
 use Rattle.job.specs.Parts.{formulaCount}
-use Rattle.history.specs.Values.{valueAt}
-use Rattle.history.proofs.Values.{value-most}
 use Rattle.job.proofs.ByPlace.{formula-place}
-use Rattle.formulas.proofs.Laws.{formula-computed, formula-most}
-use Rattle.formulas.proofs.Columns.{Filling, fill-start, fill-entry, fill-end}
 use Rattle.formulas.specs.Values.{formulaAt}
+use Rattle.formulas.specs.Table.{tabled}
+use Rattle.formulas.proofs.Laws.{formula-found, formula-most}
+use Rattle.formulas.proofs.Columns.{Filling, fill-start, fill-entry, fill-end}
 use native.Mathlib.Omega.{arith}
+use borrow.Author.Needs.{needs}
 use Rattle.formulas.proofs.fill_moment.Statement.{statement}
 use Rattle.formulas.proofs.fill_moment.Tie as tie
 
+record Turn (conj disj job history : List ℕ) (count t k : ℕ) (values : List ℕ) : Type 0 where
+  bound : k ≤ count
+  few : count ≤ 64
+  soon : t < 64
+  filled : Filling conj disj job (tabled history) t k values
+
 abbrev Inv-loop : tie.InvT-loop
-Inv-loop and or job formulas n durations effects starts t state values₀ head k₀ values k = (k ≤ n) × Filling and or job (valueAt job starts) t k values
+Inv-loop and or job formulas count history t values₀ head k₀ values k = Turn and or job history count t k values
 
 abbrev μ-loop : tie.MeasureT-loop
-μ-loop and or job formulas n durations effects starts t state values₀ head k₀ values k = n - k
+μ-loop and or job formulas count history t values₀ head k₀ values k = count - k
+
+-- the places of the code that the proof speaks of
+abbrev entry : tie.After-at Inv-loop μ-loop → tie.Start Inv-loop μ-loop
+entry c = c .before .before .before .before .before
+
+abbrev place : tie.After-form-value-arg Inv-loop μ-loop → tie.After-at Inv-loop μ-loop
+place c = c .before .before
 
 shared-slice-read-head : tie.Need-shared-slice-read-head Inv-loop μ-loop
-shared-slice-read-head c = c .before .before .before .pre .2 .some
+shared-slice-read-head c = c .before .before .pre .grounds .well .some
 
 loop-holds : tie.Need-loop-holds Inv-loop μ-loop
-loop-holds c = (omega arith, fill-start (c .before .before .before .pre .10))
-
-mul-at : tie.Need-mul-at Inv-loop μ-loop
-mul-at c = omega (arith, c .before .before .before .before .before .pre .2 .few-formulas, c .before .before .before .before .before .pre .4)
-
-element-copy-out-at : tie.Need-element-copy-out-at Inv-loop μ-loop
-element-copy-out-at c = omega (arith, c .before .before .before .before .before .pre .2 .few-formulas, c .before .before .before .before .before .pre .4)
+loop-holds c =
+    let p = c .before .before .pre in
+    record {
+      bound = omega arith;
+      few = omega (arith, p .grounds .well .few-formulas, p .grounds .counted);
+      soon = omega (arith, p .grounds .well .few-moments, p .moment);
+      filled = fill-start (p .earlier);
+    }
 
 mul-form-value : tie.Need-mul-form-value Inv-loop μ-loop
-mul-form-value c = omega (arith, c .before .before .before .before .before .before .pre .3 .inside (c .before .before .loop .k) (rw (c .before .before .before .before .before .before .pre .4) at (c .before .loop-test .taken)))
+mul-form-value c =
+    let g = entry c .pre .grounds in
+    omega (arith, g .indexed .inside (c .before .before .loop .k) (rw (g .counted) at (c .before .loop-test .taken)))
 
 shared-slice-read-form-value : tie.Need-shared-slice-read-form-value Inv-loop μ-loop
-shared-slice-read-form-value c = c .before .before .before .before .before .before .before .pre .3 .inside (c .before .before .before .loop .k) (rw (c .before .before .before .before .before .before .before .pre .4) at (c .before .before .loop-test .taken))
+shared-slice-read-form-value c =
+    let g = entry (c .before) .pre .grounds in
+    g .indexed .inside (c .before .before .before .loop .k) (rw (g .counted) at (c .before .before .loop-test .taken))
 
 form-value-requires : tie.Need-form-value-requires Inv-loop μ-loop
-form-value-requires c κs = (c .before .before .before .before .before .loop .inv .1 .small, c .before .before .before .before .before .before .before .before .before .pre .8)
-
-mul-values : tie.Need-mul-values Inv-loop μ-loop
-mul-values c = omega (arith, c .before .before .before .before .before .before .before .before .before .before .pre .2 .few-formulas, c .before .before .before .before .before .before .before .before .before .before .pre .4, c .before .before .before .before .before .before .before .before .before .before .pre .8)
-
-add-values : tie.Need-add-values Inv-loop μ-loop
-add-values c = omega (arith, c .before .before .before .before .before .before .before .before .before .before .pre .2 .few-formulas, c .before .before .before .before .before .before .before .before .before .before .pre .4, c .before .before .before .before .before .before .before .before .before .before .pre .8)
-
-element-write-values : tie.Need-element-write-values Inv-loop μ-loop
-element-write-values c = omega (arith, c .before .before .before .before .before .before .before .before .before .before .pre .2 .few-formulas, c .before .before .before .before .before .before .before .before .before .before .pre .4, c .before .before .before .before .before .before .before .before .before .before .pre .8)
-
-add-k : tie.Need-add-k Inv-loop μ-loop
-add-k c = omega (arith, c .before .before .before .before .before .before .before .before .before .before .pre .2 .few-formulas, c .before .before .before .before .before .before .before .before .before .before .pre .4, c .before .before .before .before .before .before .before .before .before .before .pre .8)
+form-value-requires c κs = let old = place c .before .before .loop .inv in (old .filled .small, old .soon)
 
 loop-again : tie.Need-loop-again Inv-loop μ-loop
 loop-again c =
-    let p = c .before .before .before .before .before .before .before .before .before .before .pre in
-    let a = c .before .before .before .before .before .before .before .before .before .before .args in
-    let k = c .before .before .before .before .before .before .loop .k in
-    let values = c .before .before .before .before .before .before .loop .values in
-    let l : k < formulaCount (a .job .now) = rw (p .4) at (c .before .before .before .before .before .loop-test .taken) in
-    let e : c .form-value .result ≡ formulaAt (a .and .now) (a .or .now) (a .job .now) (valueAt (a .job .now) (a .starts .now)) k (a .t)
-    = rw (← formula-place (p .3) k l) at (c .form-value .ensures)
-    ∙ formula-computed (a .and .now) (a .or .now) (p .2) (a .starts .now) k (a .t) l (a .state .now) values (p .9) (c .before .before .before .before .before .before .loop .inv .1 .here) in
-    let most = formula-most (a .and .now) (a .or .now) (a .job .now) (valueAt (a .job .now) (a .starts .now)) (p .0) (p .1) (value-most (a .job .now) (a .starts .now)) k (a .t) in
-    (omega arith, fill-entry (p .8) k (omega (arith, p .2 .few-formulas)) values (c .form-value .result) (omega (arith, e, most)) (c .before .before .before .before .before .before .loop .inv .1) e)
-
-step-requires : tie.Need-step-requires Inv-loop μ-loop
-step-requires c κs = let p = c .before .before .before .before .before .before .pre in (p .2, p .5, p .6, p .7, p .8, p .9)
+    let start = entry (place (c .before)) in
+    let p = start .pre in
+    let a = start .args in
+    let turn = place (c .before) .before .before .loop in
+    let old = turn .inv in
+    let l : turn .k < formulaCount (a .job .now) = omega (arith, p .grounds .counted, place (c .before) .before .loop-test .taken) in
+    let e : c .form-value .result ≡ formulaAt (a .and .now) (a .or .now) (a .job .now) (tabled (a .history .now)) (turn .k) (a .t)
+    = rw (← formula-place (p .grounds .indexed) (turn .k) l) at (c .form-value .ensures)
+    ∙ formula-found (a .and .now) (a .or .now) (p .grounds .well) (tabled (a .history .now)) (turn .k) (a .t) l (turn .values) (old .filled .here) in
+    let most = formula-most (a .and .now) (a .or .now) (p .grounds .well) (p .connectives) (p .grounds .valued) (turn .k) (a .t) l (p .moment) in
+    record {
+      bound = omega arith;
+      few = old .few;
+      soon = old .soon;
+      filled = fill-entry (old .soon) (turn .k) (omega arith) (turn .values) (c .form-value .result) (omega (arith, e, most)) (old .filled) e;
+    }
 
 returns : tie.Need-returns Inv-loop μ-loop
 returns c =
-    let e : c .before .before .before .loop .k ≡ formulaCount (c .before .before .before .before .before .before .before .args .job .now) = omega (arith, c .before .before .before .before .before .before .before .pre .4) in
-    (c .step .ensures, fill-end (rw e at (c .before .before .before .loop .inv .1)))
+    let start = c .before .before .before .before in
+    let e : c .before .loop .k ≡ formulaCount (start .args .job .now) = omega (arith, start .pre .grounds .counted) in
+    fill-end (rw e at (c .before .loop .inv .filled))
 
 pub fill-moment-spec : {M : Type 1} → statement M
 fill-moment-spec =
@@ -80,16 +91,15 @@ fill-moment-spec =
     μ-loop
     shared-slice-read-head
     loop-holds
-    mul-at
-    element-copy-out-at
+    (λ c. search needs)
+    (λ c. search needs)
     mul-form-value
     shared-slice-read-form-value
     form-value-requires
-    mul-values
-    add-values
-    element-write-values
-    add-k
-    (λ c. omega arith)
+    (λ c. search needs)
+    (λ c. search needs)
+    (λ c. search needs)
+    (λ c. search needs)
+    (λ c. search needs)
     loop-again
-    step-requires
     returns)

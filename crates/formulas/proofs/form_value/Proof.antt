@@ -5,14 +5,24 @@ use borrow.Author.Needs.{needs}
 use Rattle.formulas.proofs.form_value.Statement.{statement}
 use Rattle.formulas.proofs.form_value.Tie as tie
 
+-- the places of the code that the proof speaks of: where the fields of the word are read, and from the arms of 'and' and 'or' back to it
+abbrev entry : tie.After-formula-y → tie.Start
+entry c = c .before .before .before
+
+abbrev read-and : tie.After-by-table → tie.After-formula-y
+read-and c = c .before .before .before .before
+
+abbrev read-or : tie.After-by-table2 → tie.After-formula-y
+read-or c = c .before .before .before .before
+
 sub-result : tie.Need-sub-result
-sub-result c = c .before .before .before .before .before .pre .0 .most _
+sub-result c = entry (c .before .before) .pre .0 .most _
 
 by-table-requires : tie.Need-by-table-requires
-by-table-requires c κs = (c .before .before .before .before .before .before .pre .0 .most _, c .before .before .before .before .before .before .pre .0 .most _)
+by-table-requires c κs = let small = entry (c .before .before .before) .pre .0 in (small .most _, small .most _)
 
 by-table-requires-2 : tie.Need-by-table-requires-2
-by-table-requires-2 c κs = (c .before .before .before .before .before .before .pre .0 .most _, c .before .before .before .before .before .before .pre .0 .most _)
+by-table-requires-2 c κs = let small = entry (c .before .before .before) .pre .0 in (small .most _, small .most _)
 
 returns : tie.Need-returns
 unfolding formValue
@@ -28,13 +38,13 @@ returns-3 c = rw (← c .before .before .before .before .form-of .ensures .0, c 
 
 returns-4 : tie.Need-returns-4
 unfolding formValue
-returns-4 c = rw (← c .before .before .before .before .before .before .form-of .ensures .0, c .before .before .before .match .keys4, ← c .before .before .before .before .before .formula-x .ensures .0, ← c .before .before .before .before .formula-y .ensures .0) (c .by-table .ensures)
+returns-4 c = rw (← read-and c .before .before .form-of .ensures .0, c .before .before .before .match .keys4, ← read-and c .before .formula-x .ensures .0, ← read-and c .formula-y .ensures .0) (c .by-table .ensures)
 
 returns-5 : tie.Need-returns-5
 unfolding formValue
 returns-5 c =
     let rest = c .before .before .before .match .rest in
-    rw (← c .before .before .before .before .before .before .form-of .ensures .0, ne-eqb _ 0 (rest .0 .0 .0 .1), ne-eqb _ 1 (rest .0 .0 .1), ne-eqb _ 2 (rest .0 .1), ne-eqb _ 3 (rest .1), ← c .before .before .before .before .before .formula-x .ensures .0, ← c .before .before .before .before .formula-y .ensures .0) (c .by-table2 .ensures)
+    rw (← read-or c .before .before .form-of .ensures .0, ne-eqb _ 0 (rest .0 .0 .0 .1), ne-eqb _ 1 (rest .0 .0 .1), ne-eqb _ 2 (rest .0 .1), ne-eqb _ 3 (rest .1), ← read-or c .before .formula-x .ensures .0, ← read-or c .formula-y .ensures .0) (c .by-table2 .ensures)
 
 pub form-value-spec : {M : Type 1} → statement M
 form-value-spec =
@@ -43,7 +53,9 @@ form-value-spec =
     (λ c κs. search needs)
     (λ c κs. search needs)
     (λ c κs. search needs)
+    (λ c. search needs)
     (λ c κs. search needs)
+    (λ c. search needs)
     (λ c. search needs)
     (λ c. search needs)
     (λ c. search needs)

@@ -1,49 +1,49 @@
--- `formulas::formula_values` meets its contract. The invariant: the state is that at `t`, and the columns before `t` are filled. Assumes nothing.
+-- `formulas::formula_values` meets its contract. The invariant: the columns before `t` are filled. Assumes nothing.
 use Prim.Native.Nat.{_+_, _-_, _≤_}
-use Rattle.history.specs.Values.{valueAt}
-use Rattle.history.specs.Tables.{StateAt}
-use Rattle.history.proofs.Moments.{state-start}
-use Rattle.formulas.specs.Table.{ColumnsBefore}
-use Rattle.formulas.proofs.Columns.{columns-none}
+use Rattle.formulas.specs.Table.{tabled, ColumnsBefore}
+use Rattle.formulas.proofs.Columns.{columns-none, columns-all}
+use Rattle.formulas.proofs.Laws.{table-same}
 use native.Mathlib.Omega.{arith}
 use borrow.Author.Needs.{needs}
 use Rattle.formulas.proofs.formula_values.Statement.{statement}
 use Rattle.formulas.proofs.formula_values.Tie as tie
 
 abbrev Inv-loop : tie.InvT-loop
-Inv-loop and or job formulas durations effects starts n last values₀ state₀ t₀ values state t = (t ≤ last + 1) × StateAt job starts t state × ColumnsBefore and or job (valueAt job starts) t values
+Inv-loop and or job formulas count history last values₀ t₀ values t = (t ≤ last + 1) × ColumnsBefore and or job (tabled history) t values
 
 abbrev μ-loop : tie.MeasureT-loop
-μ-loop and or job formulas durations effects starts n last values₀ state₀ t₀ values state t = last + 1 - t
+μ-loop and or job formulas count history last values₀ t₀ values t = last + 1 - t
 
-formula-count-requires : tie.Need-formula-count-requires Inv-loop μ-loop
-formula-count-requires c κs = c .before .before .pre .2
+-- the places of the code that the proof speaks of
+abbrev entry : tie.At-loop Inv-loop μ-loop → tie.Start Inv-loop μ-loop
+entry c = c .before .before .before .before
+
+abbrev after-last-of : tie.After-fill-moment Inv-loop μ-loop → tie.After-last-of Inv-loop μ-loop
+after-last-of c = c .before .before .before .before
 
 shared-slice-read-last-of : tie.Need-shared-slice-read-last-of Inv-loop μ-loop
-shared-slice-read-last-of c = c .before .before .before .before .pre .2 .some
-
-initial-state-requires : tie.Need-initial-state-requires Inv-loop μ-loop
-initial-state-requires c κs = c .before .before .before .before .before .pre .2
+shared-slice-read-last-of c = c .before .before .pre .1 .well .some
 
 loop-holds : tie.Need-loop-holds Inv-loop μ-loop
-loop-holds c = (omega arith, state-start _ _ (c .initial-state .ensures .0) (c .initial-state .ensures .1), columns-none)
+loop-holds c = (omega arith, columns-none)
 
 fill-moment-requires : tie.Need-fill-moment-requires Inv-loop μ-loop
 fill-moment-requires c κs =
-    let p = c .before .before .before .before .before .before .before .before .before .before .pre in
-    let old = c .before .before .before .loop .inv in
-    (p .0, p .1, p .2, p .3, c .before .before .before .before .before .before .before .formula-count .ensures, p .4, p .5, p .6, omega (arith, p .2 .few-moments, c .before .before .before .before .before .last-of .ensures .0), old .1, old .2)
+    let p = entry (c .before .before) .pre in
+    record { connectives = p .0; grounds = p .1; moment = omega (arith, c .before .before .before .last-of .ensures .0); earlier = c .before .before .loop .inv .1 }
 
 add-t : tie.Need-add-t Inv-loop μ-loop
-add-t c = omega (arith, c .before .before .before .before .before .before .before .before .before .before .before .pre .2 .few-moments, c .before .before .before .before .before .before .last-of .ensures .0)
+add-t c = omega (arith, entry (c .before .before .before) .pre .1 .well .few-moments, after-last-of c .last-of .ensures .0)
 
 loop-again : tie.Need-loop-again Inv-loop μ-loop
-loop-again c = (omega arith, c .fill-moment .ensures .0, c .fill-moment .ensures .1)
+loop-again c = (omega arith, c .fill-moment .ensures)
 
 returns : tie.Need-returns Inv-loop μ-loop
-returns c =
-    let old = c .before .loop .inv .2 in
-    record { small = old .small; entry = λ k u l m. old .column u (omega (arith, c .before .before .before .last-of .ensures .0)) .entry k l }
+returns c starts h =
+    let start = entry (c .before) in
+    let a = start .args in
+    table-same (a .and .now) (a .or .now) (start .pre .1 .well) h
+    (columns-all (c .before .loop .inv .1) (omega (arith, c .before .before .last-of .ensures .0)))
 
 pub formula-values-spec : {M : Type 1} → statement M
 formula-values-spec =
@@ -51,13 +51,11 @@ formula-values-spec =
     (tie.spec
     Inv-loop
     μ-loop
-    formula-count-requires
     shared-slice-read-last-of
     (λ c κs. search needs)
-    initial-state-requires
     loop-holds
     fill-moment-requires
     add-t
-    (λ c. omega arith)
+    (λ c. search needs)
     loop-again
     returns)

@@ -4,9 +4,13 @@ use borrow.Author.Needs.{needs}
 use Rattle.facts.proofs.list.fill_facts.Statement.{statement}
 use Rattle.facts.proofs.list.fill_facts.Tie as tie
 
+-- the places of the code that the proof speaks of
+abbrev after-last-of : tie.After-slice-known2 → tie.After-last-of
+after-last-of c = c .before .before .before .before
+
 returns : tie.Need-returns
 unfolding factsOf
-returns c starts h = rw (← c .before .before .before .before .last-of .ensures .0) (c .before .before .fill-upto .ensures starts h)
+returns c starts h = rw (← after-last-of c .last-of .ensures .0) (c .before .before .fill-upto .ensures starts h)
 
 pub fill-facts-spec : {M : Type 1} → statement M
 fill-facts-spec =

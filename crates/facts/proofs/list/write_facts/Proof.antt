@@ -14,19 +14,26 @@ Inv-loop history head t n buffer₀ at end₀ f₀ buffer end f = (f ≤ n) × W
 abbrev μ-loop : tie.MeasureT-loop
 μ-loop history head t n buffer₀ at end₀ f₀ buffer end f = n - f
 
+-- the places of the code that the proof speaks of
+abbrev entry : tie.After-write-fact-arg2 Inv-loop μ-loop → tie.Start Inv-loop μ-loop
+entry c = c .before .before .before .before .before
+
+abbrev turn-place : tie.After-slice-known2 Inv-loop μ-loop → tie.At-loop Inv-loop μ-loop
+turn-place c = c .before .before .before .before .before .before
+
 loop-holds : tie.Need-loop-holds Inv-loop μ-loop
 loop-holds c = (omega arith, simp row-none written-none)
 
 write-fact-requires : tie.Need-write-fact-requires Inv-loop μ-loop
 write-fact-requires c κs =
-    let a = c .before .before .before .before .before .args in
+    let a = entry c .args in
     let turn = c .before .before .before .loop in
     omega (arith, turn .inv .1 .next, written-size (turn .inv .1), row-most (a .history .now) (a .head) (a .t) (turn .f))
 
 loop-again : tie.Need-loop-again Inv-loop μ-loop
 loop-again c =
-    let a = c .before .before .before .before .before .before .before .before .args in
-    let turn = c .before .before .before .before .before .before .loop in
+    let a = entry (c .before .before .before) .args in
+    let turn = turn-place c .loop in
     (omega arith, written-more (row-more (a .history .now) (a .head) (a .t) (turn .f)) (turn .inv .1) (c .before .before .write-fact .ensures))
 
 same-length : tie.Need-same-length Inv-loop μ-loop

@@ -1,5 +1,4 @@
 -- `history::states::acts` meets its contract. Assumes nothing.
-use mathlib.Core.Path.{refl}
 use Rattle.history.proofs.states.acts.Statement.{statement}
 use Rattle.history.proofs.states.acts.Tie as tie
 

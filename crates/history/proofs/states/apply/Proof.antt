@@ -15,11 +15,17 @@ Inv-loop effects a n hiding state₀ f₀ state f = (f ≤ n) × Mapped f (chang
 abbrev μ-loop : tie.MeasureT-loop
 μ-loop effects a n hiding state₀ f₀ state f = n - f
 
+-- the places of the code that the proof speaks of
+abbrev turn : tie.After-changed Inv-loop μ-loop → tie.At-loop Inv-loop μ-loop
+turn c = c .before .before .before .before
+
 loop-holds : tie.Need-loop-holds Inv-loop μ-loop
 loop-holds c = (omega arith, mapped-none)
 
 loop-again : tie.Need-loop-again Inv-loop μ-loop
-loop-again c = (omega arith, mapped-more _ (omega (arith, c .before .before .before .before .loop .inv .1 .size)) (c .before .before .before .before .loop .inv .1) (c .changed .ensures))
+loop-again c =
+    let old = turn c .loop .inv .1 in
+    (omega arith, mapped-more _ (omega (arith, old .size)) old (c .changed .ensures))
 
 returns : tie.Need-returns Inv-loop μ-loop
 returns c = let e : c .before .loop .f ≡ c .before .before .args .n = omega arith in rw e at (c .before .loop .inv .1)

@@ -1,42 +1,54 @@
 -- `history::states::apply_start` meets its contract: by the tables it acts when its action does. Assumes nothing.
-use mathlib.Core.Path.{sym, _∙_}
+use mathlib.Core.Path.{_≡_, sym, _∙_}
 use Rattle.job.specs.Parts.{fluents}
 use Rattle.history.specs.Actions.{affects}
 use Rattle.history.specs.Passes.{acts, leaves}
 use Rattle.history.proofs.Stores.{overlaid-skip}
-use Rattle.history.proofs.Moments.{start-applied}
+use Rattle.history.proofs.Moments.{acts-tabled, start-applied}
 use native.Mathlib.Omega.{arith}
 use borrow.Author.Needs.{needs}
 use Rattle.history.proofs.states.apply_start.Statement.{statement}
 use Rattle.history.proofs.states.apply_start.Tie as tie
 
+-- the places of the code that the proof speaks of
+abbrev entry : tie.After-acts-arg → tie.Start
+entry c = c .before .before .before .before
+
+abbrev tested : tie.After-apply-arg → tie.After-acts
+tested c = c .before .before .before .before
+
+acts-here : (c : tie.After-acts) → c .acts .result ≡ acts (entry (c .before) .args .job .now) (entry (c .before) .args .hiding) (entry (c .before) .args .t) (entry (c .before) .args .s)
+acts-here c =
+    let a = entry (c .before) .args in
+    let p = entry (c .before) .pre .0 in
+    acts-tabled (a .hiding) (a .t) (a .s) (p .tables .durations) (p .named .action 0 (omega arith)) (c .before .before .start-moment .ensures .0)
+    (c .before .before .before .start-action .ensures .0) (c .acts .ensures)
+
 add-acts : tie.Need-add-acts
-add-acts c = omega (arith, c .before .before .before .before .pre .0 .tables .durations .small (c .before .before .start-action .result), c .before .start-moment .ensures .1)
+add-acts c = omega (arith, entry c .pre .0 .tables .durations .small (c .before .before .start-action .result), c .before .start-moment .ensures .1)
 
 shared-slice-read-fluents-of : tie.Need-shared-slice-read-fluents-of
-shared-slice-read-fluents-of c = c .before .before .before .before .before .before .before .pre .0 .well .some
+shared-slice-read-fluents-of c = entry (c .before .before .before) .pre .0 .well .some
 
 apply-requires : tie.Need-apply-requires
 apply-requires c κs =
-    let p = c .before .before .before .before .before .before .before .before .before .pre in
-    (c .before .before .before .before .before .before .before .start-action .ensures .1, rw (c .before .fluents-of .ensures .0) (p .0 .well .few-fluents), rw (c .before .fluents-of .ensures .0) (p .1))
+    let p = entry (tested c .before) .pre in
+    let n = c .before .fluents-of .ensures .0 in
+    (tested c .before .before .before .start-action .ensures .1, rw n (p .0 .well .few-fluents), rw n (p .1))
 
 returns : tie.Need-returns
 returns c =
-    let p = c .before .before .before .before .before .before .before .before .before .before .pre .0 in
-    let a = c .before .before .before .before .before .before .before .before .before .before .args in
-    let named = p .named .action 0 (omega arith) in
-    let start = c .before .before .before .before .before .before .before .before .start-action .ensures .0 in
-    start-applied (a .hiding) (a .t) (a .s) (p .tables .effects) named
-    (rw (c .before .before .before .before .before .before .before .start-moment .ensures .0, start, p .tables .durations .entry _ named) at (sym (c .before .before .before .before .before .acts .ensures) ∙ c .before .before .before .before .if1 .taken))
-    (rw (c .before .before .fluents-of .ensures .0, start) at (c .apply .ensures))
+    let here = tested (c .before) in
+    let a = entry (here .before) .args in
+    let p = entry (here .before) .pre .0 in
+    start-applied (a .hiding) (a .t) (a .s) (p .tables .effects) (p .named .action 0 (omega arith)) (sym (acts-here here) ∙ c .before .before .before .before .if1 .taken)
+    (rw (c .before .before .fluents-of .ensures .0, here .before .before .before .start-action .ensures .0) at (c .apply .ensures))
 
 returns-2 : tie.Need-returns-2
 returns-2 c =
-    let p = c .before .before .before .before .before .before .pre .0 in
-    let a = c .before .before .before .before .before .before .args in
+    let a = entry (c .before .before) .args in
     overlaid-skip (fluents (a .job .now)) (acts (a .job .now) (a .hiding) (a .t)) (affects (a .job .now)) (leaves (a .job .now) (a .hiding)) (a .s)
-    (rw (c .before .before .before .start-moment .ensures .0, c .before .before .before .before .start-action .ensures .0, p .tables .durations .entry _ (p .named .action 0 (omega arith))) at (sym (c .before .acts .ensures) ∙ c .if1 .left))
+    (sym (acts-here (c .before)) ∙ c .if1 .left)
 
 pub apply-start-spec : {M : Type 1} → statement M
 apply-start-spec =

@@ -16,16 +16,25 @@ Inv-loop job durations effects starts hiding t state₀ i₀ state i = (i ≤ le
 abbrev μ-loop : tie.MeasureT-loop
 μ-loop job durations effects starts hiding t state₀ i₀ state i = i
 
+-- the places of the code that the proof speaks of
+abbrev entry : tie.After-apply-start-arg Inv-loop μ-loop → tie.Start Inv-loop μ-loop
+entry c = c .before .before .before .before .before .before
+
+abbrev turn : tie.After-apply-start Inv-loop μ-loop → tie.At-loop Inv-loop μ-loop
+turn c = c .before .before .before .before
+
 loop-holds : tie.Need-loop-holds Inv-loop μ-loop
 loop-holds c = (omega arith, overlaid-none (c .before .before .args .starts .now))
 
 apply-start-requires : tie.Need-apply-start-requires Inv-loop μ-loop
 apply-start-requires c κs =
-    let p = c .before .before .before .before .before .before .pre in
+    let p = entry c .pre in
     (walkable-one (p .0) _ (omega arith), rw (c .before .before .before .loop .inv .1 .size) (p .1))
 
 loop-again : tie.Need-loop-again Inv-loop μ-loop
-loop-again c = (omega arith, overlaid-back _ _ (c .before .before .before .loop-test .taken) (c .before .before .before .before .loop .inv .0) (c .before .before .before .before .loop .inv .1) (c .apply-start .ensures))
+loop-again c =
+    let old = turn c .loop .inv in
+    (omega arith, overlaid-back _ _ (c .before .before .before .loop-test .taken) (old .0) (old .1) (c .apply-start .ensures))
 
 returns : tie.Need-returns Inv-loop μ-loop
 returns c = let e : c .before .loop .i ≡ 0 = omega arith in rw e at (c .before .loop .inv .1)

@@ -14,6 +14,7 @@ use Rattle.history.proofs.states.history.Tie as tie
 
 record Walked (job starts : List ℕ) (last t : ℕ) (state table : List ℕ) : Type 0 where
   bound : t ≤ last + 1
+  few : last ≤ 63
   reached : StateAt job starts t state
   stored : Rows (valueAt job starts) (fluents job) t table
 
@@ -23,31 +24,40 @@ Inv-loop job durations effects starts last table₀ state₀ t₀ table state t 
 abbrev μ-loop : tie.MeasureT-loop
 μ-loop job durations effects starts last table₀ state₀ t₀ table state t = last + 1 - t
 
+-- the places of the code that the proof speaks of
+abbrev start : tie.After-last-of Inv-loop μ-loop → tie.Start Inv-loop μ-loop
+start c = c .before .before .before .before
+
+abbrev turn : tie.After-state2 Inv-loop μ-loop → tie.At-loop Inv-loop μ-loop
+turn c = c .before .before .before .before .before
+
 shared-slice-read-last-of : tie.Need-shared-slice-read-last-of Inv-loop μ-loop
 shared-slice-read-last-of c = c .before .before .before .pre .well .some
 
 initial-state-requires : tie.Need-initial-state-requires Inv-loop μ-loop
-initial-state-requires c κs = c .before .before .before .before .pre .well
+initial-state-requires c κs = start c .pre .well
 
 loop-holds : tie.Need-loop-holds Inv-loop μ-loop
-loop-holds c = record { bound = omega arith; reached = state-start (c .initial-state .ensures); stored = rows-none }
-
-store-row-requires : tie.Need-store-row-requires Inv-loop μ-loop
-store-row-requires c κs = (omega (arith, c .before .before .before .before .before .before .before .before .before .pre .well .few-moments, c .before .before .before .before .before .last-of .ensures .0), c .before .before .before .loop .inv .stored .size)
+loop-holds c =
+    let p = start (c .before) .pre in
+    record {
+      bound = omega arith;
+      few = rw (c .before .last-of .ensures .0) (p .well .few-moments);
+      reached = state-start (c .initial-state .ensures);
+      stored = rows-none;
+    }
 
 step-requires : tie.Need-step-requires Inv-loop μ-loop
 step-requires c κs =
-    let p = c .before .before .before .before .before .before .before .before .before .before .before .pre in
-    (p, omega (arith, p .well .few-moments, c .before .before .before .before .before .before .before .last-of .ensures .0), c .before .before .before .before .before .loop .inv .reached)
-
-add-t : tie.Need-add-t Inv-loop μ-loop
-add-t c = omega (arith, c .before .before .before .before .before .before .before .before .before .before .before .before .pre .well .few-moments, c .before .before .before .before .before .before .before .before .last-of .ensures .0)
+    let here = turn c in
+    record { walk = start (here .before .before) .pre; soon = omega arith; state = here .loop .inv .reached }
 
 loop-again : tie.Need-loop-again Inv-loop μ-loop
 loop-again c =
-    let p = c .before .before .before .before .before .before .before .before .before .before .before .before .pre in
-    let old = c .before .before .before .before .before .before .loop .inv in
-    record { bound = omega arith; reached = c .step .ensures; stored = rows-more (p .well .few-fluents) (old .stored) (c .before .before .store-row .ensures) (old .reached .value) }
+    let here = turn (c .before) in
+    let few = start (here .before .before) .pre .well .few-fluents in
+    let old = here .loop .inv in
+    record { bound = omega arith; few = old .few; reached = c .step .ensures; stored = rows-more few (old .stored) (c .before .before .store-row .ensures) (old .reached .value) }
 
 returns : tie.Need-returns Inv-loop μ-loop
 returns c =
@@ -64,9 +74,9 @@ history-spec =
     (λ c κs. search needs)
     initial-state-requires
     loop-holds
-    store-row-requires
+    (λ c κs. search needs)
     step-requires
-    add-t
-    (λ c. omega arith)
+    (λ c. search needs)
+    (λ c. search needs)
     loop-again
     returns)

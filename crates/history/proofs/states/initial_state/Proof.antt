@@ -1,5 +1,5 @@
 -- `history::states::initial_state` meets its contract. The invariant: the words from `i` on are stored. Assumes nothing.
-use mathlib.Core.Path.{_≡_, refl, _∙_}
+use mathlib.Core.Path.{_≡_}
 use Prim.Native.Nat.{_-_, _≤_}
 use lib.ListN.{length, drop, replicate}
 use Rattle.words.specs.Fields.{unknown, knownValue}
@@ -12,27 +12,36 @@ use Rattle.history.proofs.states.initial_state.Statement.{statement}
 use Rattle.history.proofs.states.initial_state.Tie as tie
 
 abbrev Inv-loop : tie.InvT-loop
-Inv-loop job head state₀ i₀ state i = (i ≤ length job) × (length state ≡ 64) × Overlaid 64 (lists head) (λ f. knownValue head) (replicate 64 unknown) (drop i job) state
+Inv-loop job head state₀ i₀ state i = (i ≤ length job) × Overlaid 64 (lists head) (λ f. knownValue head) (replicate 64 unknown) (drop i job) state
 
 abbrev μ-loop : tie.MeasureT-loop
 μ-loop job head state₀ i₀ state i = i
 
+-- the places of the code that the proof speaks of
+abbrev entry : tie.After-loop Inv-loop μ-loop → tie.Start Inv-loop μ-loop
+entry c = c .before .before .before .before
+
+abbrev turn : tie.After-store-known Inv-loop μ-loop → tie.At-loop Inv-loop μ-loop
+turn c = c .before .before .before .before
+
 loop-holds : tie.Need-loop-holds Inv-loop μ-loop
-loop-holds c = (omega arith, refl, overlaid-none (c .before .before .args .job .now))
+loop-holds c = (omega arith, overlaid-none (c .before .before .args .job .now))
 
 store-known-requires : tie.Need-store-known-requires Inv-loop μ-loop
-store-known-requires c κs = c .before .before .before .loop .inv .1
+store-known-requires c κs = c .before .before .before .loop .inv .1 .size
 
 loop-again : tie.Need-loop-again Inv-loop μ-loop
-loop-again c = (omega arith, c .store-known .ensures .size ∙ c .before .before .before .before .loop .inv .1, overlaid-back _ _ (c .before .before .before .loop-test .taken) (c .before .before .before .before .loop .inv .0) (c .before .before .before .before .loop .inv .2) (c .store-known .ensures))
+loop-again c =
+    let old = turn c .loop .inv in
+    (omega arith, overlaid-back _ _ (c .before .before .before .loop-test .taken) (old .0) (old .1) (c .store-known .ensures))
 
 returns : tie.Need-returns Inv-loop μ-loop
 unfolding initially valueAt
 returns c =
-    let few = c .before .before .before .before .pre .few-fluents in
+    let few = entry c .pre .few-fluents in
     let e : c .before .loop .i ≡ 0 = omega arith in
-    let o = rw e at (c .before .loop .inv .2) in
-    record { room = omega (arith, c .before .loop .inv .1); value = λ f l. overlaid-open o f (omega arith) }
+    let o = rw e at (c .before .loop .inv .1) in
+    record { room = omega (arith, o .size); value = λ f l. overlaid-open o f (omega arith) }
 
 pub initial-state-spec : {M : Type 1} → statement M
 initial-state-spec =

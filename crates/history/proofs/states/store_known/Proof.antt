@@ -9,13 +9,18 @@ use borrow.Author.Needs.{needs}
 use Rattle.history.proofs.states.store_known.Statement.{statement}
 use Rattle.history.proofs.states.store_known.Tie as tie
 
+-- the places of the code that the proof speaks of
+abbrev entry : tie.After-fluent-of → tie.Start
+entry c = c .before .before .before .before
+
 returns : tie.Need-returns
 returns c =
-    let head = c .before .before .before .before .args .head in
-    let w = c .before .before .before .before .args .w in
-    let old = c .before .before .before .before .args .state .now in
+    let start = entry c in
+    let head = start .args .head in
+    let w = start .args .w in
+    let old = start .args .state .now in
     rw (c .fluent-of .ensures .0, c .before .known-value .ensures)
-    (overlaid-store 64 (λ v. eqb (kind v) 2) (fluentOf head) (knownValue head) w old (eq-eqb (kind w) 2 (sym (c .before .before .before .kind-of .ensures .0) ∙ c .before .before .if1 .taken)) (omega (arith, c .before .before .before .before .pre)))
+    (overlaid-store 64 (λ v. eqb (kind v) 2) (fluentOf head) (knownValue head) w old (eq-eqb (kind w) 2 (sym (c .before .before .before .kind-of .ensures .0) ∙ c .before .before .if1 .taken)) (omega (arith, start .pre)))
 
 returns-2 : tie.Need-returns-2
 returns-2 c =

@@ -1,5 +1,6 @@
 -- `history::tables::effects` meets its contract. The invariant: the rows of the actions below `a` are stored. Assumes nothing.
-use Prim.Native.Nat.{_-_, _≤_}
+use mathlib.Core.List.{List}
+use Prim.Native.Nat.{ℕ, _-_, _≤_}
 use Rattle.history.specs.Actions.{effect}
 use Rattle.history.proofs.Stores.{Rows, rows-none, rows-more}
 use Rattle.history.proofs.Moments.{effect-row}
@@ -8,29 +9,53 @@ use borrow.Author.Needs.{needs}
 use Rattle.history.proofs.tables.effects.Statement.{statement}
 use Rattle.history.proofs.tables.effects.Tie as tie
 
+record Turn (job : List ℕ) (n a : ℕ) (table : List ℕ) : Type 0 where
+  bound : a ≤ n
+  few : n ≤ 64
+  stored : Rows (effect job) 64 a table
+
 abbrev Inv-loop : tie.InvT-loop
-Inv-loop job places head n table₀ a₀ table a = (a ≤ n) × Rows (effect job) 64 a table
+Inv-loop job places head n table₀ a₀ table a = Turn job n a table
 
 abbrev μ-loop : tie.MeasureT-loop
 μ-loop job places head n table₀ a₀ table a = n - a
+
+-- the places of the code that the proof speaks of
+abbrev entry-of : tie.At-loop Inv-loop μ-loop → tie.Start Inv-loop μ-loop
+entry-of c = c .before .before .before .before
+
+abbrev turn : tie.After-store-row Inv-loop μ-loop → tie.At-loop Inv-loop μ-loop
+turn c = c .before .before .before .before .before .before
+
+abbrev after-laws-of : tie.After-store-row Inv-loop μ-loop → tie.After-laws-of Inv-loop μ-loop
+after-laws-of c = c .before .before .before .before
 
 shared-slice-read-head : tie.Need-shared-slice-read-head Inv-loop μ-loop
 shared-slice-read-head c = c .before .before .pre .0 .some
 
 loop-holds : tie.Need-loop-holds Inv-loop μ-loop
-loop-holds c = (omega arith, rows-none)
+loop-holds c =
+    record { bound = omega arith; few = rw (c .actions-of .ensures .0) (c .before .before .before .pre .0 .few-actions); stored = rows-none }
 
 laws-of-requires : tie.Need-laws-of-requires Inv-loop μ-loop
-laws-of-requires c κs = (c .before .before .before .before .before .pre .0, c .before .before .before .before .before .pre .1, rw (c .before .before .actions-of .ensures .0) at (c .loop-test .taken))
-
-store-row-requires : tie.Need-store-row-requires Inv-loop μ-loop
-store-row-requires c κs = (omega (arith, c .before .before .before .before .before .before .before .before .before .pre .0 .few-actions, c .before .before .before .before .before .before .actions-of .ensures .0), c .before .before .before .before .before .loop .inv .1 .size)
+laws-of-requires c κs =
+    let p = entry-of (c .before) .pre in
+    (p .0, p .1, rw (c .before .before .actions-of .ensures .0) at (c .loop-test .taken))
 
 loop-again : tie.Need-loop-again Inv-loop μ-loop
-loop-again c = (omega arith, rows-more (omega arith) (c .before .before .before .before .before .before .loop .inv .1) (c .store-row .ensures) (effect-row _ _ (rw (c .before .before .before .before .laws-of .ensures) at (c .before .before .before .effects-row .ensures))))
+loop-again c =
+    let old = turn c .loop .inv in
+    let row = effect-row _ _ (rw (after-laws-of c .laws-of .ensures) at (c .before .before .before .effects-row .ensures)) in
+    record { bound = omega arith; few = old .few; stored = rows-more (omega arith) (old .stored) (c .store-row .ensures) row }
 
 returns : tie.Need-returns Inv-loop μ-loop
-returns c = record { size = c .before .loop .inv .1 .size; entry = λ b f l m. c .before .loop .inv .1 .entry b f (omega (arith, c .before .before .actions-of .ensures .0)) (omega (arith, c .before .before .before .before .before .pre .0 .few-fluents)) }
+returns c =
+    let p = entry-of (c .before) .pre in
+    let rows = c .before .loop .inv .stored in
+    record {
+      size = rows .size;
+      entry = λ b f l m. rows .entry b f (omega (arith, c .before .before .actions-of .ensures .0)) (omega (arith, p .0 .few-fluents));
+    }
 
 pub effects-spec : {M : Type 1} → statement M
 effects-spec =
@@ -43,8 +68,8 @@ effects-spec =
     loop-holds
     laws-of-requires
     (λ c κs. search needs)
-    store-row-requires
-    (λ c. omega arith)
-    (λ c. omega arith)
+    (λ c κs. search needs)
+    (λ c. search needs)
+    (λ c. search needs)
     loop-again
     returns)

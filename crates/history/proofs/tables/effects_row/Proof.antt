@@ -1,5 +1,5 @@
 -- `history::tables::effects_row` meets its contract. The invariant: the laws from `i` on are stored. Assumes nothing.
-use mathlib.Core.Path.{_≡_, refl, _∙_}
+use mathlib.Core.Path.{_≡_}
 use Prim.Native.Nat.{_-_, _≤_}
 use lib.ListN.{length, drop, replicate}
 use Rattle.words.specs.Fields.{unknown}
@@ -12,22 +12,28 @@ use Rattle.history.proofs.tables.effects_row.Statement.{statement}
 use Rattle.history.proofs.tables.effects_row.Tie as tie
 
 abbrev Inv-loop : tie.InvT-loop
-Inv-loop head laws row₀ i₀ row i = (i ≤ length laws) × (length row ≡ 64) × Overlaid 64 (makesFluent head) (λ f. lawValue head) (replicate 64 unknown) (drop i laws) row
+Inv-loop head laws row₀ i₀ row i = (i ≤ length laws) × Overlaid 64 (makesFluent head) (λ f. lawValue head) (replicate 64 unknown) (drop i laws) row
 
 abbrev μ-loop : tie.MeasureT-loop
 μ-loop head laws row₀ i₀ row i = i
 
+-- the places of the code that the proof speaks of
+abbrev turn : tie.After-store-law Inv-loop μ-loop → tie.At-loop Inv-loop μ-loop
+turn c = c .before .before .before .before
+
 loop-holds : tie.Need-loop-holds Inv-loop μ-loop
-loop-holds c = (omega arith, refl, overlaid-none (c .before .args .laws .now))
+loop-holds c = (omega arith, overlaid-none (c .before .args .laws .now))
 
 store-law-requires : tie.Need-store-law-requires Inv-loop μ-loop
-store-law-requires c κs = c .before .before .before .loop .inv .1
+store-law-requires c κs = c .before .before .before .loop .inv .1 .size
 
 loop-again : tie.Need-loop-again Inv-loop μ-loop
-loop-again c = (omega arith, c .store-law .ensures .size ∙ c .before .before .before .before .loop .inv .1, overlaid-back _ _ (c .before .before .before .loop-test .taken) (c .before .before .before .before .loop .inv .0) (c .before .before .before .before .loop .inv .2) (c .store-law .ensures))
+loop-again c =
+    let old = turn c .loop .inv in
+    (omega arith, overlaid-back _ _ (c .before .before .before .loop-test .taken) (old .0) (old .1) (c .store-law .ensures))
 
 returns : tie.Need-returns Inv-loop μ-loop
-returns c = let e : c .before .loop .i ≡ 0 = omega arith in rw e at (c .before .loop .inv .2)
+returns c = let e : c .before .loop .i ≡ 0 = omega arith in rw e at (c .before .loop .inv .1)
 
 pub effects-row-spec : {M : Type 1} → statement M
 effects-row-spec =

@@ -27,6 +27,10 @@ module _ {job places : List ℕ} {a : ℕ} (w : WellFormed job) (p : Indexed job
       let q : getD places a 0 + 1 + n - (getD places a 0 + 1) ≡ n = omega arith in
       rw (q, e, takeWhile-take (ofKind 4) (drop (getD places a 0 + 1) job)) (sym (laws-place p a (action-counted w h)))
 
+-- the places of the code that the proof speaks of
+abbrev entry : tie.After-result → tie.Start
+entry c = c .before .before .before .before
+
 mul-from : tie.Need-mul-from
 mul-from c = omega (arith, c .before .pre .0 .few-actions)
 
@@ -49,7 +53,7 @@ part-result-end : tie.Need-part-result-end
 part-result-end c = let pre = c .before .before .before .pre in omega (arith, c .run-length .ensures, run-fits (pre .0) (pre .1) (pre .2))
 
 returns : tie.Need-returns
-returns c = let pre = c .before .before .before .before .pre in laws (pre .0) (pre .1) (pre .2) _ (c .before .run-length .ensures)
+returns c = let pre = entry c .pre in laws (pre .0) (pre .1) (pre .2) _ (c .before .run-length .ensures)
 
 pub laws-of-spec : {M : Type 1} → statement M
 laws-of-spec =

@@ -9,14 +9,23 @@ use borrow.Author.Needs.{needs}
 use Rattle.history.proofs.tables.store_law.Statement.{statement}
 use Rattle.history.proofs.tables.store_law.Tie as tie
 
+-- the places of the code that the proof speaks of
+abbrev entry : tie.After-fluent-of → tie.Start
+entry c = c .before .before .before .before .before
+
+abbrev after-role-of : tie.After-fluent-of → tie.After-role-of
+after-role-of c = c .before .before .before .before
+
 returns : tie.Need-returns
 returns c =
-    let head = c .before .before .before .before .before .args .head in
-    let w = c .before .before .before .before .before .args .w in
-    let old = c .before .before .before .before .before .args .row .now in
-    rw (c .fluent-of .ensures .0, c .before .made-value .ensures, c .before .before .before .before .role-of .ensures .0)
+    let start = entry c in
+    let role-of = after-role-of c in
+    let head = start .args .head in
+    let w = start .args .w in
+    let old = start .args .row .now in
+    rw (c .fluent-of .ensures .0, c .before .made-value .ensures, role-of .role-of .ensures .0)
     (overlaid-store 64 (λ v. makes (roleOf head v)) (fluentOf head) (lawValue head) w old
-    (rw (c .before .before .before .before .role-of .ensures .0) at (sym (c .before .before .before .makes-value .ensures) ∙ c .before .before .if1 .taken)) (omega (arith, c .before .before .before .before .before .pre)))
+    (rw (role-of .role-of .ensures .0) at (sym (c .before .before .before .makes-value .ensures) ∙ c .before .before .if1 .taken)) (omega (arith, start .pre)))
 
 returns-2 : tie.Need-returns-2
 returns-2 c =
