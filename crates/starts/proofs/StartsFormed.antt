@@ -116,27 +116,13 @@ module _ (job starts : List ℕ) (words : (i : ℕ) → getD starts i 0 < 2 ^ 32
       cases (yes l) = absurd (omega (arith, rises n h 4096 l, word-is (right-at job starts 4096 (h 4096 l)) (words 4096)))
       cases (no l) = omega arith
 
-  module _ (h : StartsFormed job starts) where
-    -- so do their moments, strictly where the action is the same
-    module _ (i j : ℕ) (l : j < i) (m : i < length starts) where
-      pub moments-ascend : startMoment (getD starts j 0) ≤ startMoment (getD starts i 0)
-      moments-ascend =
-          let e = word-is (right-word h j (omega arith)) (words j) in
-          let e' = word-is (right-word h i m) (words i) in
-          let above = words-ascend h i j l m in
-          ordered (getD starts j 0) (getD starts i 0) e e' above
-        where
-          ordered : (s s' : ℕ) → s ≡ 2415919104 + startMoment s * 64 + startAction s → s' ≡ 2415919104 + startMoment s' * 64 + startAction s' → s < s'
-              → startMoment s ≤ startMoment s'
-          ordered s s' e e' l = omega arith
+-- words that ascend have moments that do, strictly where the action is the same
+ordered : {s s' : ℕ} → s ≡ 2415919104 + startMoment s * 64 + startAction s → s' ≡ 2415919104 + startMoment s' * 64 + startAction s' → s < s'
+    → (startMoment s ≤ startMoment s') × (startAction s ≡ startAction s' → startMoment s < startMoment s')
+ordered e e' l = (omega arith, λ a. omega arith)
 
-      pub moments-differ : startAction (getD starts j 0) ≡ startAction (getD starts i 0) → startMoment (getD starts j 0) < startMoment (getD starts i 0)
-      moments-differ a =
-          let e = word-is (right-word h j (omega arith)) (words j) in
-          let e' = word-is (right-word h i m) (words i) in
-          let above = words-ascend h i j l m in
-          ordered (getD starts j 0) (getD starts i 0) e e' above a
-        where
-          ordered : (s s' : ℕ) → s ≡ 2415919104 + startMoment s * 64 + startAction s → s' ≡ 2415919104 + startMoment s' * 64 + startAction s' → s < s'
-              → startAction s ≡ startAction s' → startMoment s < startMoment s'
-          ordered s s' e e' l a = omega arith
+pub moments-ordered : {job starts : List ℕ} → StartsFormed job starts → ((i : ℕ) → getD starts i 0 < 2 ^ 32) → {i j : ℕ} → j < i → i < length starts
+    → (startMoment (getD starts j 0) ≤ startMoment (getD starts i 0))
+    × (startAction (getD starts j 0) ≡ startAction (getD starts i 0) → startMoment (getD starts j 0) < startMoment (getD starts i 0))
+moments-ordered h words {i} {j} l m =
+    ordered (word-is (right-word h j (omega arith)) (words j)) (word-is (right-word h i m) (words i)) (words-ascend h i j l m)

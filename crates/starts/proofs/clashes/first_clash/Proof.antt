@@ -7,7 +7,7 @@ use Rattle.starts.specs.Rows.{clashes}
 use Rattle.starts.specs.Latest.{Latest}
 use Rattle.starts.proofs.Rows.{Passing, passing-start, passing-more, passing-found, passing-end}
 use Rattle.starts.proofs.StartsFormed.{right-word}
-use Rattle.starts.proofs.LatestFinish.{latest-start, latest-stored, latest-clash}
+use Rattle.starts.proofs.LatestFinish.{latest-start, latest-more, latest-clash}
 use borrow.Author.Needs.{needs}
 use native.Mathlib.Omega.{arith}
 use Rattle.starts.proofs.clashes.first_clash.Statement.{statement}
@@ -70,7 +70,7 @@ loop-again c =
     let here = body (c .before .before) in
     let inside = here .before .before .loop-test .taken in (
       passing-more (turn here .loop .inv .0) inside (value (c .before .before) ∙ c .before .if1 .left),
-      latest-stored (entry here .pre .0) (words here) inside (turn here .loop .inv .1) (here .start-action .ensures .0) (c .finish-of .ensures),
+      latest-more (entry here .pre .0) (words here) inside (turn here .loop .inv .1) (here .start-action .ensures .0) (c .finish-of .ensures),
     )
 
 pub first-clash-spec : {M : Type 1} → statement M

@@ -8,7 +8,7 @@ use borrow.Author.Tests.{lt-ltb, le-ltb}
 use Rattle.starts.specs.Rows.{inHandAlready}
 use Rattle.starts.specs.Latest.{Latest}
 use Rattle.starts.proofs.Rows.{Passing, passing-start, passing-more, passing-found, passing-end}
-use Rattle.starts.proofs.LatestFinish.{latest-start, latest-stored, latest-restart}
+use Rattle.starts.proofs.LatestFinish.{latest-start, latest-more, latest-restart}
 use borrow.Author.Needs.{needs}
 use native.Mathlib.Omega.{arith}
 use Rattle.starts.proofs.times.restart.Statement.{statement}
@@ -52,7 +52,7 @@ loop-again c =
     let body = c .before .before .before in
     let inside = body .before .before .loop-test .taken in (
       passing-more (turn body .loop .inv .0) inside (value (c .before .before) ∙ le-ltb _ _ (c .before .if1 .left)),
-      latest-stored (entry body .pre) (words body) inside (turn body .loop .inv .1) (body .start-action .ensures .0) (c .finish-of .ensures),
+      latest-more (entry body .pre) (words body) inside (turn body .loop .inv .1) (body .start-action .ensures .0) (c .finish-of .ensures),
     )
 
 pub restart-spec : {M : Type 1} → statement M
