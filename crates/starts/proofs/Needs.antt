@@ -49,9 +49,11 @@ module _ {job places history starts : List ℕ} (given : Recorded job places his
           → unmet (headWord job) (λ f. getD history (t * 64 + f) 0) (getD (lawsOf job a) i 0) ≡ unmet (headWord job) (valueAt job starts t) (getD (lawsOf job a) i 0)
       agree i l = rw (given .values .entry t (fluentOf (headWord job) (getD (lawsOf job a) i 0)) m (law-fluent i l))
 
--- row 10 by what the code has read of word i: its action a with its laws, and its moment u
+-- row 10 by what the code has read of word i: its action a with its laws, its moment u, and whether one of them is unmet then
 pub unmet-read : {job places history starts : List ℕ} → Recorded job places history starts → {i : ℕ} → i < length starts
     → {a : ℕ} → a ≡ startAction (getD starts i 0) → {laws : List ℕ} → laws ≡ lawsOf job a → {u : ℕ} → u ≡ startMoment (getD starts i 0)
-    → any (unmet (headWord job) (λ f. getD history (u * 64 + f) 0)) laws ≡ needsUnmet job starts i
+    → {r : Bool} → r ≡ any (unmet (headWord job) (λ f. getD history (u * 64 + f) 0)) laws → needsUnmet job starts i ≡ r
 unfolding needsUnmet
-unmet-read given {i} l ea el eu = let right = right-word (given .words) i l in rw (el, ea, eu) (needs-read given _ (right .action) _ (right .moment))
+unmet-read given {i} l ea el eu er =
+    let right = right-word (given .words) i l in
+    sym (er ∙ rw (el, ea, eu) (needs-read given _ (right .action) _ (right .moment)))

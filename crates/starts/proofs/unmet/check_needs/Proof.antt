@@ -1,5 +1,5 @@
 -- `starts::unmet::check_needs` meets its contract. The invariant: the row fits no word before `i`. Assumes nothing.
-use mathlib.Core.Path.{_≡_, sym, _∙_}
+use mathlib.Core.Path.{_≡_, _∙_}
 use Prim.Native.Nat.{_-_}
 use lib.ListN.{length}
 use Rattle.starts.specs.Rows.{needsUnmet}
@@ -30,9 +30,8 @@ value : (c : tie.After-has-unmet Inv-loop μ-loop)
     needsUnmet (entry body .args .job .now) (entry body .args .starts .now) (turn body .loop .i) ≡ c .has-unmet .result
 value c =
     let body = c .before .before .before in
-    sym (c .has-unmet .ensures
-    ∙ unmet-read (entry body .pre) (body .before .before .loop-test .taken)
-    (body .start-action .ensures .0) (c .before .before .laws-of .ensures) (c .before .start-moment .ensures .0))
+    unmet-read (entry body .pre) (body .before .before .loop-test .taken)
+    (body .start-action .ensures .0) (c .before .before .laws-of .ensures) (c .before .start-moment .ensures .0) (c .has-unmet .ensures)
 
 laws-of-requires : tie.Need-laws-of-requires Inv-loop μ-loop
 laws-of-requires c κs =
