@@ -44,13 +44,13 @@ returns : tie.Need-returns Inv-loop μ-loop
 unfolding endsLate
 returns c =
     passing-found (turn (c .before) .loop .inv) (omega arith) (omega arith)
-    (rw (← after-last-of (c .before) .last-of .ensures .0, ← ends (c .before)) (lt-ltb _ _ (c .if1 .taken)))
+    (rw (← after-last-of (c .before) .last-of .ensures .0, ← ends (c .before)) (lt-ltb (after-last-of (c .before) .last-of .result) (c .before .finish-of .result) (omega arith)))
 
 loop-again : tie.Need-loop-again Inv-loop μ-loop
 unfolding endsLate
 loop-again c =
     passing-more (turn (c .before) .loop .inv) (omega arith)
-    (rw (← after-last-of (c .before) .last-of .ensures .0, ← ends (c .before)) (le-ltb _ _ (c .if1 .left)))
+    (rw (← after-last-of (c .before) .last-of .ensures .0, ← ends (c .before)) (le-ltb (after-last-of (c .before) .last-of .result) (c .before .finish-of .result) (omega arith)))
 
 pub late-end-spec : {M : Type 1} → statement M
 late-end-spec =
