@@ -112,8 +112,16 @@ rows-split (suc k) (row ∷ rest) n =
     ap (firstRefusal first) (rows-split k rest n) ∙ or-grouped first (rowsRefusal (take k rest) n) (rowsRefusal (drop k rest) n)
 
 -- rows 6 to 9, and then row 10
-pub starts-by-rows : (job starts : List ℕ)
-    → startsRefusal job starts
-    ≡ firstRefusal (rowsRefusal (timeRows job starts) (length starts)) (firstOf (numbered 10 (needsUnmet job starts)) (length starts))
-unfolding startsRefusal
-starts-by-rows job starts = rw (rows-last 10 (needsUnmet job starts) (length starts)) (rows-split 4 (startRows job starts) (length starts))
+module _ (job starts : List ℕ) where
+  pub starts-by-rows : startsRefusal job starts
+      ≡ firstRefusal (rowsRefusal (timeRows job starts) (length starts)) (firstOf (numbered 10 (needsUnmet job starts)) (length starts))
+  unfolding startsRefusal
+  starts-by-rows = rw (rows-last 10 (needsUnmet job starts) (length starts)) (rows-split 4 (startRows job starts) (length starts))
+
+  -- rows 6 to 9, whose answer is r, fit a word; they fit none
+  module _ {r : Refusal} (is : r ≡ rowsRefusal (timeRows job starts) (length starts)) where
+    pub starts-found : (r .number ≡ 0 → ⊥) → r ≡ startsRefusal job starts
+    starts-found h = rw (starts-by-rows, ← is, ne-eqb (r .number) 0 h)
+
+    pub starts-next : r .number ≡ 0 → {needs : Refusal} → needs ≡ firstOf (numbered 10 (needsUnmet job starts)) (length starts) → needs ≡ startsRefusal job starts
+    starts-next h e = rw (starts-by-rows, ← is, eq-eqb (r .number) 0 h) e
