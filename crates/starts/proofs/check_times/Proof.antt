@@ -11,6 +11,9 @@ use Rattle.starts.proofs.check_times.Tie as tie
 abbrev entry : tie.Else1 → tie.Start
 entry c = c .before .before .before .before .before
 
+abbrev six : tie.Else3 → tie.Else1
+six c = c .before .before .before .before .before .before
+
 -- row 6 fits no word
 timed : (c : tie.Else1) → Timed (entry c .args .job .now) (entry c .args .durations .now) (entry c .args .starts .now)
 timed c = record {
@@ -56,5 +59,5 @@ check-times-spec =
     returns-2
     (λ c κs. timed (c .before .before .before))
     returns-3
-    (λ c κs. let six = c .before .before .before .before .before .before in (timed six, entry six .pre .makes))
+    (λ c κs. (timed (six c), entry (six c) .pre .makes))
     returns-4)

@@ -34,9 +34,6 @@ ends c =
     let pre = entry (c .before) .pre in
     c .finish-of .ensures ∙ finish-is (pre .lasts) (pre .words) _ (c .before .before .loop-test .taken)
 
-shared-slice-read-last-of : tie.Need-shared-slice-read-last-of Inv-loop μ-loop
-shared-slice-read-last-of c = c .before .before .before .pre .formed .some
-
 finish-of-requires : tie.Need-finish-of-requires Inv-loop μ-loop
 finish-of-requires c κs = entry c .pre .lasts .small _
 
@@ -58,7 +55,7 @@ late-end-spec =
     (tie.spec
     Inv-loop
     μ-loop
-    shared-slice-read-last-of
+    (λ c. search needs)
     (λ c κs. search needs)
     (λ c. passing-start)
     (λ c. omega arith)

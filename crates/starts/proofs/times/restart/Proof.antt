@@ -41,7 +41,8 @@ value c =
 
 returns : tie.Need-returns Inv-loop μ-loop
 returns c =
-    passing-found (turn (c .before .before) .loop .inv .0) (omega arith) (c .before .before .before .before .loop-test .taken)
+    let body = c .before .before in
+    passing-found (turn body .loop .inv .0) (omega arith) (body .before .before .loop-test .taken)
     (value (c .before) ∙ lt-ltb _ _ (c .if1 .taken))
 
 finish-of-requires : tie.Need-finish-of-requires Inv-loop μ-loop

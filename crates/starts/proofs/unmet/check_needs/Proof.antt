@@ -24,14 +24,15 @@ entry c = c .before .before .before .before .before .before .before
 abbrev turn : tie.After-start-action Inv-loop μ-loop → tie.At-loop Inv-loop μ-loop
 turn c = c .before .before .before
 
+abbrev body : tie.After-has-unmet Inv-loop μ-loop → tie.After-start-action Inv-loop μ-loop
+body c = c .before .before .before
+
 -- what is tested of word i is whether its needs are unmet
 value : (c : tie.After-has-unmet Inv-loop μ-loop)
-    → let body = c .before .before .before in
-    needsUnmet (entry body .args .job .now) (entry body .args .starts .now) (turn body .loop .i) ≡ c .has-unmet .result
+    → needsUnmet (entry (body c) .args .job .now) (entry (body c) .args .starts .now) (turn (body c) .loop .i) ≡ c .has-unmet .result
 value c =
-    let body = c .before .before .before in
-    unmet-read (entry body .pre) (body .before .before .loop-test .taken)
-    (body .start-action .ensures .0) (c .before .before .laws-of .ensures) (c .before .start-moment .ensures .0) (c .has-unmet .ensures)
+    unmet-read (entry (body c) .pre) (body c .before .before .loop-test .taken)
+    (body c .start-action .ensures .0) (c .before .before .laws-of .ensures) (c .before .start-moment .ensures .0) (c .has-unmet .ensures)
 
 laws-of-requires : tie.Need-laws-of-requires Inv-loop μ-loop
 laws-of-requires c κs =
@@ -40,13 +41,13 @@ laws-of-requires c κs =
 
 returns : tie.Need-returns Inv-loop μ-loop
 returns c =
-    let body = c .before .before .before .before in
-    passing-found (turn body .loop .inv) (omega arith) (body .before .before .loop-test .taken) (value (c .before) ∙ c .if1 .taken)
+    let here = body (c .before) in
+    passing-found (turn here .loop .inv) (omega arith) (here .before .before .loop-test .taken) (value (c .before) ∙ c .if1 .taken)
 
 loop-again : tie.Need-loop-again Inv-loop μ-loop
 loop-again c =
-    let body = c .before .before .before .before in
-    passing-more (turn body .loop .inv) (body .before .before .loop-test .taken) (value (c .before) ∙ c .if1 .left)
+    let here = body (c .before) in
+    passing-more (turn here .loop .inv) (here .before .before .loop-test .taken) (value (c .before) ∙ c .if1 .left)
 
 pub check-needs-spec : {M : Type 1} → statement M
 check-needs-spec =
