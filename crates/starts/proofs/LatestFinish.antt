@@ -12,14 +12,13 @@ use lib.Seq.{getD-set-same, getD-set-other}
 use Rattle.words.specs.Fields.{startMoment, startAction}
 use Rattle.words.proofs.Choices.{is-false, both-true}
 use Rattle.job.specs.Parts.{actions, lastMoment, duration}
-use Rattle.job.specs.WellFormed.{WellFormed}
 use Rattle.history.specs.Actions.{finish, inHand}
 use Rattle.starts.specs.Rows.{restarts, inHandAlready, together, clashing, clashes}
 use Rattle.words.specs.Scan.{anyBelow}
 use Rattle.starts.specs.Latest.{Unfinished, Latest, clashesAfter}
-use Rattle.starts.specs.Given.{StartsFormed, Timed}
+use Rattle.starts.specs.Given.{Timed}
 use Rattle.starts.proofs.AnyBelow.{some-none, some-hit, some-same}
-use Rattle.starts.proofs.StartsFormed.{Right, right-word, finish-is, moments-ordered}
+use Rattle.starts.proofs.StartsFormed.{right-word, finish-is, moments-ordered}
 
 -- before the first start no entry is above 0
 zeros : (n a : ℕ) → _≡_ {A = ℕ} (getD (replicate n 0) a 0) 0

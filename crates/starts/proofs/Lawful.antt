@@ -1,15 +1,14 @@
 -- No row fits exactly lawful starts. Assumes nothing.
-use mathlib.Core.Bool.{true, false}
+use mathlib.Core.Bool.{true}
 use mathlib.Core.List.{List}
 use mathlib.Core.Logic.{_↔_}
 use mathlib.Core.Path.{_≡_, refl}
 use Prim.Native.Nat.{ℕ, zero, suc, _-_, _<_}
 use native.Mathlib.Omega.{arith}
 use borrow.Author.Tests.{ltb-false, le-ltb, lt-ltb, ne-eqb}
-use lib.ListN.{length, getD}
-use Rattle.starts.specs.Rows.{isStart, ascends, wrongWord, endsLate, inHandAlready, clashes, needsUnmet, startRows, startsRefusal}
-use Rattle.starts.specs.Given.{StartsFormed}
-use Rattle.starts.specs.Lists.{Each, Pairs}
+use lib.ListN.{length}
+use Rattle.starts.specs.Rows.{ascends, wrongWord, endsLate, inHandAlready, clashes, needsUnmet, startRows, startsRefusal}
+use Rattle.starts.specs.Lists.{Pairs}
 use Rattle.starts.specs.Lawful.{Lawful}
 use Rattle.starts.proofs.AnyBelow.{some-none, none-below}
 use Rattle.starts.proofs.Lists.{each-of, each-at, pairs-of, pairs-at}
