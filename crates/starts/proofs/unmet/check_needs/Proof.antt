@@ -3,7 +3,7 @@ use mathlib.Core.Path.{_≡_, _∙_}
 use Prim.Native.Nat.{_-_}
 use lib.ListN.{length}
 use Rattle.starts.specs.Rows.{needsUnmet}
-use Rattle.starts.proofs.Rows.{Passing, passing-start, passing-more, passing-found, passing-end}
+use Rattle.starts.proofs.Rows.{Tried, tried-start, tried-more, tried-found, tried-end}
 use Rattle.starts.proofs.Needs.{unmet-read}
 use Rattle.starts.proofs.StartsFormed.{right-word}
 use borrow.Author.Needs.{needs}
@@ -12,7 +12,7 @@ use Rattle.starts.proofs.unmet.check_needs.Statement.{statement}
 use Rattle.starts.proofs.unmet.check_needs.Tie as tie
 
 abbrev Inv-loop : tie.InvT-loop
-Inv-loop job places history starts head i₀ i = Passing 10 (needsUnmet job starts) (length starts) i
+Inv-loop job places history starts head i₀ i = Tried 10 (needsUnmet job starts) (length starts) i
 
 abbrev μ-loop : tie.MeasureT-loop
 μ-loop job places history starts head i₀ i = length starts - i
@@ -42,12 +42,12 @@ laws-of-requires c κs =
 returns : tie.Need-returns Inv-loop μ-loop
 returns c =
     let here = body (c .before) in
-    passing-found (turn here .loop .inv) (omega arith) (here .before .before .loop-test .taken) (value (c .before) ∙ c .if1 .taken)
+    tried-found (turn here .loop .inv) (omega arith) (here .before .before .loop-test .taken) (value (c .before) ∙ c .if1 .taken)
 
 loop-again : tie.Need-loop-again Inv-loop μ-loop
 loop-again c =
     let here = body (c .before) in
-    passing-more (turn here .loop .inv) (here .before .before .loop-test .taken) (value (c .before) ∙ c .if1 .left)
+    tried-more (turn here .loop .inv) (here .before .before .loop-test .taken) (value (c .before) ∙ c .if1 .left)
 
 pub check-needs-spec : {M : Type 1} → statement M
 check-needs-spec =
@@ -56,7 +56,7 @@ check-needs-spec =
     Inv-loop
     μ-loop
     (λ c. search needs)
-    (λ c. passing-start)
+    (λ c. tried-start)
     (λ c. search needs)
     (λ c. search needs)
     (λ c κs. search needs)
@@ -67,4 +67,4 @@ check-needs-spec =
     (λ c. search needs)
     (λ c. search needs)
     loop-again
-    (λ c. passing-end (c .before .loop .inv) (omega arith)))
+    (λ c. tried-end (c .before .loop .inv) (omega arith)))
