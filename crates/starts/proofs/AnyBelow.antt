@@ -24,7 +24,7 @@ module _ (test : ℕ → Bool) where
       cases (no m) ih = let same : i ≡ n = omega arith in rw (← same, e) (either-true (anyBelow test i))
 
   -- what each position that passes implies, some position that passes does
-  pub some-implies : (n : ℕ) (b : Bool) → ((i : ℕ) → i < n → test i ≡ true → b ≡ true) → anyBelow test n ≡ true → b ≡ true
+  some-implies : (n : ℕ) (b : Bool) → ((i : ℕ) → i < n → test i ≡ true → b ≡ true) → anyBelow test n ≡ true → b ≡ true
   unfolding anyBelow
   some-implies zero b h e = absurd (true-false (sym e))
   some-implies (suc n) b h e = cases (anyBelow test n) (some-implies n b (λ i l. h i (omega arith))) e

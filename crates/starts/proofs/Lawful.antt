@@ -1,31 +1,34 @@
 -- No row fits exactly lawful starts. Assumes nothing.
-use mathlib.Core.Bool.{true, false}
+use mathlib.Core.Bool.{true}
 use mathlib.Core.List.{List}
 use mathlib.Core.Logic.{_↔_}
 use mathlib.Core.Path.{_≡_, refl}
 use Prim.Native.Nat.{ℕ, zero, suc, _-_, _<_}
 use native.Mathlib.Omega.{arith}
 use borrow.Author.Tests.{ltb-false, le-ltb, lt-ltb, ne-eqb}
-use lib.ListN.{length, getD}
-use Rattle.starts.specs.Rows.{isStart, ascends, wrongWord, endsLate, inHandAlready, clashes, needsUnmet, startRows, startsRefusal}
+use lib.ListN.{length}
+use Rattle.starts.specs.Rows.{ascends, wrongWord, endsLate, inHandAlready, clashes, needsUnmet, startRows, startsRefusal}
 use Rattle.starts.specs.Given.{StartsFormed}
-use Rattle.starts.specs.Lists.{Each, Pairs}
 use Rattle.starts.specs.Lawful.{Lawful}
 use Rattle.starts.proofs.AnyBelow.{some-none, none-below}
 use Rattle.starts.proofs.Lists.{each-of, each-at, pairs-of, pairs-at}
-use Rattle.starts.proofs.Rows.{Clear, rows-clear, clear-rows}
+use Rattle.starts.proofs.Rows.{NoneFits, no-row, and-row, rows-none, none-rows}
 use Rattle.starts.proofs.StartsFormed.{is-start-at, words-ascend}
 
 module _ (job starts : List ℕ) where
-  climbs : Pairs (λ s s'. s < s') starts → (i : ℕ) → i < length starts → ascends starts i ≡ true
-  climbs p zero l = refl
-  climbs p (suc i) l =
-      let same : suc i - 1 ≡ i = omega arith in
-      rw (ne-eqb (suc i) 0 (λ z. omega arith), same) (lt-ltb _ _ (pairs-at p (suc i) i (omega arith) l))
+  pub lawful-formed : Lawful job starts → StartsFormed job starts
+  unfolding wrongWord
+  lawful-formed h = record { right = λ i l. rw (each-at (h .words) i l, climbs i l) }
+    where
+      climbs : (i : ℕ) → i < length starts → ascends starts i ≡ true
+      climbs zero l = refl
+      climbs (suc i) l =
+          let same : suc i - 1 ≡ i = omega arith in
+          rw (ne-eqb (suc i) 0 (λ z. omega arith), same) (lt-ltb _ _ (pairs-at (h .order) (suc i) i (omega arith) l))
 
-  from : Clear (startRows job starts) (length starts) → Lawful job starts
+  from : NoneFits (length starts) (startRows job starts) → Lawful job starts
   unfolding endsLate inHandAlready clashes needsUnmet
-  from (row6, (row7, (row8, (row9, (row10, _))))) = record {
+  from (and-row row6 (and-row row7 (and-row row8 (and-row row9 (and-row row10 no-row))))) = record {
     words = each-of starts (λ i l. is-start-at job starts i (row6 i l));
     order = pairs-of starts (words-ascend (record { right = row6 }));
     ends = each-of starts (λ i l. ltb-false _ _ (row7 i l));
@@ -34,25 +37,16 @@ module _ (job starts : List ℕ) where
     met = each-of starts row10;
   }
 
-  to : Lawful job starts → Clear (startRows job starts) (length starts)
-  unfolding wrongWord endsLate inHandAlready clashes needsUnmet
-  to h = (
-    λ i l. rw (each-at (h .words) i l, climbs (h .order) i l),
-    (
-      λ i l. le-ltb _ _ (each-at (h .ends) i l),
-      (
-        λ i l. some-none _ i (λ j m. pairs-at (h .apart) i j m l),
-        (
-          λ i l. some-none _ i (λ j m. pairs-at (h .agree) i j m l),
-          (each-at (h .met), tt),
-        ),
-      ),
-    ),
-  )
+  to : Lawful job starts → NoneFits (length starts) (startRows job starts)
+  unfolding endsLate inHandAlready clashes needsUnmet
+  to h =
+      and-row (lawful-formed h .right)
+      (and-row (λ i l. le-ltb _ _ (each-at (h .ends) i l))
+      (and-row (λ i l. some-none _ i (λ j m. pairs-at (h .apart) i j m l))
+      (and-row (λ i l. some-none _ i (λ j m. pairs-at (h .agree) i j m l))
+      (and-row (each-at (h .met))
+      no-row))))
 
   pub lawful : startsRefusal job starts .number ≡ 0 ↔ Lawful job starts
   unfolding startsRefusal
-  lawful = (
-    λ e. from (rows-clear (startRows job starts) (length starts) (omega arith, (omega arith, (omega arith, (omega arith, (omega arith, tt))))) e),
-    λ h. clear-rows (startRows job starts) (length starts) (to h),
-  )
+  lawful = (λ e. from (rows-none (startRows job starts) refl e), λ h. none-rows (to h))

@@ -1,18 +1,16 @@
 -- The needs of an action by the history of a plan. Assumes nothing.
-use mathlib.Core.Bool.{Bool, true, not, _&&_, _||_}
+use mathlib.Core.Bool.{Bool}
 use mathlib.Core.List.{List, [], _∷_}
-use mathlib.Core.Path.{_≡_, refl, ap, sym, _∙_}
+use mathlib.Core.Path.{_≡_, refl, sym, _∙_}
 use Prim.Native.Nat.{ℕ, suc, _+_, _*_, _≤_, _<_}
 use native.Mathlib.Omega.{arith}
 use borrow.Author.Tests.{eqb-true}
-use lib.Dec.{eqb}
 use lib.ListN.{length, getD, drop, length-drop}
 use lib.Seq.{getD-drop}
-use Rattle.words.specs.Fields.{ofKind, kind, fails, holds, fluentOf, roleOf, startMoment, startAction}
+use Rattle.words.specs.Fields.{ofKind, kind, fluentOf, startMoment, startAction}
 use Rattle.words.specs.Scan.{any, takeWhile}
 use Rattle.words.proofs.Scan.{takeWhile-entry}
 use Rattle.job.specs.Parts.{headWord, fluents, actions, lastMoment, lawsOf}
-use Rattle.job.specs.WellFormed.{WellFormed}
 use Rattle.job.proofs.ByPlace.{action-counted, laws-place}
 use Rattle.history.specs.Values.{valueAt}
 use Rattle.starts.specs.Rows.{unmet, unmetAt, needsUnmet}
@@ -42,16 +40,18 @@ module _ {job places history starts : List ℕ} (given : Recorded job places his
           rw (entry .0, same)
           (given .formed .law (p + i) (omega (arith, entry .2, length-drop p job)) (eqb-true (kind (getD job (p + i) 0)) 4 (rw same at (entry .1))))
 
-  pub needs-read : (t : ℕ) → t ≤ lastMoment job → any (unmet (headWord job) (λ f. getD history (t * 64 + f) 0)) (lawsOf job a) ≡ unmetAt job starts t a
+  needs-read : (t : ℕ) → t ≤ lastMoment job → any (unmet (headWord job) (λ f. getD history (t * 64 + f) 0)) (lawsOf job a) ≡ unmetAt job starts t a
   needs-read t m = any-agree _ _ (lawsOf job a) agree
     where
       agree : (i : ℕ) → i < length (lawsOf job a)
           → unmet (headWord job) (λ f. getD history (t * 64 + f) 0) (getD (lawsOf job a) i 0) ≡ unmet (headWord job) (valueAt job starts t) (getD (lawsOf job a) i 0)
       agree i l = rw (given .values .entry t (fluentOf (headWord job) (getD (lawsOf job a) i 0)) m (law-fluent i l))
 
--- row 10 by what the code has read of word i: its action a with its laws, and its moment u
+-- row 10 by what the code has read of word i: its action a with its laws, its moment u, and whether one of them is unmet then
 pub unmet-read : {job places history starts : List ℕ} → Recorded job places history starts → {i : ℕ} → i < length starts
     → {a : ℕ} → a ≡ startAction (getD starts i 0) → {laws : List ℕ} → laws ≡ lawsOf job a → {u : ℕ} → u ≡ startMoment (getD starts i 0)
-    → any (unmet (headWord job) (λ f. getD history (u * 64 + f) 0)) laws ≡ needsUnmet job starts i
+    → {r : Bool} → r ≡ any (unmet (headWord job) (λ f. getD history (u * 64 + f) 0)) laws → needsUnmet job starts i ≡ r
 unfolding needsUnmet
-unmet-read given {i} l ea el eu = let right = right-word (given .words) i l in rw (el, ea, eu) (needs-read given _ (right .action) _ (right .moment))
+unmet-read given {i} l ea el eu er =
+    let right = right-word (given .words) i l in
+    sym (er ∙ rw (el, ea, eu) (needs-read given _ (right .action) _ (right .moment)))

@@ -7,10 +7,10 @@ use Prim.Native.Nat.{ℕ, zero, suc, _^_, _≤_, _<_}
 use native.Mathlib.Omega.{arith}
 use borrow.Author.Tests.{eqb-true}
 use lib.Dec.{eqb}
-use lib.ListN.{length, getD}
+use lib.ListN.{length, getD, drop}
 use Rattle.answers.specs.Rows.{refusalAt, firstOf}
 use Rattle.answers.proofs.Range.{Fitting, pick-fits, refusal-fits, passed-fits, or-fits, first-fits}
-use Rattle.starts.specs.Rows.{wrongWord, endsLate, inHandAlready, clashes, needsUnmet, numbered, rowsRefusal, startsRefusal}
+use Rattle.starts.specs.Rows.{wrongWord, startRows, numbered, rowsRefusal, startsRefusal}
 use Rattle.starts.proofs.Rows.{row-clear}
 use Rattle.starts.proofs.StartsFormed.{few-words}
 
@@ -57,7 +57,7 @@ module _ (job starts : List ℕ) (words : (i : ℕ) → getD starts i 0 < 2 ^ 32
   starts-fit = cases (eqb (firstOf (numbered 6 (wrongWord job starts)) (length starts) .number) 0) refl
     where
       later : List (ℕ × (ℕ → Bool))
-      later = (7, endsLate job starts) ∷ (8, inHandAlready job starts) ∷ (9, clashes job starts) ∷ (10, needsUnmet job starts) ∷ []
+      later = drop 1 (startRows job starts)
 
       cases : (t : Bool) → eqb (firstOf (numbered 6 (wrongWord job starts)) (length starts) .number) 0 ≡ t
           → Fitting (cond t (rowsRefusal later (length starts)) (firstOf (numbered 6 (wrongWord job starts)) (length starts)))

@@ -1,36 +1,37 @@
 -- Rows on the words of a list: one word after the other, and one row after the other. Assumes nothing.
-use mathlib.Core.Bool.{Bool, true, false, cond}
+use mathlib.Core.Bool.{Bool, true, false, cond, _&&_}
 use mathlib.Core.List.{List, [], _∷_}
 use mathlib.Core.Path.{_≡_, refl, ap, sym, _∙_}
 use Prim.Native.Nat.{ℕ, zero, suc, _+_, _≤_, _<_}
 use native.Mathlib.Omega.{arith}
-use borrow.Author.Tests.{eq-eqb, ne-eqb}
-use lib.Dec.{eqb}
+use borrow.Author.Tests.{ltb-true, eq-eqb, ne-eqb}
+use lib.Dec.{eqb, ltb}
 use lib.ListN.{length, take, drop}
+use Rattle.words.proofs.Choices.{both-true}
 use Rattle.answers.specs.declared.Refusal.{Refusal}
 use Rattle.answers.specs.Rows.{refusal, passed, firstRefusal, refusalAt, firstOf}
 use Rattle.answers.proofs.Rows.{or-none, first-start, first-more, first-found, first-none}
 use Rattle.starts.specs.Rows.{needsUnmet, startRows, timeRows, numbered, rowsRefusal, startsRefusal}
 
 -- a row's loop at word i of n: it fits none of the words before
-pub record Passing (number : ℕ) (test : ℕ → Bool) (n i : ℕ) : Type 0 where
+pub record Tried (number : ℕ) (test : ℕ → Bool) (n i : ℕ) : Type 0 where
   pub inside : i ≤ n
   pub none : firstOf (numbered number test) i ≡ passed
 
 module _ {number : ℕ} {test : ℕ → Bool} {n : ℕ} where
-  pub passing-start : Passing number test n 0
-  passing-start = record { inside = omega arith; none = first-start _ }
+  pub tried-start : Tried number test n 0
+  tried-start = record { inside = omega arith; none = first-start _ }
 
-  pub passing-more : {i : ℕ} → Passing number test n i → i < n → test i ≡ false → Passing number test n (i + 1)
-  passing-more {i} p l e = record { inside = omega arith; none = first-more (numbered number test) i (p .none) (rw e) }
+  pub tried-more : {i : ℕ} → Tried number test n i → i < n → test i ≡ false → Tried number test n (i + 1)
+  tried-more {i} p l e = record { inside = omega arith; none = first-more (numbered number test) i (p .none) (rw e) }
 
-  pub passing-found : {i : ℕ} → Passing number test n i → 0 < number → i < n → test i ≡ true → refusal number i ≡ firstOf (numbered number test) n
-  passing-found {i} p k l e =
+  pub tried-found : {i : ℕ} → Tried number test n i → 0 < number → i < n → test i ≡ true → refusal number i ≡ firstOf (numbered number test) n
+  tried-found {i} p k l e =
       let same : numbered number test i ≡ number = rw e in
       sym (rw same at (first-found (numbered number test) i n (p .none) (λ z. omega arith) l))
 
-  pub passing-end : {i : ℕ} → Passing number test n i → n ≤ i → passed ≡ firstOf (numbered number test) n
-  passing-end {i} p l = let e : i ≡ n = omega (arith, p .inside) in rw (← e) (sym (p .none))
+  pub tried-end : {i : ℕ} → Tried number test n i → n ≤ i → passed ≡ firstOf (numbered number test) n
+  tried-end {i} p l = let e : i ≡ n = omega (arith, p .inside) in rw (← e) (sym (p .none))
 
 module _ (number : ℕ) (test : ℕ → Bool) where
   -- a row with no number fits no word, and the other way round
@@ -47,25 +48,27 @@ module _ (number : ℕ) (test : ℕ → Bool) where
   clear-row (suc n) h = rw (clear-row n (λ i l. h i (omega arith)), h n (omega arith))
 
 -- no row of a list fits one of n words
-abbrev pub Clear : List (ℕ × (ℕ → Bool)) → ℕ → Type 0
-Clear [] n = Unit {0}
-Clear (row ∷ rest) n = ((i : ℕ) → i < n → row .1 i ≡ false) × Clear rest n
+pub data NoneFits (n : ℕ) : List (ℕ × (ℕ → Bool)) → Type 0 where
+  no-row : NoneFits n []
+  and-row : {row : ℕ × (ℕ → Bool)} {rest : List (ℕ × (ℕ → Bool))} → ((i : ℕ) → i < n → row .1 i ≡ false) → NoneFits n rest → NoneFits n (row ∷ rest)
 
-abbrev pub Positive : List (ℕ × (ℕ → Bool)) → Type 0
-Positive [] = Unit {0}
-Positive (row ∷ rest) = (0 < row .0) × Positive rest
+-- no number of a row is 0
+abbrev pub positive : List (ℕ × (ℕ → Bool)) → Bool
+positive [] = true
+positive (row ∷ rest) = ltb 0 (row .0) && positive rest
 
-pub rows-clear : (rows : List (ℕ × (ℕ → Bool))) (n : ℕ) → Positive rows → rowsRefusal rows n .number ≡ 0 → Clear rows n
+pub rows-none : (rows : List (ℕ × (ℕ → Bool))) {n : ℕ} → positive rows ≡ true → rowsRefusal rows n .number ≡ 0 → NoneFits n rows
 unfolding rowsRefusal
-rows-clear [] n p e = tt
-rows-clear (row ∷ rest) n p e =
+rows-none [] p e = no-row
+rows-none (row ∷ rest) {n} p e =
+    let q = both-true (ltb 0 (row .0)) (positive rest) p in
     let h = or-none (firstOf (numbered (row .0) (row .1)) n) (rowsRefusal rest n) e in
-    (row-clear (row .0) (row .1) n (p .0) (h .0), rows-clear rest n (p .1) (h .1))
+    and-row (row-clear (row .0) (row .1) n (ltb-true 0 (row .0) (q .0)) (h .0)) (rows-none rest (q .1) (h .1))
 
-pub clear-rows : (rows : List (ℕ × (ℕ → Bool))) (n : ℕ) → Clear rows n → rowsRefusal rows n .number ≡ 0
+pub none-rows : {rows : List (ℕ × (ℕ → Bool))} {n : ℕ} → NoneFits n rows → rowsRefusal rows n .number ≡ 0
 unfolding rowsRefusal
-clear-rows [] n c = refl
-clear-rows (row ∷ rest) n c = rw (clear-row (row .0) (row .1) n (c .0)) (clear-rows rest n (c .1))
+none-rows no-row = refl
+none-rows (and-row {row} h rest) = rw (clear-row (row .0) (row .1) _ h) (none-rows rest)
 
 -- rows one after the other: the first of them, whose answer is r, fits a word; it fits none; it is the last
 module _ (number : ℕ) (test : ℕ → Bool) (n : ℕ) (rest : List (ℕ × (ℕ → Bool))) {r : Refusal} (is : r ≡ firstOf (numbered number test) n) where
@@ -112,8 +115,16 @@ rows-split (suc k) (row ∷ rest) n =
     ap (firstRefusal first) (rows-split k rest n) ∙ or-grouped first (rowsRefusal (take k rest) n) (rowsRefusal (drop k rest) n)
 
 -- rows 6 to 9, and then row 10
-pub starts-by-rows : (job starts : List ℕ)
-    → startsRefusal job starts
-    ≡ firstRefusal (rowsRefusal (timeRows job starts) (length starts)) (firstOf (numbered 10 (needsUnmet job starts)) (length starts))
-unfolding startsRefusal
-starts-by-rows job starts = rw (rows-last 10 (needsUnmet job starts) (length starts)) (rows-split 4 (startRows job starts) (length starts))
+module _ (job starts : List ℕ) where
+  pub starts-by-rows : startsRefusal job starts
+      ≡ firstRefusal (rowsRefusal (timeRows job starts) (length starts)) (firstOf (numbered 10 (needsUnmet job starts)) (length starts))
+  unfolding startsRefusal
+  starts-by-rows = rw (rows-last 10 (needsUnmet job starts) (length starts)) (rows-split 4 (startRows job starts) (length starts))
+
+  -- rows 6 to 9, whose answer is r, fit a word; they fit none
+  module _ {r : Refusal} (is : r ≡ rowsRefusal (timeRows job starts) (length starts)) where
+    pub starts-found : (r .number ≡ 0 → ⊥) → r ≡ startsRefusal job starts
+    starts-found h = rw (starts-by-rows, ← is, ne-eqb (r .number) 0 h)
+
+    pub starts-next : r .number ≡ 0 → {needs : Refusal} → needs ≡ firstOf (numbered 10 (needsUnmet job starts)) (length starts) → needs ≡ startsRefusal job starts
+    starts-next h e = rw (starts-by-rows, ← is, eq-eqb (r .number) 0 h) e

@@ -1,7 +1,7 @@
 -- Starts that row 6 does not fit: each is a start of the job, and their moments ascend. Assumes nothing.
-use mathlib.Core.Bool.{Bool, true, false}
+use mathlib.Core.Bool.{true, false}
 use mathlib.Core.List.{List}
-use mathlib.Core.Path.{_≡_}
+use mathlib.Core.Path.{_≡_, refl}
 use Prim.Native.Nat.{ℕ, zero, suc, _+_, _-_, _*_, _^_, _≤_, _<_}
 use native.Mathlib.Decide.{decLt}
 use native.Mathlib.Omega.{arith}
@@ -14,6 +14,7 @@ use Rattle.job.specs.Parts.{actions, lastMoment}
 use Rattle.history.specs.Actions.{finish}
 use Rattle.history.specs.Tables.{Durations, Named}
 use Rattle.history.proofs.Moments.{finish-tabled}
+use Rattle.answers.specs.declared.Refusal.{Refusal}
 use Rattle.answers.specs.Rows.{firstOf}
 use Rattle.answers.proofs.Rows.{or-none}
 use Rattle.starts.specs.Rows.{isStart, ascends, wrongWord, timeRows, numbered, rowsRefusal, startsRefusal}
@@ -54,16 +55,16 @@ module _ (job starts : List ℕ) (i : ℕ) (h : wrongWord job starts i ≡ false
       let e : eqb i 0 ≡ false = ne-eqb i 0 (λ z. omega arith) in
       ltb-true _ _ (rw e at (parts .1))
 
--- once row 6 gives no number; once no row of 6 to 9 does; once no row does
-pub worded : (job starts : List ℕ) → firstOf (numbered 6 (wrongWord job starts)) (length starts) .number ≡ 0 → StartsFormed job starts
-worded job starts e = record { right = row-clear 6 (wrongWord job starts) (length starts) (omega arith) e }
+-- once row 6, rows 6 to 9, or all rows give no number
+pub row-passed : {job starts : List ℕ} {r : Refusal} → r ≡ firstOf (numbered 6 (wrongWord job starts)) (length starts) → r .number ≡ 0 → StartsFormed job starts
+row-passed {job} {starts} is e = record { right = row-clear 6 (wrongWord job starts) (length starts) (omega arith) (rw is at e) }
 
-pub times-passed : (job starts : List ℕ) → rowsRefusal (timeRows job starts) (length starts) .number ≡ 0 → StartsFormed job starts
+pub times-passed : {job starts : List ℕ} {r : Refusal} → r ≡ rowsRefusal (timeRows job starts) (length starts) → r .number ≡ 0 → StartsFormed job starts
 unfolding rowsRefusal
-times-passed job starts e = worded job starts (or-none (firstOf (numbered 6 (wrongWord job starts)) (length starts)) _ e .0)
+times-passed is e = row-passed refl (or-none _ _ (rw is at e) .0)
 
 pub starts-passed : (job starts : List ℕ) → startsRefusal job starts .number ≡ 0 → StartsFormed job starts
-starts-passed job starts e = times-passed job starts (or-none _ _ (rw (starts-by-rows job starts) at e) .0)
+starts-passed job starts e = times-passed refl (or-none _ _ (rw (starts-by-rows job starts) at e) .0)
 
 pub right-word : {job starts : List ℕ} → StartsFormed job starts → (i : ℕ) → i < length starts → Right job (getD starts i 0)
 right-word h i l = right-at _ _ i (h .right i l)
@@ -116,27 +117,13 @@ module _ (job starts : List ℕ) (words : (i : ℕ) → getD starts i 0 < 2 ^ 32
       cases (yes l) = absurd (omega (arith, rises n h 4096 l, word-is (right-at job starts 4096 (h 4096 l)) (words 4096)))
       cases (no l) = omega arith
 
-  module _ (h : StartsFormed job starts) where
-    -- so do their moments, strictly where the action is the same
-    module _ (i j : ℕ) (l : j < i) (m : i < length starts) where
-      pub moments-ascend : startMoment (getD starts j 0) ≤ startMoment (getD starts i 0)
-      moments-ascend =
-          let e = word-is (right-word h j (omega arith)) (words j) in
-          let e' = word-is (right-word h i m) (words i) in
-          let above = words-ascend h i j l m in
-          ordered (getD starts j 0) (getD starts i 0) e e' above
-        where
-          ordered : (s s' : ℕ) → s ≡ 2415919104 + startMoment s * 64 + startAction s → s' ≡ 2415919104 + startMoment s' * 64 + startAction s' → s < s'
-              → startMoment s ≤ startMoment s'
-          ordered s s' e e' l = omega arith
+-- words that ascend have moments that do, strictly where the action is the same
+ordered : {s s' : ℕ} → s ≡ 2415919104 + startMoment s * 64 + startAction s → s' ≡ 2415919104 + startMoment s' * 64 + startAction s' → s < s'
+    → (startMoment s ≤ startMoment s') × (startAction s ≡ startAction s' → startMoment s < startMoment s')
+ordered e e' l = (omega arith, λ a. omega arith)
 
-      pub moments-differ : startAction (getD starts j 0) ≡ startAction (getD starts i 0) → startMoment (getD starts j 0) < startMoment (getD starts i 0)
-      moments-differ a =
-          let e = word-is (right-word h j (omega arith)) (words j) in
-          let e' = word-is (right-word h i m) (words i) in
-          let above = words-ascend h i j l m in
-          ordered (getD starts j 0) (getD starts i 0) e e' above a
-        where
-          ordered : (s s' : ℕ) → s ≡ 2415919104 + startMoment s * 64 + startAction s → s' ≡ 2415919104 + startMoment s' * 64 + startAction s' → s < s'
-              → startAction s ≡ startAction s' → startMoment s < startMoment s'
-          ordered s s' e e' l a = omega arith
+pub moments-ordered : {job starts : List ℕ} → StartsFormed job starts → ((i : ℕ) → getD starts i 0 < 2 ^ 32) → {i j : ℕ} → j < i → i < length starts
+    → (startMoment (getD starts j 0) ≤ startMoment (getD starts i 0))
+    × (startAction (getD starts j 0) ≡ startAction (getD starts i 0) → startMoment (getD starts j 0) < startMoment (getD starts i 0))
+moments-ordered h words {i} {j} l m =
+    ordered (word-is (right-word h j (omega arith)) (words j)) (word-is (right-word h i m) (words i)) (words-ascend h i j l m)

@@ -1,7 +1,7 @@
 -- The rows on starts: each is a test on (job, starts, position). `startRows` has them in their order.
-use mathlib.Core.Bool.{Bool, false, not, cond, _&&_, _||_}
+use mathlib.Core.Bool.{Bool, not, cond, _&&_, _||_}
 use mathlib.Core.List.{List, [], _∷_}
-use Prim.Native.Nat.{ℕ, zero, suc, _+_, _-_}
+use Prim.Native.Nat.{ℕ, _+_, _-_}
 use lib.Dec.{eqb, leb, ltb}
 use lib.ListN.{getD, length, take}
 use Rattle.words.specs.Fields.{kind, fails, holds, fluentOf, roleOf, startMoment, startAction, startSpare}

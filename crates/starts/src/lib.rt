@@ -4,10 +4,10 @@ ghost use lib.ListN.{length};
 ghost use Rattle.starts.specs.Rows.{timeRows, rowsRefusal};
 ghost use Rattle.starts.specs.Given.{Tabled};
 
-pub mod clashes;
-pub mod order;
-pub mod times;
-pub mod unmet;
+mod clashes;
+mod order;
+mod times;
+mod unmet;
 
 use answers::Refusal;
 pub use clashes::first_clash;

@@ -1,9 +1,8 @@
 -- `starts::check_times` meets its contract: at each `return` the rows before fit no word. Assumes nothing.
-use mathlib.Core.Path.{_≡_, ap, sym, _∙_}
-use Rattle.answers.specs.declared.Refusal.{Refusal}
-use Rattle.starts.specs.Given.{StartsFormed, Timed}
+use mathlib.Core.Path.{_∙_}
+use Rattle.starts.specs.Given.{Timed}
 use Rattle.starts.proofs.Rows.{rows-found, rows-next, rows-last}
-use Rattle.starts.proofs.StartsFormed.{worded}
+use Rattle.starts.proofs.StartsFormed.{row-passed}
 use borrow.Author.Needs.{needs}
 use Rattle.starts.proofs.check_times.Statement.{statement}
 use Rattle.starts.proofs.check_times.Tie as tie
@@ -12,12 +11,15 @@ use Rattle.starts.proofs.check_times.Tie as tie
 abbrev entry : tie.Else1 → tie.Start
 entry c = c .before .before .before .before .before
 
+abbrev six : tie.Else3 → tie.Else1
+six c = c .before .before .before .before .before .before
+
 -- row 6 fits no word
 timed : (c : tie.Else1) → Timed (entry c .args .job .now) (entry c .args .durations .now) (entry c .args .starts .now)
 timed c = record {
   formed = entry c .pre .formed;
   lasts = entry c .pre .lasts;
-  words = worded _ _ (sym (ap (λ (r : Refusal). r .number) (c .before .before .wrong-word .ensures)) ∙ c .if1 .left);
+  words = row-passed (c .before .before .wrong-word .ensures) (c .if1 .left);
 }
 
 returns : tie.Need-returns
@@ -57,5 +59,5 @@ check-times-spec =
     returns-2
     (λ c κs. timed (c .before .before .before))
     returns-3
-    (λ c κs. let six = c .before .before .before .before .before .before in (timed six, entry six .pre .makes))
+    (λ c κs. (timed (six c), entry (six c) .pre .makes))
     returns-4)

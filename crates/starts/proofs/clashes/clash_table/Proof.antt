@@ -1,6 +1,6 @@
 -- `starts::clashes::clash_table` meets its contract. The invariant: the entries below `k` are right. Assumes nothing.
 use mathlib.Core.Path.{refl}
-use Prim.Native.Nat.{ℕ, _-_, _≤_}
+use Prim.Native.Nat.{_-_, _≤_}
 use Rattle.starts.proofs.ClashTable.{Entered, entered-start, entered-more, entered-all}
 use native.Mathlib.Omega.{arith}
 use Rattle.starts.proofs.clashes.clash_table.Statement.{statement}
@@ -15,12 +15,6 @@ abbrev μ-loop : tie.MeasureT-loop
 loop-holds : tie.Need-loop-holds Inv-loop μ-loop
 loop-holds c = (omega arith, entered-start _ _ (refl {a = 4096}))
 
-clash-entry-requires : tie.Need-clash-entry-requires Inv-loop μ-loop
-clash-entry-requires c κs = c .before .before .before .pre
-
-array-write-table : tie.Need-array-write-table Inv-loop μ-loop
-array-write-table c = omega (arith, c .before .before .loop .inv .1 .size)
-
 loop-again : tie.Need-loop-again Inv-loop μ-loop
 loop-again c = (omega arith, entered-more _ _ _ _ (c .before .before .loop .inv .1) (c .before .loop-test .taken) (c .clash-entry .ensures))
 
@@ -34,8 +28,8 @@ clash-table-spec =
     Inv-loop
     μ-loop
     loop-holds
-    clash-entry-requires
-    array-write-table
+    (λ c κs. c .before .before .before .pre)
+    (λ c. omega (arith, c .before .before .loop .inv .1 .size))
     (λ c. omega arith)
     (λ c. omega arith)
     loop-again

@@ -1,5 +1,4 @@
 -- `starts::clashes::clashes_after` meets its contract. The invariant: no action below `a` clashes and is in hand. Assumes nothing.
-use mathlib.Core.Path.{_≡_}
 use Prim.Native.Nat.{_-_, _<_}
 use Rattle.job.specs.Parts.{actions}
 use Rattle.starts.specs.Latest.{clashesAfter}

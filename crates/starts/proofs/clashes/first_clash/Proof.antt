@@ -5,16 +5,16 @@ use Prim.Native.Nat.{ℕ, _-_, _<_, _^_}
 use lib.ListN.{length, getD}
 use Rattle.starts.specs.Rows.{clashes}
 use Rattle.starts.specs.Latest.{Latest}
-use Rattle.starts.proofs.Rows.{Passing, passing-start, passing-more, passing-found, passing-end}
+use Rattle.starts.proofs.Rows.{Tried, tried-start, tried-more, tried-found, tried-end}
 use Rattle.starts.proofs.StartsFormed.{right-word}
-use Rattle.starts.proofs.LatestFinish.{latest-start, latest-stored, latest-clash}
+use Rattle.starts.proofs.LatestFinish.{latest-start, latest-more, latest-clash}
 use borrow.Author.Needs.{needs}
 use native.Mathlib.Omega.{arith}
 use Rattle.starts.proofs.clashes.first_clash.Statement.{statement}
 use Rattle.starts.proofs.clashes.first_clash.Tie as tie
 
 abbrev Inv-loop : tie.InvT-loop
-Inv-loop job durations effects starts table latest₀ i₀ latest i = Passing 9 (clashes job starts) (length starts) i × Latest job starts i latest
+Inv-loop job durations effects starts table latest₀ i₀ latest i = Tried 9 (clashes job starts) (length starts) i × Latest job starts i latest
 
 abbrev μ-loop : tie.MeasureT-loop
 μ-loop job durations effects starts table latest₀ i₀ latest i = length starts - i
@@ -56,7 +56,7 @@ clashes-after-requires c κs =
 
 returns : tie.Need-returns Inv-loop μ-loop
 returns c =
-    passing-found (turn (body (c .before)) .loop .inv .0) (omega arith) (body (c .before) .before .before .loop-test .taken)
+    tried-found (turn (body (c .before)) .loop .inv .0) (omega arith) (body (c .before) .before .before .loop-test .taken)
     (value (c .before) ∙ c .if1 .taken)
 
 finish-of-requires : tie.Need-finish-of-requires Inv-loop μ-loop
@@ -69,8 +69,8 @@ loop-again : tie.Need-loop-again Inv-loop μ-loop
 loop-again c =
     let here = body (c .before .before) in
     let inside = here .before .before .loop-test .taken in (
-      passing-more (turn here .loop .inv .0) inside (value (c .before .before) ∙ c .before .if1 .left),
-      latest-stored (entry here .pre .0) (words here) inside (turn here .loop .inv .1) (here .start-action .ensures .0) (c .finish-of .ensures),
+      tried-more (turn here .loop .inv .0) inside (value (c .before .before) ∙ c .before .if1 .left),
+      latest-more (entry here .pre .0) (words here) inside (turn here .loop .inv .1) (here .start-action .ensures .0) (c .finish-of .ensures),
     )
 
 pub first-clash-spec : {M : Type 1} → statement M
@@ -80,7 +80,7 @@ first-clash-spec =
     Inv-loop
     μ-loop
     clash-table-requires
-    (λ c. (passing-start, latest-start _ _))
+    (λ c. (tried-start, latest-start _ _))
     (λ c. omega arith)
     (λ c. omega arith)
     (λ c κs. search needs)
@@ -93,4 +93,4 @@ first-clash-spec =
     (λ c. omega arith)
     (λ c. omega arith)
     loop-again
-    (λ c. passing-end (c .before .loop .inv .0) (omega arith)))
+    (λ c. tried-end (c .before .loop .inv .0) (omega arith)))

@@ -2,13 +2,13 @@
 use Prim.Native.Nat.{_-_}
 use lib.ListN.{length}
 use Rattle.starts.specs.Rows.{wrongWord}
-use Rattle.starts.proofs.Rows.{Passing, passing-start, passing-more, passing-found, passing-end}
+use Rattle.starts.proofs.Rows.{Tried, tried-start, tried-more, tried-found, tried-end}
 use native.Mathlib.Omega.{arith}
 use Rattle.starts.proofs.order.wrong_word.Statement.{statement}
 use Rattle.starts.proofs.order.wrong_word.Tie as tie
 
 abbrev Inv-loop : tie.InvT-loop
-Inv-loop job starts i₀ i = Passing 6 (wrongWord job starts) (length starts) i
+Inv-loop job starts i₀ i = Tried 6 (wrongWord job starts) (length starts) i
 
 abbrev μ-loop : tie.MeasureT-loop
 μ-loop job starts i₀ i = length starts - i
@@ -26,13 +26,13 @@ is-start-requires c κs = entry c .pre .some
 returns : tie.Need-returns Inv-loop μ-loop
 unfolding wrongWord
 returns c =
-    passing-found (turn (c .before) .loop .inv) (omega arith) (omega arith)
+    tried-found (turn (c .before) .loop .inv) (omega arith) (omega arith)
     (rw (← c .before .before .is-start .ensures, ← c .before .is-above .ensures) (c .if1 .taken))
 
 loop-again : tie.Need-loop-again Inv-loop μ-loop
 unfolding wrongWord
 loop-again c =
-    passing-more (turn (c .before) .loop .inv) (omega arith)
+    tried-more (turn (c .before) .loop .inv) (omega arith)
     (rw (← c .before .before .is-start .ensures, ← c .before .is-above .ensures) (c .if1 .left))
 
 pub wrong-word-spec : {M : Type 1} → statement M
@@ -41,7 +41,7 @@ wrong-word-spec =
     (tie.spec
     Inv-loop
     μ-loop
-    (λ c. passing-start)
+    (λ c. tried-start)
     (λ c. omega arith)
     (λ c. omega arith)
     is-start-requires
@@ -50,4 +50,4 @@ wrong-word-spec =
     (λ c. omega arith)
     (λ c. omega arith)
     loop-again
-    (λ c. passing-end (c .before .loop .inv) (omega arith)))
+    (λ c. tried-end (c .before .loop .inv) (omega arith)))

@@ -5,7 +5,7 @@ use lib.ListN.{length, getD}
 use borrow.Author.Tests.{lt-ltb, le-ltb}
 use Rattle.history.specs.Actions.{finish}
 use Rattle.starts.specs.Rows.{endsLate}
-use Rattle.starts.proofs.Rows.{Passing, passing-start, passing-more, passing-found, passing-end}
+use Rattle.starts.proofs.Rows.{Tried, tried-start, tried-more, tried-found, tried-end}
 use Rattle.starts.proofs.StartsFormed.{finish-is}
 use borrow.Author.Needs.{needs}
 use native.Mathlib.Omega.{arith}
@@ -13,7 +13,7 @@ use Rattle.starts.proofs.times.late_end.Statement.{statement}
 use Rattle.starts.proofs.times.late_end.Tie as tie
 
 abbrev Inv-loop : tie.InvT-loop
-Inv-loop job durations starts last i₀ i = Passing 7 (endsLate job starts) (length starts) i
+Inv-loop job durations starts last i₀ i = Tried 7 (endsLate job starts) (length starts) i
 
 abbrev μ-loop : tie.MeasureT-loop
 μ-loop job durations starts last i₀ i = length starts - i
@@ -34,23 +34,20 @@ ends c =
     let pre = entry (c .before) .pre in
     c .finish-of .ensures ∙ finish-is (pre .lasts) (pre .words) _ (c .before .before .loop-test .taken)
 
-shared-slice-read-last-of : tie.Need-shared-slice-read-last-of Inv-loop μ-loop
-shared-slice-read-last-of c = c .before .before .before .pre .formed .some
-
 finish-of-requires : tie.Need-finish-of-requires Inv-loop μ-loop
 finish-of-requires c κs = entry c .pre .lasts .small _
 
 returns : tie.Need-returns Inv-loop μ-loop
 unfolding endsLate
 returns c =
-    passing-found (turn (c .before) .loop .inv) (omega arith) (omega arith)
-    (rw (← after-last-of (c .before) .last-of .ensures .0, ← ends (c .before)) (lt-ltb _ _ (c .if1 .taken)))
+    tried-found (turn (c .before) .loop .inv) (omega arith) (omega arith)
+    (rw (← after-last-of (c .before) .last-of .ensures .0, ← ends (c .before)) (lt-ltb (after-last-of (c .before) .last-of .result) (c .before .finish-of .result) (omega arith)))
 
 loop-again : tie.Need-loop-again Inv-loop μ-loop
 unfolding endsLate
 loop-again c =
-    passing-more (turn (c .before) .loop .inv) (omega arith)
-    (rw (← after-last-of (c .before) .last-of .ensures .0, ← ends (c .before)) (le-ltb _ _ (c .if1 .left)))
+    tried-more (turn (c .before) .loop .inv) (omega arith)
+    (rw (← after-last-of (c .before) .last-of .ensures .0, ← ends (c .before)) (le-ltb (after-last-of (c .before) .last-of .result) (c .before .finish-of .result) (omega arith)))
 
 pub late-end-spec : {M : Type 1} → statement M
 late-end-spec =
@@ -58,9 +55,9 @@ late-end-spec =
     (tie.spec
     Inv-loop
     μ-loop
-    shared-slice-read-last-of
+    (λ c. search needs)
     (λ c κs. search needs)
-    (λ c. passing-start)
+    (λ c. tried-start)
     (λ c. omega arith)
     (λ c. omega arith)
     finish-of-requires
@@ -68,4 +65,4 @@ late-end-spec =
     (λ c. omega arith)
     (λ c. omega arith)
     loop-again
-    (λ c. passing-end (c .before .loop .inv) (omega arith)))
+    (λ c. tried-end (c .before .loop .inv) (omega arith)))

@@ -7,15 +7,15 @@ use lib.Dec.{ltb}
 use borrow.Author.Tests.{lt-ltb, le-ltb}
 use Rattle.starts.specs.Rows.{inHandAlready}
 use Rattle.starts.specs.Latest.{Latest}
-use Rattle.starts.proofs.Rows.{Passing, passing-start, passing-more, passing-found, passing-end}
-use Rattle.starts.proofs.LatestFinish.{latest-start, latest-stored, latest-restart}
+use Rattle.starts.proofs.Rows.{Tried, tried-start, tried-more, tried-found, tried-end}
+use Rattle.starts.proofs.LatestFinish.{latest-start, latest-more, latest-restart}
 use borrow.Author.Needs.{needs}
 use native.Mathlib.Omega.{arith}
 use Rattle.starts.proofs.times.restart.Statement.{statement}
 use Rattle.starts.proofs.times.restart.Tie as tie
 
 abbrev Inv-loop : tie.InvT-loop
-Inv-loop job durations starts latest₀ i₀ latest i = Passing 8 (inHandAlready job starts) (length starts) i × Latest job starts i latest
+Inv-loop job durations starts latest₀ i₀ latest i = Tried 8 (inHandAlready job starts) (length starts) i × Latest job starts i latest
 
 abbrev μ-loop : tie.MeasureT-loop
 μ-loop job durations starts latest₀ i₀ latest i = length starts - i
@@ -41,7 +41,8 @@ value c =
 
 returns : tie.Need-returns Inv-loop μ-loop
 returns c =
-    passing-found (turn (c .before .before) .loop .inv .0) (omega arith) (c .before .before .before .before .loop-test .taken)
+    let body = c .before .before in
+    tried-found (turn body .loop .inv .0) (omega arith) (body .before .before .loop-test .taken)
     (value (c .before) ∙ lt-ltb _ _ (c .if1 .taken))
 
 finish-of-requires : tie.Need-finish-of-requires Inv-loop μ-loop
@@ -51,8 +52,8 @@ loop-again : tie.Need-loop-again Inv-loop μ-loop
 loop-again c =
     let body = c .before .before .before in
     let inside = body .before .before .loop-test .taken in (
-      passing-more (turn body .loop .inv .0) inside (value (c .before .before) ∙ le-ltb _ _ (c .before .if1 .left)),
-      latest-stored (entry body .pre) (words body) inside (turn body .loop .inv .1) (body .start-action .ensures .0) (c .finish-of .ensures),
+      tried-more (turn body .loop .inv .0) inside (value (c .before .before) ∙ le-ltb _ _ (c .before .if1 .left)),
+      latest-more (entry body .pre) (words body) inside (turn body .loop .inv .1) (body .start-action .ensures .0) (c .finish-of .ensures),
     )
 
 pub restart-spec : {M : Type 1} → statement M
@@ -61,7 +62,7 @@ restart-spec =
     (tie.spec
     Inv-loop
     μ-loop
-    (λ c. (passing-start, latest-start _ _))
+    (λ c. (tried-start, latest-start _ _))
     (λ c. omega arith)
     (λ c. omega arith)
     (λ c κs. search needs)
@@ -75,4 +76,4 @@ restart-spec =
     (λ c. omega arith)
     (λ c. omega arith)
     loop-again
-    (λ c. passing-end (c .before .loop .inv .0) (omega arith)))
+    (λ c. tried-end (c .before .loop .inv .0) (omega arith)))

@@ -1,9 +1,9 @@
 -- `starts::unmet::check_needs` meets its contract. The invariant: the row fits no word before `i`. Assumes nothing.
-use mathlib.Core.Path.{_≡_, sym, _∙_}
+use mathlib.Core.Path.{_≡_, _∙_}
 use Prim.Native.Nat.{_-_}
 use lib.ListN.{length}
 use Rattle.starts.specs.Rows.{needsUnmet}
-use Rattle.starts.proofs.Rows.{Passing, passing-start, passing-more, passing-found, passing-end}
+use Rattle.starts.proofs.Rows.{Tried, tried-start, tried-more, tried-found, tried-end}
 use Rattle.starts.proofs.Needs.{unmet-read}
 use Rattle.starts.proofs.StartsFormed.{right-word}
 use borrow.Author.Needs.{needs}
@@ -12,7 +12,7 @@ use Rattle.starts.proofs.unmet.check_needs.Statement.{statement}
 use Rattle.starts.proofs.unmet.check_needs.Tie as tie
 
 abbrev Inv-loop : tie.InvT-loop
-Inv-loop job places history starts head i₀ i = Passing 10 (needsUnmet job starts) (length starts) i
+Inv-loop job places history starts head i₀ i = Tried 10 (needsUnmet job starts) (length starts) i
 
 abbrev μ-loop : tie.MeasureT-loop
 μ-loop job places history starts head i₀ i = length starts - i
@@ -24,15 +24,15 @@ entry c = c .before .before .before .before .before .before .before
 abbrev turn : tie.After-start-action Inv-loop μ-loop → tie.At-loop Inv-loop μ-loop
 turn c = c .before .before .before
 
+abbrev body : tie.After-has-unmet Inv-loop μ-loop → tie.After-start-action Inv-loop μ-loop
+body c = c .before .before .before
+
 -- what is tested of word i is whether its needs are unmet
 value : (c : tie.After-has-unmet Inv-loop μ-loop)
-    → let body = c .before .before .before in
-    needsUnmet (entry body .args .job .now) (entry body .args .starts .now) (turn body .loop .i) ≡ c .has-unmet .result
+    → needsUnmet (entry (body c) .args .job .now) (entry (body c) .args .starts .now) (turn (body c) .loop .i) ≡ c .has-unmet .result
 value c =
-    let body = c .before .before .before in
-    sym (c .has-unmet .ensures
-    ∙ unmet-read (entry body .pre) (body .before .before .loop-test .taken)
-    (body .start-action .ensures .0) (c .before .before .laws-of .ensures) (c .before .start-moment .ensures .0))
+    unmet-read (entry (body c) .pre) (body c .before .before .loop-test .taken)
+    (body c .start-action .ensures .0) (c .before .before .laws-of .ensures) (c .before .start-moment .ensures .0) (c .has-unmet .ensures)
 
 laws-of-requires : tie.Need-laws-of-requires Inv-loop μ-loop
 laws-of-requires c κs =
@@ -41,13 +41,13 @@ laws-of-requires c κs =
 
 returns : tie.Need-returns Inv-loop μ-loop
 returns c =
-    let body = c .before .before .before .before in
-    passing-found (turn body .loop .inv) (omega arith) (body .before .before .loop-test .taken) (value (c .before) ∙ c .if1 .taken)
+    let here = body (c .before) in
+    tried-found (turn here .loop .inv) (omega arith) (here .before .before .loop-test .taken) (value (c .before) ∙ c .if1 .taken)
 
 loop-again : tie.Need-loop-again Inv-loop μ-loop
 loop-again c =
-    let body = c .before .before .before .before in
-    passing-more (turn body .loop .inv) (body .before .before .loop-test .taken) (value (c .before) ∙ c .if1 .left)
+    let here = body (c .before) in
+    tried-more (turn here .loop .inv) (here .before .before .loop-test .taken) (value (c .before) ∙ c .if1 .left)
 
 pub check-needs-spec : {M : Type 1} → statement M
 check-needs-spec =
@@ -56,7 +56,7 @@ check-needs-spec =
     Inv-loop
     μ-loop
     (λ c. search needs)
-    (λ c. passing-start)
+    (λ c. tried-start)
     (λ c. search needs)
     (λ c. search needs)
     (λ c κs. search needs)
@@ -67,4 +67,4 @@ check-needs-spec =
     (λ c. search needs)
     (λ c. search needs)
     loop-again
-    (λ c. passing-end (c .before .loop .inv) (omega arith)))
+    (λ c. tried-end (c .before .loop .inv) (omega arith)))

@@ -1,6 +1,6 @@
 -- `starts::unmet::has_unmet` meets its contract. The invariant: the first law that is not met stands at `i` or after. Assumes nothing.
 use mathlib.Core.Path.{_≡_, refl, sym, _∙_}
-use Prim.Native.Nat.{ℕ, _+_, _-_, _*_, _≤_}
+use Prim.Native.Nat.{_+_, _-_, _*_, _≤_}
 use lib.ListN.{length, getD, drop}
 use Rattle.words.specs.Scan.{any}
 use Rattle.words.proofs.Scan.{any-hit, any-miss, any-end}
