@@ -1,0 +1,2 @@
+-- What passes between functions: Buffers (what the two files leave in their buffers).
+pub mod Buffers
