@@ -24,14 +24,14 @@ pub answered : (job plan before after out : List ℕ) (s r : ℕ) (a : Answer) �
     → Outcome job (take s plan) (take (length plan - s) (drop s plan)) before a after → Written (reportOf a after) out r
     → Counts r out × Answered job plan (take r out)
 answered job plan before after out s r a fresh ends outcome text = (
-  (text .within, text .counted),
+  text .counts,
   record { answer = a; after = after; outcome = rw (fresh, starts-before plan s ends, facts-after plan s ends) at outcome; reported = text .reads },
 )
 
 -- a bad file, and two good files
 module _ (job plan : List ℕ) where
   pub reply-bad : (out : List ℕ) (r : ℕ) → goodFiles job plan ≡ false → Written badFile out r → Counts r out × Reply job plan (take r out)
-  reply-bad out r h text = ((text .within, text .counted), record { bad = λ _. text .reads; good = λ e. absurd (true-false (sym e ∙ h)) })
+  reply-bad out r h text = (text .counts, record { bad = λ _. text .reads; good = λ e. absurd (true-false (sym e ∙ h)) })
 
   pub reply-good : (text : List ℕ) → goodFiles job plan ≡ true → Answered (wordsOf job) (wordsOf plan) text → Reply job plan text
   reply-good text h so = record { bad = λ e. absurd (true-false (sym h ∙ e)); good = λ _. so }

@@ -1,12 +1,13 @@
 // What planread prints for the bytes of its two files. The program only reads the files and writes this text.
 ghost use mathlib.Core.Bool.{_&&_};
 ghost use mathlib.Core.Path.{_≡_};
-ghost use Prim.Native.Nat.{_≤_, _/_};
+ghost use Prim.Native.Nat.{_≤_};
 ghost use lib.ListN.{length, take};
 ghost use Rattle.io.specs.Counts.{Counts};
 ghost use Rattle.text.specs.Code.Written.{Written};
 ghost use Rattle.text.specs.Files.{sized, wordsOf};
 ghost use Rattle.reader.specs.Reply.{badFile, lent, Answered, Reply};
+ghost use Rattle.reader.specs.Code.Buffers.{Room};
 use text::files;
 use text::report;
 
@@ -64,8 +65,7 @@ fn reply_in(
     buffer: &mut [u32],
     out: &mut [u8],
 ) -> usize
-    requires { ⌜ (length (now job) / 4 ≤ length (now «job_words»)) × (length (now plan) / 4 ≤ length (now «plan_words»)) ⌝ }
-    requires { ⌜ (now buffer ≡ lent) × (36964 ≤ length (now out)) ⌝ }
+    requires { ⌜ Room (now job) (now plan) (now «job_words») (now «plan_words») (now buffer) (now out) ⌝ }
     ensures counts { λ r. ⌜ Counts r (now (out .exit)) ⌝ }
     ensures text { λ r. ⌜ Answered (wordsOf (now (job .entry))) (wordsOf (now (plan .entry))) (take r (now (out .exit))) ⌝ }
 {

@@ -48,8 +48,7 @@ decoded bytes old out i so-far whole same room =
     let e : out ≡ over old (length bytes / 4) (wordsOf bytes) = rw whole at so-far in
     let many : length (take (length bytes / 4) (wordsOf bytes)) ≡ length bytes / 4 = length-take-le _ (wordsOf bytes) (omega (arith, length-words bytes)) in
     record {
-      within = omega arith;
-      counted = sym (length-take-le _ out (omega arith));
+      counts = (omega arith, sym (length-take-le _ out (omega arith)));
       words = rw e (take-at (take (length bytes / 4) (wordsOf bytes)) (drop (length bytes / 4) old) _ many ∙ take-all (length bytes / 4) (wordsOf bytes) (omega (arith, length-words bytes)));
       rest = rw e (drop-at (take (length bytes / 4) (wordsOf bytes)) (drop (length bytes / 4) old) _ many);
     }

@@ -2,12 +2,12 @@
 use Prim.Native.Nat.{ℕ, zero, suc, _+_, _*_, _-_, _/_, _%_, _^_, _≤_, _<_}
 use native.Mathlib.Nat.{one-le-pow, pow-le-pow-right, pow-suc}
 use native.Mathlib.Numerals.{add-one}
+use native.Mathlib.Decide.{decLt}
 use native.Mathlib.Omega.{arith}
-use mathlib.Core.Bool.{Bool, true, false}
+use mathlib.Core.Logic.{by-cases}
 use mathlib.Core.Path.{_≡_, refl, sym, ap, _∙_, subst}
 use mathlib.Core.List.{List, [], _∷_, _++_, append-assoc, append-nil}
-use borrow.Author.Tests.{lt-ltb, le-ltb, ltb-true, ltb-false}
-use lib.Dec.{ltb}
+use borrow.Author.Tests.{lt-ltb, le-ltb}
 use lib.ListN.{length, take, getD, length-append}
 use lib.Seq.{take-suc}
 use Rattle.io.specs.Digits.{glyph, digits, Fewest}
@@ -42,15 +42,13 @@ decimal-is (suc f) (suc (suc j)) n h w =
     rw (le-ltb n 10 large, decimal-is f (suc j) (n / 10) (omega arith) fewer)
 
 -- a number below b ^ m takes no more than m digits, where no more are asked
-few-by : (t : Bool) (b least m n k : ℕ) → ltb m k ≡ t → 0 < b → least ≤ m → n < b ^ m → Fewest b least n k → k ≤ m
-few-by true b least m n k e base h small w =
-    let more : m < k = ltb-true _ _ e in
-    let most : b ^ m ≤ b ^ (k - 1) = pow-le-pow-right {n = b} base {i = m} {j = k - 1} (omega arith) in
-    absurd (omega (arith, w .2 (omega arith)))
-few-by false b least m n k e base h small w = ltb-false m k e
-
 pub few : (b least m n k : ℕ) → 0 < b → least ≤ m → n < b ^ m → Fewest b least n k → k ≤ m
-few b least m n k = few-by (ltb m k) b least m n k refl
+few b least m n k base h small w = by-cases (decLt m k) (λ more. absurd (too-many more)) (λ enough. omega arith)
+  where
+    too-many : m < k → ⊥
+    too-many more =
+        let most : b ^ m ≤ b ^ (k - 1) = pow-le-pow-right {n = b} base {i = m} {j = k - 1} (omega arith) in
+        omega (arith, w .2 (omega arith))
 
 -- the digits that `io` makes, as this crate's texts
 pub decimal-end : {old out : List ℕ} {start end : ℕ} (n k : ℕ) (text : List ℕ) → text ≡ digits 10 k n → Fewest 10 1 n k → n < 2 ^ 64 → Appended old start text out end → Appended old start (decimalOf n) out end × (end ≤ start + 20)

@@ -37,4 +37,4 @@ then {old} {mid} {out} {t} {u} {start} {m} {end} first next =
 pub text-of : {old t out : List ℕ} {r : ℕ} → Appended old 0 t out r → Written t out r
 text-of {old} {t} {out} {r} h =
     let long : r ≡ length (take r out) = omega (arith, h .ends, ap length (h .reads)) in
-    record { within = omega (arith, length-take r out); counted = long; reads = h .reads }
+    record { counts = (omega (arith, length-take r out), long); reads = h .reads }

@@ -8,23 +8,39 @@ use borrow.Author.Needs.{needs}
 use Rattle.reader.proofs.reply.reply.Statement.{statement}
 use Rattle.reader.proofs.reply.reply.Tie as tie
 
+-- the places of the code that the proof speaks of
+abbrev unsized : tie.After-slice-known2 → tie.Then1
+unsized c = c .before .before .before .before
+
+abbrev sized : tie.After-reply-in-arg → tie.Else1
+sized c = c .before .before .before .before .before .before .before
+
+abbrev entry : tie.Else1 → tie.Start
+entry c = c .before .before .before .before .before
+
+abbrev after-lent-words : tie.After-reply-in-arg → tie.After-lent-words
+after-lent-words c = c .before .before .before .before
+
+abbrev after-reply-in : tie.After-slice-known3 → tie.After-reply-in
+after-reply-in c = c .before .before .before .before .before
+
 returns : tie.Need-returns
 returns c =
-    let tested = c .before .before .before .before in
+    let tested = unsized c in
     reply-bad _ _ _ _ (sym (tested .before .are-sized .ensures) ∙ not-true _ (tested .if1 .taken)) (c .before .before .bad-file .ensures)
 
 reply-in-requires : tie.Need-reply-in-requires
 reply-in-requires c κs =
-    let tested = c .before .before .before .before .before .before .before in
-    let start = tested .before .before .before .before .before in
+    let tested = sized c in
+    let start = entry tested in
     let most = good-most (length (start .args .job .now)) (length (start .args .plan .now)) (sym (tested .before .are-sized .ensures) ∙ not-false _ (tested .if1 .left)) in
-    (omega (arith, most), (c .before .before .before .before .lent-words .ensures, start .pre))
+    record { job-fits = omega (arith, most); plan-fits = omega (arith, most); fresh = after-lent-words c .lent-words .ensures; wide = start .pre }
 
 returns-2 : tie.Need-returns-2
 returns-2 c =
-    let tested = c .before .before .before .before .before .before .before .before .before .before .before .before .before in
-    let made = c .before .before .before .before .before .reply-in .ensures in
-    (made .0, reply-good _ _ _ (sym (tested .before .are-sized .ensures) ∙ not-false _ (tested .if1 .left)) (made .1))
+    let made = after-reply-in c in
+    let tested = sized (made .before) in
+    (made .reply-in .ensures .0, reply-good _ _ _ (sym (tested .before .are-sized .ensures) ∙ not-false _ (tested .if1 .left)) (made .reply-in .ensures .1))
 
 pub reply-spec : {M : Type 1} → statement M
 reply-spec =

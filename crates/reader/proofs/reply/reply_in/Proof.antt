@@ -3,10 +3,20 @@ use borrow.Author.Needs.{needs}
 use Rattle.reader.proofs.reply.reply_in.Statement.{statement}
 use Rattle.reader.proofs.reply.reply_in.Tie as tie
 
+-- the places of the code that the proof speaks of
+abbrev after-decode : tie.After-decode2 → tie.After-decode
+after-decode c = c .before .before .before .before
+
+abbrev after-decode2 : tie.After-slice-known8 → tie.After-decode2
+after-decode2 c = c .before .before .before .before .before .before .before .before .before .before .before
+
+abbrev after-reply-words : tie.After-slice-known8 → tie.After-reply-words
+after-reply-words c = c .before .before .before .before
+
 returns : tie.Need-returns
 returns c =
-    let second = c .before .before .before .before .before .before .before .before .before .before .before in
-    rw (second .before .before .before .before .decode .ensures .words, second .decode2 .ensures .words) at (c .before .before .before .before .reply-words .ensures)
+    let second = after-decode2 c in
+    rw (after-decode second .decode .ensures .words, second .decode2 .ensures .words) at (after-reply-words c .reply-words .ensures)
 
 pub reply-in-spec : {M : Type 1} → statement M
 reply-in-spec =

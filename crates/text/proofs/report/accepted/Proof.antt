@@ -5,11 +5,22 @@ use borrow.Author.Needs.{needs}
 use Rattle.text.proofs.report.accepted.Statement.{statement}
 use Rattle.text.proofs.report.accepted.Tie as tie
 
+-- the places of the code that the proof speaks of
+abbrev after-append : tie.After-slice-known5 → tie.After-append
+after-append c = c .before .before .before .before .before .before
+
+abbrev after-field2 : tie.After-append → tie.After-field2
+after-field2 c = c .before .before .before .before .before
+
+abbrev after-field : tie.After-field2 → tie.After-field
+after-field c = c .before .before .before .before .before
+
 returns : tie.Need-returns
 unfolding acceptedText
-returns c = text-of (then (c .before .before .before .before .before .before .before .before .before .before .before .before .before .before .before .before .field .ensures .0)
-    (then (c .before .before .before .before .before .before .before .before .before .before .before .field2 .ensures .0)
-    (then (c .before .before .before .before .before .before .append .ensures) (c .before .before .lines .ensures))))
+returns c =
+    let line = after-append c in
+    let second = after-field2 line in
+    text-of (then (after-field second .field .ensures .0) (then (second .field2 .ensures .0) (then (line .append .ensures) (c .before .before .lines .ensures))))
 
 pub accepted-spec : {M : Type 1} → statement M
 accepted-spec =

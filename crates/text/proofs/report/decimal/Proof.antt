@@ -5,6 +5,10 @@ use borrow.Author.Needs.{needs}
 use Rattle.text.proofs.report.decimal.Statement.{statement}
 use Rattle.text.proofs.report.decimal.Tie as tie
 
+-- the places of the code that the proof speaks of
+abbrev after-decimal : tie.After-slice-known2 → tie.After-decimal
+after-decimal c = c .before .before .before .before .before
+
 append-requires : tie.Need-append-requires
 append-requires c κs =
     let made = c .before .before .decimal .ensures in
@@ -12,8 +16,8 @@ append-requires c κs =
 
 returns : tie.Need-returns
 returns c =
-    let made = c .before .before .before .before .before .decimal .ensures in
-    decimal-end _ _ _ (made .1 .1) (made .1 .0) (c .before .before .before .before .before .before .before .before .fits .n .fits) (c .before .before .append .ensures)
+    let made = after-decimal c in
+    decimal-end _ _ _ (made .decimal .ensures .1 .1) (made .decimal .ensures .1 .0) (made .before .before .before .fits .n .fits) (c .before .before .append .ensures)
 
 pub decimal-spec : {M : Type 1} → statement M
 decimal-spec =

@@ -5,9 +5,13 @@ use borrow.Author.Needs.{needs}
 use Rattle.text.proofs.report.field.Statement.{statement}
 use Rattle.text.proofs.report.field.Tie as tie
 
+-- the places of the code that the proof speaks of
+abbrev after-append : tie.After-slice-known3 → tie.After-append
+after-append c = c .before .before .before .before .before .before
+
 returns : tie.Need-returns
 returns c =
-    let first = c .before .before .before .before .before .before .append .ensures in
+    let first = after-append c .append .ensures in
     let next = c .before .before .decimal .ensures in
     (then first (next .0), omega (arith, first .ends, next .1))
 

@@ -10,20 +10,35 @@ use borrow.Author.Needs.{needs}
 use Rattle.text.proofs.report.report.Statement.{statement}
 use Rattle.text.proofs.report.report.Tie as tie
 
+-- the places of the code that the proof speaks of
+abbrev entry : tie.After-answer → tie.Start
+entry c = c .before .before .before .before
+
+abbrev after-answer : tie.After-slice-known2 → tie.After-answer
+after-answer c = c .before .before .before .before .before
+
+abbrev entry2 : tie.After-answer2 → tie.Start
+entry2 c = c .before .before .before .before
+
+abbrev after-answer2 : tie.After-slice-known3 → tie.After-answer2
+after-answer2 c = c .before .before .before .before .before
+
 accepted-requires : tie.Need-accepted-requires
 accepted-requires c κs =
-    let start = c .before .before .before .before .before .before in
+    let start = entry (c .before .before) in
     subst (λ (a : Answer). (lengthOf a ≤ length (start .args .words .now)) × (lengthOf a * 9 + 100 ≤ length (start .args .out .now))) (c .before .before .answer .given .1) (start .pre)
 
 returns : tie.Need-returns
 returns c =
-    let start = c .before .before .before .before .before .before .before .before .before in
-    subst (λ (a : Answer). Written (reportOf a (start .args .words .now)) (c .before .before .accepted .last .0) (c .before .before .accepted .result)) (sym (c .before .before .before .before .before .answer .given .1)) (c .before .before .accepted .ensures)
+    let arm = after-answer c in
+    let made = c .before .before .accepted in
+    subst (λ (a : Answer). Written (reportOf a (entry arm .args .words .now)) (made .last .0) (made .result)) (sym (arm .answer .given .1)) (made .ensures)
 
 returns-2 : tie.Need-returns-2
 returns-2 c =
-    let start = c .before .before .before .before .before .before .before .before .before in
-    subst (λ (a : Answer). Written (reportOf a (start .args .words .now)) (c .before .before .refused .last .0) (c .before .before .refused .result)) (sym (c .before .before .before .before .before .answer2 .given .1)) (c .before .before .refused .ensures)
+    let arm = after-answer2 c in
+    let made = c .before .before .refused in
+    subst (λ (a : Answer). Written (reportOf a (entry2 arm .args .words .now)) (made .last .0) (made .result)) (sym (arm .answer2 .given .1)) (made .ensures)
 
 pub report-spec : {M : Type 1} → statement M
 report-spec =
