@@ -30,8 +30,8 @@ answered job plan before after out s r a fresh ends outcome text = (
 
 -- a bad file, and two good files
 module _ (job plan : List ℕ) where
-  pub reply-bad : (out : List ℕ) (r : ℕ) → goodFiles job plan ≡ false → Written badFile out r → Counts r out × Reply job plan (take r out)
-  reply-bad out r h text = (text .counts, record { bad = λ _. text .reads; good = λ e. absurd (true-false (sym e ∙ h)) })
+  pub reply-bad : (text : List ℕ) → goodFiles job plan ≡ false → text ≡ badFile → Reply job plan text
+  reply-bad text h so = record { bad = λ _. so; good = λ e. absurd (true-false (sym e ∙ h)) }
 
   pub reply-good : (text : List ℕ) → goodFiles job plan ≡ true → Answered (wordsOf job) (wordsOf plan) text → Reply job plan text
   reply-good text h so = record { bad = λ e. absurd (true-false (sym h ∙ e)); good = λ _. so }

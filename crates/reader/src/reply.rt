@@ -4,7 +4,6 @@ ghost use mathlib.Core.Path.{_≡_};
 ghost use Prim.Native.Nat.{_≤_};
 ghost use lib.ListN.{length, take};
 ghost use Rattle.io.specs.Counts.{Counts};
-ghost use Rattle.text.specs.Code.Written.{Written};
 ghost use Rattle.text.specs.Files.{sized, wordsOf};
 ghost use Rattle.reader.specs.Reply.{badFile, lent, Answered, Reply};
 ghost use Rattle.reader.specs.Code.Buffers.{Room};
@@ -28,7 +27,8 @@ pub fn reply(job: &[u8], plan: &[u8], out: &mut [u8]) -> usize
 
 pub fn bad_file(out: &mut [u8]) -> usize
     requires { ⌜ 36964 ≤ length (now out) ⌝ }
-    ensures { λ r. ⌜ Written badFile (now (out .exit)) r ⌝ }
+    ensures counts { λ r. ⌜ Counts r (now (out .exit)) ⌝ }
+    ensures text { λ r. ⌜ take r (now (out .exit)) ≡ badFile ⌝ }
 {
     report::line(out, b"bad file\n")
 }

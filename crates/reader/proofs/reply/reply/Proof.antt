@@ -27,7 +27,8 @@ after-reply-in c = c .before .before .before .before .before
 returns : tie.Need-returns
 returns c =
     let tested = unsized c in
-    reply-bad _ _ _ _ (sym (tested .before .are-sized .ensures) ∙ not-true _ (tested .if1 .taken)) (c .before .before .bad-file .ensures)
+    let bad = c .before .before .bad-file .ensures in
+    (bad .0, reply-bad _ _ _ (sym (tested .before .are-sized .ensures) ∙ not-true _ (tested .if1 .taken)) (bad .1))
 
 reply-in-requires : tie.Need-reply-in-requires
 reply-in-requires c κs =
