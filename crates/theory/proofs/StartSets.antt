@@ -9,8 +9,8 @@ use borrow.Author.Tests.{eq-eqb, ne-eqb}
 use lib.Dec.{eqb}
 use lib.ListN.{length, getD, drop, set, replicate, length-set, getD-replicate}
 use lib.Seq.{getD-set-same, getD-set-other}
-use Rattle.bitset.specs.Members.{has, Holds}
-use Rattle.bitset.proofs.Laws.{has-zero}
+use Rattle.bitset.specs.Members.{has, IsSetOf}
+use Rattle.bitset.proofs.Digits.{has-zero}
 use Rattle.words.specs.Fields.{startMoment, startAction}
 use Rattle.words.specs.Scan.{any}
 use Rattle.words.proofs.Scan.{drop-next, any-end}
@@ -31,7 +31,7 @@ started-none starts = record {
 -- one more start in front, of action x at moment u: the set of its action gains its moment
 pub started-more : {starts : List ℕ} {i j : ℕ} {sets : List ℕ} {x u : ℕ} (single sum : ℕ) → Started starts j sets → j ≡ i + 1 → i < length starts
     → x ≡ startAction (getD starts i 0) → u ≡ startMoment (getD starts i 0)
-    → Holds single (λ t. eqb t u) → Holds sum (λ t. has (getD sets x 0) t || has single t) → x < 64
+    → IsSetOf single (λ t. eqb t u) → IsSetOf sum (λ t. has (getD sets x 0) t || has single t) → x < 64
     → Started starts i (set sets x sum)
 unfolding any
 started-more {starts} {i} {j} {sets} {x} {u} single sum m next l ex eu one joined small = record {
