@@ -14,8 +14,8 @@ unfoldable pub has : ℕ → ℕ → Bool
 has x k = eqb (x / 2 ^ k % 2) 1
 
 -- x is the set of the numbers that pass the test p
-abbrev pub Holds : ℕ → (ℕ → Bool) → Type 0
-Holds x p = (k : ℕ) → has x k ≡ p k
+abbrev pub IsSetOf : ℕ → (ℕ → Bool) → Type 0
+IsSetOf x p = (k : ℕ) → has x k ≡ p k
 
 -- how many k below n pass the test p
 unfoldable pub countBelow : (ℕ → Bool) → ℕ → ℕ
@@ -34,7 +34,7 @@ pub record Lowest (x m : ℕ) : Type 0 where
 
 -- r has the members of x but the lowest, and so one fewer
 pub record Dropped (x r : ℕ) : Type 0 where
-  pub rest : (m : ℕ) → Lowest x m → Holds r (λ k. has x k && not (eqb k m))
+  pub rest : (m : ℕ) → Lowest x m → IsSetOf r (λ k. has x k && not (eqb k m))
   pub fewer : popCount r + 1 ≡ popCount x
 
 -- m is the highest member of x that is at most e
@@ -57,7 +57,7 @@ pub record Max (a b k : ℕ) : Type 0 where
   pub is-max : k ≡ max i j
 
 -- k is a member of the row of some member m of x, the rows being those from base on
-pub record Joined (x : ℕ) (rows : List ℕ) (base k : ℕ) : Type 0 where
+pub record InSomeRow (x : ℕ) (rows : List ℕ) (base k : ℕ) : Type 0 where
   pub m : ℕ
   pub in-x : has x m ≡ true
   pub in-row : has (getD rows (base + m) 0) k ≡ true

@@ -11,8 +11,10 @@ use lib.Dec.{leb, ltb, eqb}
 use lib.Pow.{pow-pos}
 use borrow.Author.Tests.{leb-true, le-leb, lt-ltb, ne-eqb}
 use Rattle.sets.specs.Ends.{InTable}
-use Rattle.bitset.specs.Members.{has, Holds, In, Lowest, Dropped, Max}
-use Rattle.bitset.proofs.Laws.{not-both, and-both, both, has-zero, has-past}
+use Rattle.bitset.specs.Members.{has, IsSetOf, In, Lowest, Dropped, Max}
+use Rattle.words.proofs.Choices.{both-true}
+use Rattle.bitset.proofs.Bools.{not-both, both}
+use Rattle.bitset.proofs.Digits.{has-zero, has-past}
 use Rattle.bitset.proofs.Ends.{lowest-le}
 use Rattle.reading.specs.Table.{rowAt}
 use Rattle.parts.specs.Search.{Meets, FirstMeets, CutAt, Ends, StartAt}
@@ -87,12 +89,12 @@ pub record Left (table : List ℕ) (x y b e low high from left : ℕ) : Type 0 w
   pub all : (k m : ℕ) → CutAt table x y b e low high from k m → In left k
 
 module _ {table : List ℕ} {x y b e low high from : ℕ} where
-  pub left-start : (f : ℕ) {left : ℕ} → Holds f (λ k. leb from k && ltb k 64) → Holds left (λ k. has (rowAt table x b) k && has f k)
+  pub left-start : (f : ℕ) {left : ℕ} → IsSetOf f (λ k. leb from k && ltb k 64) → IsSetOf left (λ k. has (rowAt table x b) k && has f k)
       → Left table x y b e low high from left
   left-start f {left} F L =
       record {
-        end = λ k h. record { yes = and-both (has (rowAt table x b) k) (has f k) (sym (L k) ∙ h .yes) .0 };
-        after = λ k h. leb-true from k (and-both (leb from k) (ltb k 64) (sym (F k) ∙ and-both (has (rowAt table x b) k) (has f k) (sym (L k) ∙ h .yes) .1) .0);
+        end = λ k h. record { yes = both-true (has (rowAt table x b) k) (has f k) (sym (L k) ∙ h .yes) .0 };
+        after = λ k h. leb-true from k (both-true (leb from k) (ltb k 64) (sym (F k) ∙ both-true (has (rowAt table x b) k) (has f k) (sym (L k) ∙ h .yes) .1) .0);
         all = λ k m c. record { yes = L k ∙ both (c .ends .yes) (F k ∙ both (le-leb from k (c .after)) (lt-ltb k 64 (c .end))) };
       }
 
@@ -121,7 +123,7 @@ module _ {table : List ℕ} {x y b e low high from : ℕ} where
         }
       where
         old : (j : ℕ) → In left′ j → In left j
-        old j i = record { yes = and-both (has left j) (not (eqb j k)) (sym (d .rest k first j) ∙ i .yes) .0 }
+        old j i = record { yes = both-true (has left j) (not (eqb j k)) (sym (d .rest k first j) ∙ i .yes) .0 }
 
         meets : (j i : ℕ) → j ≡ k → CutAt table x y b e low high from j i → Meets 1 table y (k + low) (k + high) e i
         meets j i q c = let early = c .early in let late = c .late in

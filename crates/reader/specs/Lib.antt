@@ -1,2 +1,5 @@
--- The definitions that the contracts of `reader` cite: File (what came of reading a file, and the text that is printed).
-pub mod File
+-- The definitions that the contracts of `reader` cite: Reply (what is printed for the bytes of two files), Printed (what is printed), Code (what
+-- passes between functions).
+pub mod Reply
+pub mod Printed
+pub mod Code

@@ -9,12 +9,14 @@ use native.Mathlib.Omega.{arith}
 use lib.Dec.{eqb}
 use lib.ListN.{getD}
 use borrow.Author.Tests.{ne-eqb}
-use Rattle.bitset.specs.Members.{has, Holds, In, Lowest, Dropped, Max, Joined}
-use Rattle.bitset.proofs.Laws.{not-both, and-both, both, has-zero}
+use Rattle.bitset.specs.Members.{has, IsSetOf, In, Lowest, Dropped, Max, InSomeRow}
+use Rattle.words.proofs.Choices.{both-true}
+use Rattle.bitset.proofs.Bools.{not-both, both}
+use Rattle.bitset.proofs.Digits.{has-zero}
 use Rattle.sets.proofs.Laws.{in-union}
 use Rattle.reading.specs.Table.{After}
 
-pub in-joined : {r x base : ℕ} {rows : List ℕ} → ((k : ℕ) → (has r k ≡ true) ↔ Joined x rows base k)
+pub in-joined : {r x base : ℕ} {rows : List ℕ} → ((k : ℕ) → (has r k ≡ true) ↔ InSomeRow x rows base k)
     → (k : ℕ) → In r k ↔ ((m : ℕ) × In x m × In (getD rows (base + m) 0) k)
 in-joined h k = (
   λ t. let j = h k .0 (t .yes) in (j .m, record { yes = j .in-x }, record { yes = j .in-row }),
@@ -44,7 +46,7 @@ module _ {ends low high n : ℕ} where
       none a = not-both (ap (λ (w : ℕ). has w (a .end)) (sym z) ∙ a .member .yes) (has-zero (a .end))
 
   pub split-turn : {found left k found′ left′ : ℕ} (w : ℕ) → Split ends low high n found left → Lowest left k → Dropped left left′
-      → ((m : ℕ) → In w m ↔ ((k + low ≤ m) × (m ≤ k + high) × (m ≤ n))) → Holds found′ (λ m. has found m || has w m)
+      → ((m : ℕ) → In w m ↔ ((k + low ≤ m) × (m ≤ k + high) × (m ≤ n))) → IsSetOf found′ (λ m. has found m || has w m)
       → Split ends low high n found′ left′
   split-turn {found} {left} {k} {found′} {left′} w s L D W U = record { at = λ m. (λ a. ⊎-elim (λ t. inl (union m .1 (inl t))) (forth m) (s .at m .0 a), back m) }
     where
@@ -62,5 +64,5 @@ module _ {ends low high n : ℕ} where
           s .at m .1
           (⊎-elim
           (λ u. ⊎-elim inl (λ v. let h = W m .0 v in inr (record { end = k; member = record { yes = L .member }; early = h .0; late = h .1; upto = h .2 })) (union m .0 u))
-          (λ a. inr (record { end = a .end; member = record { yes = and-both (has left (a .end)) (not (eqb (a .end) k)) (sym (D .rest k L (a .end)) ∙ a .member .yes) .0 }; early = a .early; late = a .late; upto = a .upto }))
+          (λ a. inr (record { end = a .end; member = record { yes = both-true (has left (a .end)) (not (eqb (a .end) k)) (sym (D .rest k L (a .end)) ∙ a .member .yes) .0 }; early = a .early; late = a .late; upto = a .upto }))
           t)

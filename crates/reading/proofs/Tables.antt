@@ -9,7 +9,8 @@ use lib.ListN.{length, getD, set, length-set, replicate, length-replicate}
 use lib.Seq.{getD-set-same, getD-set-other}
 use Rattle.sets.specs.Ends.{InTable}
 use Rattle.bitset.specs.Members.{In}
-use Rattle.bitset.proofs.Laws.{not-both, has-zero}
+use Rattle.bitset.proofs.Bools.{not-both}
+use Rattle.bitset.proofs.Digits.{has-zero}
 use Rattle.model.specs.Trajectory.{Trajectory}
 use Rattle.model.specs.Procedure.{Procedure}
 use Rattle.model.specs.Forms.{Set, formAt}

@@ -9,7 +9,7 @@ use mathlib.Core.Logic.{by-cases}
 use native.Mathlib.Decide.{decLe}
 use native.Mathlib.Omega.{arith}
 use Rattle.bitset.specs.Members.{Highest, In}
-use Rattle.bitset.proofs.Laws.{not-both}
+use Rattle.bitset.proofs.Bools.{not-both}
 use Rattle.sets.specs.Cover.{Some, Reaches, Needed, Coverable, Covering}
 
 module _ {count : ℕ} {bs Es : ℕ → ℕ} {b e : ℕ} (some : 0 < count)

@@ -7,35 +7,37 @@ use native.Mathlib.Decide.{decLt}
 use native.Mathlib.Omega.{arith}
 use lib.Dec.{leb, ltb, eqb}
 use borrow.Author.Tests.{leb-true, ltb-true, eqb-true, le-leb, lt-ltb, eq-eqb}
-use Rattle.bitset.specs.Members.{has, Holds, In}
-use Rattle.bitset.proofs.Laws.{not-both, or-cases, or-left, or-right, and-both, both, has-zero, has-below}
+use Rattle.bitset.specs.Members.{has, IsSetOf, In}
+use Rattle.words.proofs.Choices.{both-true}
+use Rattle.bitset.proofs.Bools.{not-both, or-cases, or-left, or-right, both}
+use Rattle.bitset.proofs.Digits.{has-zero, has-below}
 use Rattle.sets.specs.Cover.{Some}
 
-pub in-union : {r x y : ℕ} → Holds r (λ k. has x k || has y k) → (e : ℕ) → In r e ↔ (In x e ⊎ In y e)
+pub in-union : {r x y : ℕ} → IsSetOf r (λ k. has x k || has y k) → (e : ℕ) → In r e ↔ (In x e ⊎ In y e)
 in-union {x = x} {y = y} h e = (
   λ t. ⊎-elim (λ u. inl (record { yes = u })) (λ u. inr (record { yes = u })) (or-cases (has x e) (has y e) (sym (h e) ∙ t .yes)),
   ⊎-elim (λ t. record { yes = h e ∙ or-left (has y e) (t .yes) }) (λ t. record { yes = h e ∙ or-right (has x e) (t .yes) }),
 )
 
-pub in-both : {r x y : ℕ} → Holds r (λ k. has x k && has y k) → (e : ℕ) → In r e ↔ (In x e × In y e)
+pub in-both : {r x y : ℕ} → IsSetOf r (λ k. has x k && has y k) → (e : ℕ) → In r e ↔ (In x e × In y e)
 in-both {x = x} {y = y} h e = (
-  λ t. let u = and-both (has x e) (has y e) (sym (h e) ∙ t .yes) in (record { yes = u .0 }, record { yes = u .1 }),
+  λ t. let u = both-true (has x e) (has y e) (sym (h e) ∙ t .yes) in (record { yes = u .0 }, record { yes = u .1 }),
   λ t. record { yes = h e ∙ both (t .0 .yes) (t .1 .yes) },
 )
 
-pub in-from : {r a : ℕ} → Holds r (λ k. leb a k && ltb k 64) → (e : ℕ) → In r e ↔ ((a ≤ e) × (e < 64))
+pub in-from : {r a : ℕ} → IsSetOf r (λ k. leb a k && ltb k 64) → (e : ℕ) → In r e ↔ ((a ≤ e) × (e < 64))
 in-from {a = a} h e = (
-  λ t. let u = and-both (leb a e) (ltb e 64) (sym (h e) ∙ t .yes) in (leb-true a e (u .0), ltb-true e 64 (u .1)),
+  λ t. let u = both-true (leb a e) (ltb e 64) (sym (h e) ∙ t .yes) in (leb-true a e (u .0), ltb-true e 64 (u .1)),
   λ t. record { yes = h e ∙ both (le-leb a e (t .0)) (lt-ltb e 64 (t .1)) },
 )
 
-pub in-between : {r a b : ℕ} → Holds r (λ k. leb a k && leb k b) → (e : ℕ) → In r e ↔ ((a ≤ e) × (e ≤ b))
+pub in-between : {r a b : ℕ} → IsSetOf r (λ k. leb a k && leb k b) → (e : ℕ) → In r e ↔ ((a ≤ e) × (e ≤ b))
 in-between {a = a} {b = b} h e = (
-  λ t. let u = and-both (leb a e) (leb e b) (sym (h e) ∙ t .yes) in (leb-true a e (u .0), leb-true e b (u .1)),
+  λ t. let u = both-true (leb a e) (leb e b) (sym (h e) ∙ t .yes) in (leb-true a e (u .0), leb-true e b (u .1)),
   λ t. record { yes = h e ∙ both (le-leb a e (t .0)) (le-leb e b (t .1)) },
 )
 
-pub in-single : {r a : ℕ} → Holds r (λ k. eqb k a) → (e : ℕ) → In r e ↔ (e ≡ a)
+pub in-single : {r a : ℕ} → IsSetOf r (λ k. eqb k a) → (e : ℕ) → In r e ↔ (e ≡ a)
 in-single {a = a} h e = (λ t. eqb-true e a (sym (h e) ∙ t .yes), λ q. record { yes = h e ∙ eq-eqb e a q })
 
 pub in-below : {x e : ℕ} → x < 2 ^ 64 → In x e → e < 64
@@ -69,7 +71,7 @@ some-more {P} k = (
 pub gain-as : {A B C D : Type 0} → C ↔ D → A ↔ (B ⊎ C) → A ↔ (B ⊎ D)
 gain-as c h = (λ t. ⊎-elim inl (λ p. inr (c .0 p)) (h .0 t), ⊎-elim (λ p. h .1 (inl p)) (λ q. h .1 (inr (c .1 q))))
 
-pub gain : {r x e : ℕ} {C : Type 0} (y : ℕ) → Holds r (λ k. has x k || has y k) → In y e ↔ C → In r e ↔ (In x e ⊎ C)
+pub gain : {r x e : ℕ} {C : Type 0} (y : ℕ) → IsSetOf r (λ k. has x k || has y k) → In y e ↔ C → In r e ↔ (In x e ⊎ C)
 gain {r} {x} {e} y h c = let u : In r e ↔ (In x e ⊎ In y e) = in-union h e in gain-as c u
 
 pub no-gain : {B C : Type 0} → (C → ⊥) → B ↔ (B ⊎ C)

@@ -11,7 +11,8 @@ use borrow.Author.Count.{below-more}
 use lib.ListN.{length, getD, set, length-map, List·getD-map}
 use lib.Seq.{getD-set-same, getD-set-other}
 use Rattle.bitset.specs.Members.{has, Highest, In}
-use Rattle.bitset.proofs.Laws.{not-both, either, has-zero}
+use Rattle.bitset.proofs.Bools.{not-both, either}
+use Rattle.bitset.proofs.Digits.{has-zero}
 use Rattle.words.specs.Fields.{conditionI, memberNode}
 use Rattle.sets.specs.Set.{TaskSet, memberCount, member, MetAt, SetRule, Formed}
 use Rattle.sets.specs.Cover.{Some, Coverable, Covering}

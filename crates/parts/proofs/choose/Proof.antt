@@ -2,7 +2,7 @@
 use borrow.Author.Needs.{needs}
 use mathlib.Core.Path.{refl, sym, _∙_}
 use mathlib.Core.Logic.{inl, inr, ⊎-elim}
-use Rattle.bitset.proofs.Laws.{not-both}
+use Rattle.bitset.proofs.Bools.{not-both}
 use Rattle.parts.proofs.choose.Statement.{statement}
 use Rattle.parts.proofs.choose.Tie as tie
 

@@ -3,7 +3,7 @@ use Prim.Native.Nat.{_-_}
 use native.Mathlib.Omega.{arith}
 use mathlib.Core.Path.{sym, _∙_}
 use borrow.Author.Needs.{needs}
-use Rattle.bitset.proofs.Laws.{not-both}
+use Rattle.bitset.proofs.Bools.{not-both}
 use Rattle.parts.proofs.Search.{Onward, onward-more, none-meets}
 use Rattle.parts.proofs.meeting.Statement.{statement}
 use Rattle.parts.proofs.meeting.Tie as tie

@@ -1,5 +1,5 @@
 -- `reading::rows::act_row` meets its contract. Assumes nothing.
-use Rattle.bitset.proofs.Laws.{not-both}
+use Rattle.bitset.proofs.Bools.{not-both}
 use mathlib.Core.Path.{sym, _∙_}
 use native.Mathlib.Omega.{arith}
 use Rattle.sets.proofs.Laws.{in-none, in-single}

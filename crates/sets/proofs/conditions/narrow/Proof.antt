@@ -4,7 +4,7 @@ use mathlib.Core.Path.{_≡_}
 use mathlib.Core.Logic.{⊎-elim}
 use native.Mathlib.Omega.{arith}
 use lib.ListN.{length, length-set}
-use Rattle.bitset.proofs.Laws.{not-both}
+use Rattle.bitset.proofs.Bools.{not-both}
 use Rattle.sets.specs.Ends.{entryAt}
 use Rattle.sets.specs.Search.{Narrowed}
 use Rattle.sets.proofs.Laws.{in-both}

@@ -2,7 +2,8 @@
 use mathlib.Core.Path.{sym, _∙_}
 use native.Mathlib.Omega.{arith}
 use borrow.Author.Tests.{le-leb, lt-ltb}
-use Rattle.bitset.proofs.Laws.{both, has-zero}
+use Rattle.bitset.proofs.Bools.{both}
+use Rattle.bitset.proofs.Digits.{has-zero}
 use borrow.Author.Needs.{needs}
 use Rattle.sets.proofs.conditions.whole.Statement.{statement}
 use Rattle.sets.proofs.conditions.whole.Tie as tie

@@ -6,7 +6,7 @@ use native.Mathlib.Decide.{decLt}
 use native.Mathlib.Omega.{arith}
 use borrow.Author.Tests.{not-true, not-false}
 use Rattle.bitset.specs.Members.{In}
-use Rattle.bitset.proofs.Laws.{not-both}
+use Rattle.bitset.proofs.Bools.{not-both}
 use borrow.Author.Needs.{needs}
 use Rattle.sets.proofs.covering.first_outside.Statement.{statement}
 use Rattle.sets.proofs.covering.first_outside.Tie as tie

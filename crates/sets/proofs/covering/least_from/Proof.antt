@@ -4,7 +4,8 @@ use mathlib.Core.Path.{ap, _∙_}
 use mathlib.Core.Logic.{_↔_}
 use native.Mathlib.Omega.{arith}
 use Rattle.bitset.specs.Members.{has, In}
-use Rattle.bitset.proofs.Laws.{not-both, has-zero}
+use Rattle.bitset.proofs.Bools.{not-both}
+use Rattle.bitset.proofs.Digits.{has-zero}
 use Rattle.bitset.proofs.Ends.{lowest-le}
 use Rattle.sets.proofs.Laws.{in-both, in-from, in-below}
 use borrow.Author.Needs.{needs}

@@ -6,7 +6,7 @@ use mathlib.Core.Logic.{by-cases}
 use native.Mathlib.Decide.{decLe}
 use native.Mathlib.Omega.{arith}
 use Rattle.bitset.specs.Members.{has, Highest, HighestUpto}
-use Rattle.bitset.proofs.Laws.{not-both}
+use Rattle.bitset.proofs.Bools.{not-both}
 use Rattle.sets.proofs.Laws.{in-below, in-between, in-none}
 use borrow.Author.Needs.{needs}
 use Rattle.sets.proofs.covering.span.Statement.{statement}

@@ -6,7 +6,7 @@ use mathlib.Core.List.{map}
 use native.Mathlib.Omega.{arith}
 use lib.ListN.{length, set, length-map}
 use lib.Seq.{getD-set-same}
-use Rattle.bitset.proofs.Laws.{not-both}
+use Rattle.bitset.proofs.Bools.{not-both}
 use Rattle.words.specs.Fields.{memberNode}
 use Rattle.sets.specs.Ends.{taskSetOf, entryAt, InTable}
 use Rattle.sets.specs.Search.{Searching}
