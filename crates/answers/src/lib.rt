@@ -1,7 +1,7 @@
 // The answer of a call: rows of refusals one after the other, and the 64-bit number by which the host in C gets it.
 ghost use mathlib.Core.Path.{_≡_};
 ghost use Prim.Native.Nat.{_^_, _<_};
-ghost use Rattle.answers.specs.Rows.{row, firstRefusal};
+ghost use Rattle.answers.specs.Rows.{refusal, passed, row, firstRefusal};
 ghost use Rattle.answers.specs.Packed.{answerOf, InRange, packed, fields};
 
 // A refusal's number and position; 0 and 0 for none.
@@ -24,16 +24,28 @@ pub enum Answer {
     },
 }
 
+pub fn none() -> Refusal
+    ensures { λ r. ⌜ r ≡ passed ⌝ }
+{
+    Refusal {
+        number: 0,
+        position: 0,
+    }
+}
+
+pub fn refuse(number: u32, position: usize) -> Refusal
+    ensures { λ r. ⌜ r ≡ refusal number position ⌝ }
+{
+    Refusal { number, position }
+}
+
 pub fn row_of(fits: bool, number: u32, position: usize) -> Refusal
     ensures { λ r. ⌜ r ≡ row fits number position ⌝ }
 {
     if fits {
         Refusal { number, position }
     } else {
-        Refusal {
-            number: 0,
-            position: 0,
-        }
+        none()
     }
 }
 
