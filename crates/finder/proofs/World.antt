@@ -28,7 +28,7 @@ use Rattle.job.proofs.ByPlace.{word-place, words-after}
 use Rattle.model.specs.Trajectory.{Trajectory}
 use Rattle.theory.specs.Trajectory.{trajectoryOf}
 use Rattle.model.specs.Procedure.{Procedure}
-use Rattle.theory.specs.Procedure.{procedureOf}
+use Rattle.job.specs.Procedure.{procedureOf}
 use Rattle.theory.proofs.Followers.{members-at, conditions-at, conditions-fit}
 use Rattle.model.specs.Forms.{formNumber, formAt, fieldX}
 use Rattle.reading.specs.Forms.{FormedAs}

@@ -12,6 +12,7 @@ use Rattle.words.proofs.Choices.{within-true}
 use Rattle.answers.specs.Rows.{row, firstRefusal, firstOf}
 use Rattle.answers.proofs.Range.{Fitting, or-fits, row-fits, first-fits}
 use Rattle.job.specs.Rules.{wordRefusalOf}
+use Rattle.job.specs.Follow.{predecessor, mayFollow}
 use Rattle.job.specs.Before.{before, countOfKind, named}
 use Rattle.job.specs.Refusal.{wordRefusal, refusalOf, nameRefusal, emptySet, endRefusal, jobRefusal}
 use Rattle.job.proofs.Laws.{count-before}
@@ -27,13 +28,15 @@ grade-le a b c = pick-le a _ 2 (pick-le b _ 3 (pick-le c 0 4 (omega arith) (omeg
 word-le : (head : ℕ) (p : List ℕ) (w : ℕ) → wordRefusal head p w ≤ 13
 unfolding wordRefusal
 word-le head p w =
-    pick-le (eqb (kind w) 1) _ _ (grade-le _ _ _)
+    pick-le (mayFollow (kind w) (predecessor p)) _ 2
+    (pick-le (eqb (kind w) 1) _ _ (grade-le _ _ _)
     (pick-le (eqb (kind w) 2) _ _ (grade-le _ _ _)
     (pick-le (eqb (kind w) 3) _ _ (grade-le _ _ _)
     (pick-le (eqb (kind w) 4) _ _ (grade-le _ _ _)
     (pick-le (eqb (kind w) 5) _ _ (grade-le _ _ _)
     (pick-le (eqb (kind w) 6) _ _ (grade-le _ _ _)
-    (pick-le (eqb (kind w) 7) _ _ (grade-le _ _ _) (pick-le (eqb (kind w) 8) _ _ (grade-le _ _ _) (omega arith))))))))
+    (pick-le (eqb (kind w) 7) _ _ (grade-le _ _ _) (pick-le (eqb (kind w) 8) _ _ (grade-le _ _ _) (omega arith)))))))))
+    (omega arith)
 
 refusal-le : (job : List ℕ) (i : ℕ) → refusalOf job i ≤ 13
 unfolding refusalOf

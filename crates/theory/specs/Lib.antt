@@ -4,4 +4,3 @@
 pub mod Answers
 pub mod Judged
 pub mod Trajectory
-pub mod Procedure

@@ -27,9 +27,9 @@ pub implies-true : (a b : Bool) → implies a b ≡ true → a ≡ true → b �
 implies-true true b h e = h
 implies-true false b h e = absurd (true-false (sym e))
 
-pub cond-same : (t : Bool) (n : ℕ) → cond t n n ≡ n
-cond-same true n = refl
-cond-same false n = refl
+pub cond-same : {A : Type 0} (t : Bool) (a : A) → cond t a a ≡ a
+cond-same true a = refl
+cond-same false a = refl
 
 pub indicator-le : (t : Bool) → indicator t ≤ 1
 indicator-le true = omega arith
