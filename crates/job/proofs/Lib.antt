@@ -3,6 +3,7 @@
 -- rules leave of each part), WellFormed (a job that is not refused is well formed).
 pub mod Laws
 pub mod Children
+pub mod Procedure
 pub mod Follow
 pub mod Table
 pub mod Where
