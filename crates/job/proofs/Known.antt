@@ -1,8 +1,8 @@
 -- In a job that is not refused the words of kind 2 stand directly after the head, and no two of them list one fluent. Assumes nothing.
-use mathlib.Core.Bool.{Bool, true, false, _||_}
-use mathlib.Core.List.{List, _∷_}
+use mathlib.Core.Bool.{Bool, true, _||_}
+use mathlib.Core.List.{List}
 use mathlib.Core.Logic.{_⊎_, inl, inr, by-cases}
-use mathlib.Core.Path.{_≡_, refl, sym, _∙_}
+use mathlib.Core.Path.{_≡_, sym, _∙_}
 use Prim.Native.Nat.{ℕ, zero, suc, _/_, _≤_, _<_}
 use native.Mathlib.Decide.{decLt}
 use native.Mathlib.Omega.{arith}
@@ -14,13 +14,13 @@ use Rattle.words.specs.Fields.{kind, field, fluentOf, roleOf}
 use Rattle.words.specs.Scan.{any}
 use Rattle.words.proofs.Choices.{true-false, either-true, within-true}
 use Rattle.job.specs.Rules.{sameFluent}
-use Rattle.job.specs.Follow.{predecessor, nothing, taskSet}
+use Rattle.job.specs.Follow.{nothing, taskSet}
 use Rattle.job.specs.Before.{before, since}
 use Rattle.job.specs.Refusal.{jobRefusal}
 use Rattle.job.specs.Parts.{headWord}
-use Rattle.job.proofs.Laws.{before-suc}
+use Rattle.job.proofs.Before.{before-suc}
 use Rattle.job.proofs.Follow.{word-before}
-use Rattle.job.proofs.Table.{graded}
+use Rattle.job.proofs.Refusal.{graded}
 use Rattle.job.proofs.Parts.{follows, rule}
 
 -- the words since one of kind k have word j

@@ -1,35 +1,34 @@
 -- The parts of a job that is not refused: its head, actions, formulas and nodes. Assumes nothing.
-use mathlib.Core.Bool.{Bool, true, false, not, cond, _&&_, _||_}
-use mathlib.Core.List.{List, [], _∷_}
+use mathlib.Core.Bool.{true, false, _&&_, _||_}
+use mathlib.Core.List.{List}
 use mathlib.Core.Logic.{_⊎_, inl, inr, by-cases}
-use mathlib.Core.Path.{_≡_, refl, ap, sym, _∙_}
-use Prim.Native.Nat.{ℕ, zero, suc, _+_, _-_, _≤_, _<_}
+use mathlib.Core.Path.{_≡_, refl, sym, _∙_}
+use Prim.Native.Nat.{ℕ, _-_, _≤_, _<_}
 use native.Mathlib.Nat.{add-zero}
 use native.Mathlib.Decide.{decLt}
 use native.Mathlib.Omega.{arith}
-use borrow.Author.Tests.{not-false, eqb-true, leb-true, ltb-true, eq-eqb, ne-eqb, le-leb, lt-leb}
+use borrow.Author.Tests.{not-false, leb-true, ltb-true, eq-eqb, ne-eqb, le-leb, lt-leb}
 use lib.Dec.{eqb, leb, ltb}
-use lib.ListN.{length, getD, drop}
+use lib.ListN.{length, getD}
 use lib.Seq.{getD-drop}
 use Rattle.words.specs.Tests.{implies, within}
-use Rattle.words.specs.Fields.{kind, form, actionsOf, fluentOf, actionNumber, durationOf, isSet, formulaX, formulaY, atomFluent, atomSpare, nodeX, nodeY, nodeM, nodeN}
-use Rattle.words.proofs.Choices.{true-false, both-true, either-true, implies-true, cond-same, within-true, true-within}
-use Rattle.answers.specs.Rows.{row}
-use Rattle.answers.proofs.Rows.{first-none, or-none, row-none}
+use Rattle.words.specs.Fields.{kind, form, actionNumber, durationOf, formulaX, formulaY, atomFluent, nodeX, nodeM, nodeN}
+use Rattle.words.proofs.Choices.{true-false, both-true, either-true, implies-true, within-true, true-within}
+use Rattle.answers.proofs.Rows.{row-none}
 use Rattle.job.specs.Rules.{formulaShape, formulaRange, nodeShape, nodeRange}
 use Rattle.job.specs.Children.{nodeChildren}
 use Rattle.job.specs.Follow.{predecessor}
 use Rattle.job.specs.Before.{before, countOfKind}
 use Rattle.job.specs.Refusal.{jobRefusal}
 use Rattle.job.specs.Index.{positions}
-use Rattle.job.specs.Parts.{headWord, fluents, actions, lastMoment, total, wordsFrom, wordOfKind, duration, formulaCount, formulaWord, nodeCount, nodeWord}
+use Rattle.job.specs.Parts.{headWord, fluents, actions, lastMoment, total, wordOfKind, duration, formulaWord, nodeWord}
 use Rattle.job.specs.WellFormed.{FormulaFormed, NodeFormed}
 use Rattle.words.specs.Scan.{every}
 use Rattle.words.proofs.Scan.{every-true}
 use Rattle.job.proofs.Follow.{first-head}
-use Rattle.job.proofs.Laws.{count-grows}
-use Rattle.job.proofs.Table.{followed, ruled, graded, within-limit, word-passed, Clear, clear, EndClear, end-clear}
-use Rattle.job.proofs.Where.{IsWord, is-word, positions-count, from-position}
+use Rattle.job.proofs.Before.{count-grows}
+use Rattle.job.proofs.Refusal.{followed, ruled, graded, within-limit, word-passed, Clear, clear, EndClear, end-clear}
+use Rattle.job.proofs.WordPositions.{IsWord, is-word, positions-count, from-position}
 
 -- the forms that a shape allows
 formula-low : (hd w : ℕ) → formulaShape hd w ≡ true → form w ≤ 4

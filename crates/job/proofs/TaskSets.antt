@@ -1,33 +1,31 @@
 -- The task sets of a job that is not refused: members and conditions stand after their set, as many and such as the rules allow.
 -- Assumes nothing.
-use mathlib.Core.Bool.{Bool, true, false, not, cond, _&&_, _||_}
-use mathlib.Core.List.{List, [], _∷_}
-use mathlib.Core.Logic.{_⊎_, inl, inr, by-cases}
-use mathlib.Core.Path.{_≡_, refl, ap, sym, _∙_}
+use mathlib.Core.Bool.{Bool, true, false, _&&_, _||_}
+use mathlib.Core.List.{List}
+use mathlib.Core.Logic.{by-cases}
+use mathlib.Core.Path.{_≡_, refl, sym, _∙_}
 use Prim.Native.Nat.{ℕ, zero, suc, _+_, _-_, _*_, _≤_, _<_}
 use native.Mathlib.Decide.{decLt}
 use native.Mathlib.Nat.{add-zero}
-use native.Mathlib.Numerals.{add-one}
 use native.Mathlib.Omega.{arith}
-use borrow.Author.Tests.{eqb-true, eqb-false, leb-true, ltb-true, eq-eqb, ne-eqb, le-leb, lt-leb}
+use borrow.Author.Tests.{eqb-true, eqb-false, ltb-true, ne-eqb, le-leb, lt-leb}
 use lib.Dec.{eqb, leb, ltb}
 use lib.ListN.{length, getD, drop, length-drop}
 use lib.Seq.{getD-drop, drop-drop}
 use Rattle.words.specs.Tests.{implies, indicator, within}
 use Rattle.words.specs.Fields.{ofKind, kind, form, spare, isSet, memberNode, conditionFormula, conditionI, conditionJ, conditionM, conditionN}
-use Rattle.words.specs.Scan.{takeWhile, dropWhile}
-use Rattle.words.proofs.Choices.{true-false, both-true, either-true, implies-true, cond-same, true-within}
+use Rattle.words.specs.Scan.{takeWhile}
+use Rattle.words.proofs.Choices.{true-false, both-true, implies-true, true-within}
 use Rattle.words.proofs.Scan.{takeWhile-entry, takeWhile-stop, dropWhile-drop}
-use Rattle.answers.proofs.Rows.{first-none}
-use Rattle.job.specs.Rules.{wordRefusalOf, conditionShape, conditionRange}
-use Rattle.job.specs.Before.{before, countOfKind, since, latest}
-use Rattle.job.specs.Refusal.{wordRefusal, refusalOf, nameRefusal, emptySet, endRefusal, jobRefusal}
-use Rattle.job.specs.Parts.{total, nodeWord, memberWords, conditionWords, formulaCount}
+use Rattle.job.specs.Rules.{conditionShape, conditionRange}
+use Rattle.job.specs.Before.{before, countOfKind, since}
+use Rattle.job.specs.Refusal.{emptySet, jobRefusal}
+use Rattle.job.specs.Parts.{memberWords, conditionWords}
 use Rattle.job.specs.WellFormed.{ConditionFormed, SetFormed}
-use Rattle.job.proofs.Laws.{before-more, latest-more, count-more, count-since-more, count-grows}
+use Rattle.job.proofs.Before.{before-more, latest-more, count-more, count-since-more, count-grows}
 use Rattle.job.proofs.Follow.{set-member, set-before}
-use Rattle.job.proofs.Table.{within-limit, rule-passed, Clear, clear, end-clear}
-use Rattle.job.proofs.Where.{IsWord, from-position}
+use Rattle.job.proofs.Refusal.{within-limit, rule-passed, Clear, clear, end-clear}
+use Rattle.job.proofs.WordPositions.{IsWord, from-position}
 use Rattle.job.proofs.Parts.{follows}
 
 -- n words of kind k from position s on

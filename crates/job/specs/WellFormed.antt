@@ -3,9 +3,9 @@
 use mathlib.Core.List.{List}
 use mathlib.Core.Path.{_≡_}
 use mathlib.Core.Logic.{_⊎_}
-use Prim.Native.Nat.{ℕ, suc, _+_, _<_, _≤_}
+use Prim.Native.Nat.{ℕ, suc, _<_, _≤_}
 use lib.ListN.{length, getD, drop}
-use Rattle.words.specs.Fields.{kind, form, fluentOf, formulaX, formulaY, atomFluent, nodeX, nodeM, nodeN, memberNode, conditionFormula, conditionI, conditionJ, conditionM, conditionN}
+use Rattle.words.specs.Fields.{kind, form, fluentOf, formulaX, formulaY, atomFluent, nodeX, nodeM, nodeN, memberNode, conditionFormula, conditionI, conditionJ}
 use Rattle.words.specs.Scan.{count}
 use Rattle.job.specs.Children.{nodeChildren}
 use Rattle.job.specs.Before.{before, named}

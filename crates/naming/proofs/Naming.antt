@@ -1,27 +1,26 @@
 -- The words of a job name a node as often as the nodes have it as a child, in sum. Assumes nothing.
-use mathlib.Core.Bool.{Bool, true, false, cond}
+use mathlib.Core.Bool.{true}
 use mathlib.Core.List.{List, [], _∷_, map}
 use mathlib.Core.Logic.{_⊎_, inl, inr, by-cases}
 use mathlib.Core.Path.{_≡_, refl, ap, sym, _∙_}
 use Prim.Native.Nat.{ℕ, zero, suc, _+_, _<_}
 use native.Mathlib.Decide.{ℕ-discrete}
 use native.Mathlib.Omega.{arith}
-use borrow.Author.Tests.{eqb-true, eq-eqb, ne-eqb}
+use borrow.Author.Tests.{eqb-true, ne-eqb}
 use lib.Dec.{eqb}
 use lib.ListN.{length, getD}
 use Rattle.words.specs.Fields.{ofKind, kind, form, isSet, memberNode}
 use Rattle.words.specs.Scan.{takeWhile, fromNth, count}
-use Rattle.words.proofs.Choices.{both-true, same-or-not, true-false}
+use Rattle.words.proofs.Choices.{both-true, same-or-not}
 use Rattle.bitset.specs.Members.{sumBelow}
-use Rattle.model.specs.Procedure.{Procedure}
 use Rattle.model.specs.Forms.{children}
 use Rattle.job.specs.Children.{nodeChildren, wordChildren}
 use Rattle.job.specs.Before.{before, countOfKind, named}
 use Rattle.job.specs.Refusal.{jobRefusal}
 use Rattle.job.specs.Parts.{nodeCount, nodeWord, memberWords}
 use Rattle.job.specs.Procedure.{procedureOf}
-use Rattle.job.proofs.Laws.{before-suc}
-use Rattle.job.proofs.Where.{count-cons}
+use Rattle.job.proofs.Before.{before-suc}
+use Rattle.job.proofs.WordPositions.{count-cons}
 use Rattle.job.proofs.Follow.{member-after}
 use Rattle.job.proofs.Parts.{follows, head}
 use Rattle.job.proofs.Procedure.{set-children, own-children, same-children}

@@ -10,7 +10,7 @@ use Rattle.job.specs.Refusal.{jobRefusal}
 use Rattle.job.specs.Index.{checkedOf}
 use Rattle.job.specs.WellFormed.{WellFormed, Indexed}
 use Rattle.job.proofs.WellFormed.{well-formed}
-use Rattle.job.proofs.Where.{placed}
+use Rattle.job.proofs.WordPositions.{placed}
 
 module _ (job : List ℕ) (r : Checked) (is : r ≡ checkedOf job) where
   pub checked-refusal : r .refusal ≡ jobRefusal job

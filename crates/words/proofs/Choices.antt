@@ -1,5 +1,5 @@
 -- What tests put together say. Assumes nothing.
-use mathlib.Core.Bool.{Bool, true, false, not, _||_, cond, _&&_}
+use mathlib.Core.Bool.{Bool, true, false, _||_, cond, _&&_}
 use mathlib.Core.Logic.{_⊎_, inl, inr}
 use mathlib.Core.Path.{_≡_, refl, ap, sym}
 use Prim.Native.Nat.{ℕ, _≤_}

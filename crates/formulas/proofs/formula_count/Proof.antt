@@ -5,7 +5,7 @@ use lib.Dec.{eqb}
 use lib.ListN.{length}
 use Rattle.words.proofs.Choices.{indicator-le}
 use Rattle.job.specs.Before.{before, countOfKind}
-use Rattle.job.proofs.Laws.{count-none, count-more}
+use Rattle.job.proofs.Before.{count-none, count-more}
 use native.Mathlib.Omega.{arith}
 use borrow.Author.Needs.{needs}
 use Rattle.formulas.proofs.formula_count.Statement.{statement}

@@ -1,10 +1,10 @@
 -- `job::job_refusal` meets its contract, by the place of `jobRefusal` at which each `return` stands. Assumes nothing.
-use mathlib.Core.Path.{_≡_, ap, sym, _∙_}
+use mathlib.Core.Path.{ap, sym, _∙_}
 use borrow.Author.Tests.{leb-true, not-false}
 use borrow.Author.Needs.{needs}
 use Rattle.answers.specs.declared.Refusal.{Refusal}
 use Rattle.words.proofs.Choices.{both-true}
-use Rattle.job.proofs.Table.{by-length, by-words, by-end}
+use Rattle.job.proofs.Refusal.{by-length, by-words, by-end}
 use Rattle.job.proofs.job_refusal.Statement.{statement}
 use Rattle.job.proofs.job_refusal.Tie as tie
 

@@ -7,7 +7,7 @@ use lib.ListN.{length}
 use Rattle.job.specs.Before.{before}
 use Rattle.answers.specs.Rows.{firstOf, passed}
 use Rattle.job.specs.Refusal.{nameRefusal}
-use Rattle.job.proofs.Laws.{once, not-once}
+use Rattle.job.proofs.Before.{once, not-once}
 use Rattle.answers.proofs.Rows.{first-start, first-more, first-found}
 use Rattle.job.proofs.job_end.name_refusal.Statement.{statement}
 use Rattle.job.proofs.job_end.name_refusal.Tie as tie

@@ -6,7 +6,7 @@ use Prim.Native.Nat.{_≤_, _*_, _-_}
 use native.Mathlib.Omega.{arith}
 use lib.ListN.{length}
 use Rattle.job.specs.Before.{before, named}
-use Rattle.job.proofs.Laws.{named-none, named-more}
+use Rattle.job.proofs.Before.{named-none, named-more}
 use Rattle.job.proofs.job_end.times_named.Statement.{statement}
 use Rattle.job.proofs.job_end.times_named.Tie as tie
 

@@ -1,15 +1,12 @@
 -- `job::positions::place_words` meets its contract. The invariant: the words of the kind before `i` have their positions. Assumes nothing.
-use mathlib.Core.List.{List, []}
-use mathlib.Core.Path.{_≡_, refl, ap, sym, _∙_}
-use Prim.Native.Nat.{ℕ, _+_, _-_, _≤_, _<_}
+use mathlib.Core.Path.{_≡_, sym, _∙_}
+use Prim.Native.Nat.{_-_, _≤_}
 use mathlib.Core.Logic.{⊎-elim}
 use borrow.Author.Needs.{needs}
 use native.Mathlib.Omega.{arith}
-use lib.ListN.{length, replicate, set}
-use lib.Seq.{sets}
-use Rattle.job.specs.Before.{before, countOfKind}
-use Rattle.job.specs.Index.{positions, placesUpto}
-use Rattle.job.proofs.Where.{Marked, marked-none, room, hit, miss}
+use Rattle.job.specs.Before.{before}
+use Rattle.job.specs.Index.{placesUpto}
+use Rattle.job.proofs.WordPositions.{Marked, marked-none, room, hit, miss}
 use Rattle.job.proofs.positions.place_words.Statement.{statement}
 use Rattle.job.proofs.positions.place_words.Tie as tie
 

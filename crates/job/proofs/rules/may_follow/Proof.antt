@@ -1,6 +1,5 @@
 -- `job::rules::may_follow` meets its contract: each arm is its entry of the table. Assumes nothing.
 use borrow.Author.Tests.{ne-eqb}
-use borrow.Author.Needs.{needs}
 use Rattle.job.proofs.rules.may_follow.Statement.{statement}
 use Rattle.job.proofs.rules.may_follow.Tie as tie
 

@@ -1,6 +1,6 @@
 -- `job::scan::advance` meets its contract, field by field: what one word more makes of each fact. Assumes nothing.
 use native.Mathlib.Omega.{arith}
-use Rattle.job.proofs.Laws.{count-before, count-since, count-more, count-since-more, latest-more}
+use Rattle.job.proofs.Before.{count-before, count-since, count-more, count-since-more, latest-more}
 use borrow.Author.Needs.{needs}
 use Rattle.job.proofs.scan.advance.Statement.{statement}
 use Rattle.job.proofs.scan.advance.Tie as tie

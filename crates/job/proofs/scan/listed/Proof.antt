@@ -8,7 +8,7 @@ use lib.ListN.{length}
 use Rattle.job.specs.Rules.{sameFluent}
 use Rattle.words.specs.Scan.{any}
 use Rattle.job.specs.Before.{before, since}
-use Rattle.job.proofs.Laws.{since-any, since-none}
+use Rattle.job.proofs.Before.{since-any, since-none}
 use Rattle.job.proofs.scan.listed.Statement.{statement}
 use Rattle.job.proofs.scan.listed.Tie as tie
 

@@ -4,7 +4,7 @@ use Prim.Native.Nat.{_<_}
 use native.Mathlib.Omega.{arith}
 use Rattle.job.specs.Before.{before}
 use Rattle.job.specs.Follow.{predecessor}
-use Rattle.job.proofs.Laws.{before-less}
+use Rattle.job.proofs.Before.{before-less}
 use Rattle.job.proofs.scan.predecessor.Statement.{statement}
 use Rattle.job.proofs.scan.predecessor.Tie as tie
 

@@ -6,7 +6,7 @@ use native.Mathlib.Omega.{arith}
 use borrow.Author.Needs.{needs}
 use borrow.Author.Tests.{not-true, not-false, ne-eqb}
 use Rattle.job.specs.Refusal.{refusalOf}
-use Rattle.job.proofs.Table.{ruled, may, may-not}
+use Rattle.job.proofs.Refusal.{ruled, may, may-not}
 use Rattle.job.proofs.scan.word_refusal.Statement.{statement}
 use Rattle.job.proofs.scan.word_refusal.Tie as tie
 

@@ -17,7 +17,7 @@ use Rattle.job.specs.Rules.{wordRefusalOf, limited}
 use Rattle.job.specs.Before.{before, countOfKind}
 use Rattle.job.specs.Follow.{byKind, predecessor, mayFollow}
 use Rattle.job.specs.Refusal.{rules, wordRefusal, refusalOf, nameRefusal, emptySet, endRefusal, jobRefusal}
-use Rattle.job.proofs.Laws.{count-more, count-none}
+use Rattle.job.proofs.Before.{count-more, count-none}
 
 module _ (job : List ℕ) (i : ℕ) where
   -- whether it may follow the word before, if it is of kind k, and what the rule of kind k says of it
