@@ -3,7 +3,6 @@ use mathlib.Core.Bool.{cond}
 use Prim.Native.Nat.{ℕ, _+_, _*_, _/_, _%_, _^_, _<_}
 use mathlib.Core.Path.{_≡_}
 use lib.Dec.{eqb}
-use native.Mathlib.Omega.{arith}
 use Rattle.answers.specs.declared.Refusal.{Refusal}
 use Rattle.answers.specs.declared.Answer.{Answer}
 use Rattle.answers.specs.declared.Answer.the-variants.{Accepted, Refused}
@@ -36,9 +35,15 @@ fields n p l c = n * 2 ^ 56 + p * 2 ^ 40 + l * 2 ^ 24 + c
 abbrev pub packed : Answer → ℕ
 packed a = fields (numberOf a) (positionOf a) (lengthOf a) (countOf a)
 
--- each field fits its bits
+-- each field fits its bits: the range of an answer, said here once
+pub record Fits (n p l c : ℕ) : Type 0 where
+  pub number : n < 2 ^ 8
+  pub position : p < 2 ^ 16
+  pub length : l < 2 ^ 16
+  pub count : c < 2 ^ 24
+
 abbrev pub InRange : Answer → Type 0
-InRange a = (numberOf a < 2 ^ 8) × ((positionOf a < 2 ^ 16) × ((lengthOf a < 2 ^ 16) × (countOf a < 2 ^ 24)))
+InRange a = Fits (numberOf a) (positionOf a) (lengthOf a) (countOf a)
 
 -- the number r has the four fields of a, as the C header reads them, and nothing else
 pub record Unpacked (r : ℕ) (a : Answer) : Type 0 where
@@ -47,10 +52,3 @@ pub record Unpacked (r : ℕ) (a : Answer) : Type 0 where
   pub length : r / 2 ^ 24 % 2 ^ 16 ≡ lengthOf a
   pub count : r % 2 ^ 24 ≡ countOf a
   pub fits : r < 2 ^ 64
-
-pub unpacked : (a : Answer) → InRange a → Unpacked (packed a) a
-unpacked a h =
-    record { number = omega arith; position = omega arith; length = omega arith; count = omega arith; fits = omega arith }
-
-pub reads-back : {r : ℕ} {a : Answer} → r ≡ packed a → InRange a → Unpacked r a
-reads-back {r} {a} e h = rw e (unpacked a h)

@@ -1,8 +1,7 @@
 // The answer of a call: rows of refusals one after the other, and the 64-bit number by which the host in C gets it.
 ghost use mathlib.Core.Path.{_≡_};
-ghost use Prim.Native.Nat.{_^_, _<_};
-ghost use Rattle.answers.specs.Rows.{row, firstRefusal};
-ghost use Rattle.answers.specs.Packed.{answerOf, InRange, packed, fields};
+ghost use Rattle.answers.specs.Rows.{refusal, passed, row, firstRefusal};
+ghost use Rattle.answers.specs.Packed.{answerOf, Fits, InRange, packed, fields};
 
 // A refusal's number and position; 0 and 0 for none.
 pub struct Refusal {
@@ -24,16 +23,28 @@ pub enum Answer {
     },
 }
 
+pub fn none() -> Refusal
+    ensures { λ r. ⌜ r ≡ passed ⌝ }
+{
+    Refusal {
+        number: 0,
+        position: 0,
+    }
+}
+
+pub fn refuse(number: u32, position: usize) -> Refusal
+    ensures { λ r. ⌜ r ≡ refusal number position ⌝ }
+{
+    Refusal { number, position }
+}
+
 pub fn row_of(fits: bool, number: u32, position: usize) -> Refusal
     ensures { λ r. ⌜ r ≡ row fits number position ⌝ }
 {
     if fits {
         Refusal { number, position }
     } else {
-        Refusal {
-            number: 0,
-            position: 0,
-        }
+        none()
     }
 }
 
@@ -73,7 +84,7 @@ pub fn pack(a: Answer) -> u64
 }
 
 fn join(number: u64, position: usize, length: usize, count: u64) -> u64
-    requires { ⌜ (number < 2 ^ 8) × ((position < 2 ^ 16) × ((length < 2 ^ 16) × (count < 2 ^ 24))) ⌝ }
+    requires { ⌜ Fits number position length count ⌝ }
     ensures { λ r. ⌜ r ≡ fields number position length count ⌝ }
 {
     number * 72057594037927936 + position as u64 * 1099511627776 + length as u64 * 16777216 + count

@@ -19,7 +19,7 @@ use Rattle.facts.specs.Facts.{factsOf}
 use Rattle.starts.specs.Rows.{startsRefusal}
 use Rattle.theory.specs.Answers.{planRefusal, factsRefusal, checkRefusal}
 use Rattle.theory.specs.Trajectory.{trajectoryOf}
-use Rattle.theory.specs.Procedure.{procedureOf}
+use Rattle.job.specs.Procedure.{procedureOf}
 use Rattle.reading.specs.Reading.{HasReading}
 use Rattle.reading.specs.Count.{Triple, Distinct, none, more, Read}
 use Rattle.reading.specs.Decision.{each}

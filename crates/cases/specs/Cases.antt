@@ -12,7 +12,7 @@ use Rattle.job.specs.Parts.{lastMoment, nodeCount}
 use Rattle.theory.specs.Answers.{checkRefusal}
 use Rattle.theory.specs.Trajectory.{trajectoryOf}
 use Rattle.model.specs.Procedure.{Procedure}
-use Rattle.theory.specs.Procedure.{procedureOf}
+use Rattle.job.specs.Procedure.{procedureOf}
 use Rattle.model.specs.Forms.{Form, Act, Test, Sequence, Choice, If, While, StartWindow, EndWindow, Set, Reserved, formAt, fieldX, fieldY}
 use Rattle.reading.specs.Count.{Triple}
 use Rattle.reading.specs.Decision.{each, reads}

@@ -16,7 +16,7 @@ use Rattle.job.proofs.WellFormed.{well-formed}
 use Rattle.trajectory.specs.declared.World.{World}
 use Rattle.trajectory.specs.Carried.{Represents}
 use Rattle.theory.specs.Trajectory.{trajectoryOf}
-use Rattle.theory.specs.Procedure.{procedureOf}
+use Rattle.job.specs.Procedure.{procedureOf}
 use Rattle.reading.specs.World.{WorldReady}
 use Rattle.reading.specs.Reading.{HasReading}
 use Rattle.reading.specs.Table.{rowAt, Found}

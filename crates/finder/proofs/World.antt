@@ -1,34 +1,25 @@
 -- The arrays that carry a well-formed job and a plan: the reader may run on them, they agree with the job's procedure and the plan's
 -- trajectory wherever a reading looks, and they name each node but the root once. Assumes nothing.
-use mathlib.Core.Bool.{Bool, true, false, _||_}
-use mathlib.Core.List.{List, [], _∷_, map}
-use mathlib.Core.Logic.{inl, inr, by-cases}
+use mathlib.Core.List.{List, map}
+use mathlib.Core.Logic.{inl, inr}
 use mathlib.Core.Path.{_≡_, refl, ap, sym, _∙_}
-use Prim.Native.Nat.{ℕ, zero, suc, _+_, _<_, _≤_}
-use native.Mathlib.Nat.{add-zero}
-use native.Mathlib.Decide.{ℕ-discrete}
+use Prim.Native.Nat.{ℕ, zero, suc, _+_, _<_}
 use native.Mathlib.Omega.{arith}
-use borrow.Author.Tests.{ne-eqb}
-use lib.Dec.{eqb}
-use lib.ListN.{length, getD, take, drop, length-map, length-drop, List·getD-map}
-use lib.Seq.{getD-drop}
-use Rattle.words.specs.Fields.{ofKind, kind, form, nodeX, nodeY, nodeM, isSet, memberNode}
+use lib.ListN.{length, getD, take, drop, length-map, List·getD-map}
+use Rattle.words.specs.Fields.{ofKind, form, nodeX, nodeY, nodeM, memberNode}
 use Rattle.words.specs.Scan.{count}
 use Rattle.words.proofs.Scan.{takeWhile-take}
-use Rattle.words.proofs.Choices.{true-false, eqb-swap}
 use Rattle.bitset.specs.Members.{sumBelow}
-use Rattle.job.specs.Rules.{names}
-use Rattle.job.specs.Before.{previous}
 use Rattle.job.specs.Refusal.{jobRefusal}
 use Rattle.job.specs.Parts.{actions, formulaCount, nodeCount, nodeWord, memberWords, conditionWords}
 use Rattle.job.specs.WellFormed.{WellFormed}
-use Rattle.job.proofs.Laws.{before-more}
-use Rattle.job.proofs.Parts.{word, word-at}
-use Rattle.job.proofs.ByPlace.{word-place, words-after}
+use Rattle.job.proofs.Children.{lower-by, lower-one, lower-two}
+use Rattle.job.proofs.Procedure.{same-children}
+use Rattle.job.proofs.ByPlace.{word-place}
 use Rattle.model.specs.Trajectory.{Trajectory}
 use Rattle.theory.specs.Trajectory.{trajectoryOf}
 use Rattle.model.specs.Procedure.{Procedure}
-use Rattle.theory.specs.Procedure.{procedureOf}
+use Rattle.job.specs.Procedure.{procedureOf}
 use Rattle.theory.proofs.Followers.{members-at, conditions-at, conditions-fit}
 use Rattle.model.specs.Forms.{formNumber, formAt, fieldX}
 use Rattle.reading.specs.Forms.{FormedAs}
@@ -36,11 +27,10 @@ use Rattle.reading.specs.World.{procedureAt, trajectoryAt, WorldReady}
 use Rattle.reading.proofs.Forms.{form-number}
 use Rattle.reading.proofs.Transfer.{Asks}
 use Rattle.reading.proofs.Agreement.{Agrees, agrees-back, formed-there}
-use Rattle.model.specs.Forms.{childrenAs, children}
+use Rattle.model.specs.Forms.{children}
 use Rattle.lengths.specs.Children.{NamedOnce}
 use Rattle.lengths.proofs.Sums.{sum-cong}
-use Rattle.naming.specs.Naming.{childTimes}
-use Rattle.naming.proofs.Naming.{leads-none, follows, once-by-nodes}
+use Rattle.naming.proofs.Naming.{once-by-nodes}
 use Rattle.trajectory.specs.declared.World.{World}
 use Rattle.trajectory.specs.Carried.{Represents}
 
@@ -59,12 +49,12 @@ module _ (job starts : List ℕ) (formed : WellFormed job) where
     unfolding procedureOf trajectoryOf
     formed-by zero e = tt
     formed-by (suc zero) e = tt
-    formed-by (suc (suc zero)) e = let g = formed .node p h in (g .lower-x (inl (omega arith, omega arith)), g .lower-y (omega arith) (omega arith))
-    formed-by (suc (suc (suc zero))) e = let g = formed .node p h in (g .lower-x (inl (omega arith, omega arith)), g .lower-y (omega arith) (omega arith))
-    formed-by (suc (suc (suc (suc zero)))) e = let g = formed .node p h in (g .lower-y (omega arith) (omega arith), g .lower-m e)
-    formed-by (suc (suc (suc (suc (suc zero))))) e = formed .node p h .lower-y (omega arith) (omega arith)
-    formed-by (suc (suc (suc (suc (suc (suc zero)))))) e = let g = formed .node p h in (g .lower-x (inr (omega arith, omega arith)), g .lower-y (omega arith) (omega arith))
-    formed-by (suc (suc (suc (suc (suc (suc (suc zero))))))) e = let g = formed .node p h in (g .lower-x (inr (omega arith, omega arith)), g .lower-y (omega arith) (omega arith))
+    formed-by (suc (suc zero)) e = lower-two (nodeX (nodeWord job p)) (nodeY (nodeWord job p)) (lower-by (formed .node p h) 2 e)
+    formed-by (suc (suc (suc zero))) e = lower-two (nodeX (nodeWord job p)) (nodeY (nodeWord job p)) (lower-by (formed .node p h) 3 e)
+    formed-by (suc (suc (suc (suc zero)))) e = lower-two (nodeY (nodeWord job p)) (nodeM (nodeWord job p)) (lower-by (formed .node p h) 4 e)
+    formed-by (suc (suc (suc (suc (suc zero))))) e = lower-one (nodeY (nodeWord job p)) (lower-by (formed .node p h) 5 e)
+    formed-by (suc (suc (suc (suc (suc (suc zero)))))) e = lower-two (nodeX (nodeWord job p)) (nodeY (nodeWord job p)) (lower-by (formed .node p h) 6 e)
+    formed-by (suc (suc (suc (suc (suc (suc (suc zero))))))) e = lower-two (nodeX (nodeWord job p)) (nodeY (nodeWord job p)) (lower-by (formed .node p h) 7 e)
     formed-by (suc (suc (suc (suc (suc (suc (suc (suc zero)))))))) e =
         let s = formed .set p h e in
         let q = length-map (memberWords job p) memberNode in (
@@ -150,51 +140,8 @@ module _ (job starts : List ℕ) (w : World) (formed : WellFormed job) (c : Repr
 
   -- ---- each node but the root is named once
 
-  module _ (ok : jobRefusal job .number ≡ 0) (p : ℕ) (h : p < nodeCount job) where
-    node-kind : kind (P .node p) ≡ 6
-    unfolding nodeWord
-    node-kind = let i = word job ok 6 p h in ap kind (sym (node-word p h) ∙ word-at job ok 6 p (i .0) (i .1)) ∙ i .1 .of-kind
-
-    -- no member follows a node that is no task set
-    no-members : (v : ℕ) → (form (P .node p) ≡ 8 → ⊥) → count v (map memberNode (memberWords job p)) ≡ 0
-    unfolding memberWords previous
-    no-members v other =
-        let at = getD (w .places) p 0 in
-        let none : (isSet (getD job at 0) || eqb (kind (getD job at 0)) 7) ≡ false = rw (node-kind, ne-eqb (form (P .node p)) 8 other) in
-        rw (words-after (c .places) p h)
-        (leads-none v (drop (at + 1) job)
-        (λ l z. true-false (sym (rw (before-more job at) at (follows job ok (at + 1) (omega (arith, length-drop (at + 1) job)) (rw (getD-drop, add-zero) at z))) ∙ none)))
-
-    -- what its own word names are its children
-    own : (v n : ℕ) → form (P .node p) ≡ n → n < 8 → count v (childrenAs P (formNumber n) p) ≡ names v (P .node p)
-    unfolding count
-    own v zero e l = rw (node-kind, e)
-    own v (suc zero) e l = rw (node-kind, e)
-    own v (suc (suc zero)) e l = rw (node-kind, e, eqb-swap v (nodeX (P .node p)), eqb-swap v (nodeY (P .node p))) (omega arith)
-    own v (suc (suc (suc zero))) e l = rw (node-kind, e, eqb-swap v (nodeX (P .node p)), eqb-swap v (nodeY (P .node p))) (omega arith)
-    own v (suc (suc (suc (suc zero)))) e l = rw (node-kind, e, eqb-swap v (nodeY (P .node p)), eqb-swap v (nodeM (P .node p))) (omega arith)
-    own v (suc (suc (suc (suc (suc zero))))) e l = rw (node-kind, e, eqb-swap v (nodeY (P .node p))) (omega arith)
-    own v (suc (suc (suc (suc (suc (suc zero)))))) e l = rw (node-kind, e, eqb-swap v (nodeX (P .node p)), eqb-swap v (nodeY (P .node p))) (omega arith)
-    own v (suc (suc (suc (suc (suc (suc (suc zero))))))) e l = rw (node-kind, e, eqb-swap v (nodeX (P .node p)), eqb-swap v (nodeY (P .node p))) (omega arith)
-    own v (suc (suc (suc (suc (suc (suc (suc (suc n)))))))) e l = absurd (omega arith)
-
-    -- the node names v as often as it has v as a child
-    module _ (v : ℕ) where
-      abbrev Alike : Type 0
-      Alike = count v (children P p) ≡ names v (P .node p) + count v (map memberNode (memberWords job p))
-
-      set-alike : form (P .node p) ≡ 8 → Alike
-      set-alike e = rw (node-kind, e) (rw (members-are p h) (omega arith))
-
-      other-alike : (form (P .node p) ≡ 8 → ⊥) → Alike
-      other-alike ne =
-          let low : form (P .node p) ≤ 8 = rw (node-word p h) at (formed .node p h .forms) in
-          own v (form (P .node p)) refl (omega arith) ∙ rw (no-members v ne, add-zero)
-
-      child-times : count v (children P p) ≡ childTimes job v p
-      unfolding childTimes
-      child-times = rw (node-word p h) (by-cases (ℕ-discrete (form (P .node p)) 8) set-alike other-alike)
-
   pub once : jobRefusal job .number ≡ 0 → NamedOnce P
+  unfolding procedureOf
   once ok q h =
-      ap (sumBelow (λ p. count q (children P p))) (c .count) ∙ sum-cong (nodeCount job) (λ p l. child-times ok p l q) ∙ once-by-nodes job ok q (here h)
+      let same : (p : ℕ) → p < nodeCount job → children P p ≡ children (procedureOf job) p = λ p l. same-children P (procedureOf job) p p (sym (node-word p l)) (ap (map memberNode) (sym (members-are p l))) in
+      ap (sumBelow (λ p. count q (children P p))) (c .count) ∙ sum-cong (nodeCount job) (λ p l. ap (count q) (same p l)) ∙ once-by-nodes job ok q (here h)

@@ -10,7 +10,7 @@ use Rattle.answers.specs.Rows.{refusal, firstRefusal}
 use Rattle.job.specs.Parts.{lastMoment, nodeCount}
 use Rattle.theory.specs.Answers.{bufferRefusal, checkRefusal}
 use Rattle.theory.specs.Trajectory.{trajectoryOf}
-use Rattle.theory.specs.Procedure.{procedureOf}
+use Rattle.job.specs.Procedure.{procedureOf}
 use Rattle.reading.specs.Reading.{whole, Reading}
 use Rattle.reading.specs.Count.{Counted}
 

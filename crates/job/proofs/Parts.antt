@@ -1,30 +1,34 @@
 -- The parts of a job that is not refused: its head, actions, formulas and nodes. Assumes nothing.
-use mathlib.Core.Bool.{Bool, true, false, not, cond, _&&_, _||_}
-use mathlib.Core.List.{List, [], _∷_}
+use mathlib.Core.Bool.{true, false, _&&_, _||_}
+use mathlib.Core.List.{List}
 use mathlib.Core.Logic.{_⊎_, inl, inr, by-cases}
-use mathlib.Core.Path.{_≡_, refl, ap, sym, _∙_}
-use Prim.Native.Nat.{ℕ, zero, suc, _+_, _-_, _≤_, _<_}
+use mathlib.Core.Path.{_≡_, refl, sym, _∙_}
+use Prim.Native.Nat.{ℕ, _-_, _≤_, _<_}
 use native.Mathlib.Nat.{add-zero}
 use native.Mathlib.Decide.{decLt}
 use native.Mathlib.Omega.{arith}
-use borrow.Author.Tests.{not-false, eqb-true, leb-true, ltb-true, eq-eqb, ne-eqb, le-leb, lt-leb}
+use borrow.Author.Tests.{not-false, leb-true, ltb-true, eq-eqb, ne-eqb, le-leb, lt-leb}
 use lib.Dec.{eqb, leb, ltb}
-use lib.ListN.{length, getD, drop}
+use lib.ListN.{length, getD}
 use lib.Seq.{getD-drop}
 use Rattle.words.specs.Tests.{implies, within}
-use Rattle.words.specs.Fields.{kind, form, actionsOf, fluentOf, actionNumber, durationOf, isSet, formulaX, formulaY, atomFluent, atomSpare, nodeX, nodeY, nodeM, nodeN}
-use Rattle.words.proofs.Choices.{true-false, both-true, either-true, implies-true, cond-same, within-true, true-within}
-use Rattle.answers.specs.Rows.{row}
-use Rattle.answers.proofs.Rows.{first-none, or-none, row-none}
-use Rattle.job.specs.Rules.{wordRefusalOf, formulaShape, formulaRange, nodeShape, nodeRange, childX, childY, childM}
-use Rattle.job.specs.Before.{before, previous, countOfKind, named}
-use Rattle.job.specs.Refusal.{refusalByKind, rules, wordRefusal, refusalOf, nameRefusal, emptySet, endRefusal, jobRefusal}
+use Rattle.words.specs.Fields.{kind, form, actionNumber, durationOf, formulaX, formulaY, atomFluent, nodeX, nodeM, nodeN}
+use Rattle.words.proofs.Choices.{true-false, both-true, either-true, implies-true, within-true, true-within}
+use Rattle.answers.proofs.Rows.{row-none}
+use Rattle.job.specs.Rules.{formulaShape, formulaRange, nodeShape, nodeRange}
+use Rattle.job.specs.Children.{nodeChildren}
+use Rattle.job.specs.Follow.{predecessor}
+use Rattle.job.specs.Before.{before, countOfKind}
+use Rattle.job.specs.Refusal.{jobRefusal}
 use Rattle.job.specs.Index.{positions}
-use Rattle.job.specs.Parts.{headWord, fluents, actions, lastMoment, total, wordsFrom, wordOfKind, duration, formulaCount, formulaWord, nodeCount, nodeWord}
+use Rattle.job.specs.Parts.{headWord, fluents, actions, lastMoment, total, wordOfKind, duration, formulaWord, nodeWord}
 use Rattle.job.specs.WellFormed.{FormulaFormed, NodeFormed}
-use Rattle.job.proofs.Laws.{count-grows}
-use Rattle.job.proofs.Table.{graded, within-limit, rule-passed, few, limits-actions, limits-formulas, limits-nodes, Clear, clear, EndClear, end-clear}
-use Rattle.job.proofs.Where.{IsWord, is-word, positions-count, from-position}
+use Rattle.words.specs.Scan.{every}
+use Rattle.words.proofs.Scan.{every-true}
+use Rattle.job.proofs.Follow.{first-head}
+use Rattle.job.proofs.Before.{count-grows}
+use Rattle.job.proofs.Refusal.{followed, ruled, graded, within-limit, word-passed, Clear, clear, EndClear, end-clear}
+use Rattle.job.proofs.WordPositions.{IsWord, is-word, positions-count, from-position}
 
 -- the forms that a shape allows
 formula-low : (hd w : ℕ) → formulaShape hd w ≡ true → form w ≤ 4
@@ -63,18 +67,17 @@ module _ (job : List ℕ) (ok : jobRefusal job .number ≡ 0) where
   pub size : (1 ≤ length job) × (length job ≤ 2048)
   size = within-true 1 2048 (length job) (not-false _ (row-none _ 1 0 (omega arith) (c .size)))
 
-  -- the rule of its kind refuses no word
-  pub rule : (k i : ℕ) → i < length job → kind (getD job i 0) ≡ k → refusalByKind k (rules (getD job 0 0) (before job i) (getD job i 0)) ≡ 0
-  rule = rule-passed job (c .words)
+  -- each word may follow the one before, and the rule of its kind does not refuse it
+  pub follows : (k i : ℕ) → i < length job → kind (getD job i 0) ≡ k → followed job i k ≡ true
+  follows k i l h = word-passed job (c .words) k i l h .0
 
-  -- word 0 is the head: any other kind follows a word
-  head : kind (getD job 0 0) ≡ 1
-  unfolding refusalOf wordRefusal before previous wordRefusalOf
-  head = cases (eqb (kind (getD job 0 0)) 1) refl (first-none (refusalOf job) (length job) (c .words) 0 (size .0))
-    where
-      cases : (b : Bool) → eqb (kind (getD job 0 0)) 1 ≡ b → refusalOf job 0 ≡ 0 → kind (getD job 0 0) ≡ 1
-      cases true e h = eqb-true (kind (getD job 0 0)) 1 e
-      cases false e h = let two = simp (e, cond-same) at h in absurd (omega arith)
+  pub rule : (k i : ℕ) → i < length job → kind (getD job i 0) ≡ k → ruled job i k ≡ 0
+  rule k i l h = word-passed job (c .words) k i l h .1
+
+  -- word 0 is the head
+  pub head : kind (getD job 0 0) ≡ 1
+  unfolding before predecessor
+  head = first-head (kind (getD job 0 0)) (follows (kind (getD job 0 0)) 0 (size .0) refl)
 
   pub ranges : ((1 ≤ fluents job) × (fluents job ≤ 64)) × ((1 ≤ actions job) × (actions job ≤ 64)) × (lastMoment job ≤ 63)
   ranges =
@@ -111,8 +114,8 @@ module _ (job : List ℕ) (ok : jobRefusal job .number ≡ 0) where
       let w = getD job i 0 in
       let e = word-at 5 k i at in
       let n = countOfKind 5 (before job i) in
-      let g = within-limit 64 n (within 1 5 (kind (previous (before job i))) && formulaShape (headWord job) w) (formulaRange (headWord job) n w) (rule 5 i (at .inside) (at .of-kind)) in
-      let low = formula-low (headWord job) w (both-true (within 1 5 (kind (previous (before job i)))) (formulaShape (headWord job) w) (g .0) .1) in
+      let g = within-limit 64 n (formulaShape (headWord job) w) (formulaRange (headWord job) n w) (rule 5 i (at .inside) (at .of-kind)) in
+      let low = formula-low (headWord job) w (g .0) in
       let a = implies (eqb (form w) 1) (ltb (atomFluent (headWord job) w) (fluents job)) in
       let x = implies (within 2 4 (form w)) (ltb (formulaX w) n) in
       let y = implies (within 3 4 (form w)) (ltb (formulaY w) n) in
@@ -130,39 +133,28 @@ module _ (job : List ℕ) (ok : jobRefusal job .number ≡ 0) where
   node {p} {i} at =
       let w = getD job i 0 in
       let f = form w in
-      let v = previous (before job i) in
       let e = word-at 6 p i at in
       let acts = countOfKind 3 (before job i) in
       let forms = countOfKind 5 (before job i) in
       let n = countOfKind 6 (before job i) in
-      let g = within-limit 64 n (within 1 8 (kind v) && not (isSet v) && nodeShape w) (nodeRange acts forms n w) (rule 6 i (at .inside) (at .of-kind)) in
-      let low = node-low w (both-true (within 1 8 (kind v) && not (isSet v)) (nodeShape w) (g .0) .1) in
+      let g = within-limit 64 n (nodeShape w) (nodeRange acts forms n w) (rule 6 i (at .inside) (at .of-kind)) in
+      let low = node-low w (g .0) in
       let a = implies (eqb f 0) (ltb (nodeX w) acts) in
       let k = implies (eqb f 1 || within 4 5 f) (ltb (nodeX w) forms) in
-      let x = implies (childX w) (ltb (nodeX w) n) in
-      let y = implies (childY w) (ltb (nodeY w) n) in
-      let m = implies (childM w) (ltb (nodeM w) n) in
+      let below = every (λ q. ltb q n) (nodeChildren w) in
       let win = implies (within 6 7 f) (leb (nodeM w) (nodeN w)) in
-      let r1 = both-true (a && k && x && y && m) win (g .2) in
-      let r2 = both-true (a && k && x && y) m (r1 .0) in
-      let r3 = both-true (a && k && x) y (r2 .0) in
-      let r4 = both-true (a && k) x (r3 .0) in
-      let r5 = both-true a k (r4 .0) in
+      let r1 = both-true (a && k && below) win (g .2) in
+      let r2 = both-true (a && k) below (r1 .0) in
+      let r3 = both-true a k (r2 .0) in
       let inside = at .inside in
       record {
         forms = rw e low;
-        action = rw e (λ h. omega (arith, ends .counted, count-grows 3 job i (length job) (omega arith), ltb-true (nodeX w) acts (implies-true (eqb f 0) (ltb (nodeX w) acts) (r5 .0) (eq-eqb f 0 h))));
-        formula = rw e (λ h. omega (arith, count-grows 5 job i (length job) (omega arith), ltb-true (nodeX w) forms (implies-true (eqb f 1 || within 4 5 f) (ltb (nodeX w) forms) (r5 .1) (one-of f h))));
-        lower-x = rw e (λ h. omega (arith, at .numbered, ltb-true (nodeX w) n (implies-true (childX w) (ltb (nodeX w) n) (r4 .1) (two-of f h))));
-        lower-y = rw e (λ h l. omega (arith, at .numbered, ltb-true (nodeY w) n (implies-true (childY w) (ltb (nodeY w) n) (r3 .1) (true-within 2 7 f h l))));
-        lower-m = rw e (λ h. omega (arith, at .numbered, ltb-true (nodeM w) n (implies-true (childM w) (ltb (nodeM w) n) (r2 .1) (eq-eqb f 4 h))));
+        action = rw e (λ h. omega (arith, ends .counted, count-grows 3 job i (length job) (omega arith), ltb-true (nodeX w) acts (implies-true (eqb f 0) (ltb (nodeX w) acts) (r3 .0) (eq-eqb f 0 h))));
+        formula = rw e (λ h. omega (arith, count-grows 5 job i (length job) (omega arith), ltb-true (nodeX w) forms (implies-true (eqb f 1 || within 4 5 f) (ltb (nodeX w) forms) (r3 .1) (one-of f h))));
+        lower = rw e (λ q h. omega (arith, at .numbered, ltb-true q n (every-true (λ q. ltb q n) (nodeChildren w) (r2 .1) q h)));
         window = rw e (λ h l. leb-true (nodeM w) (nodeN w) (implies-true (within 6 7 f) (leb (nodeM w) (nodeN w)) (r1 .1) (true-within 6 7 f h l)));
       }
     where
       one-of : (f : ℕ) → (f ≡ 1) ⊎ ((4 ≤ f) × (f ≤ 5)) → (eqb f 1 || within 4 5 f) ≡ true
       one-of f (inl h) = rw (eq-eqb f 1 h)
       one-of f (inr h) = rw (true-within 4 5 f (h .0) (h .1)) (either-true (eqb f 1))
-
-      two-of : (f : ℕ) → ((2 ≤ f) × (f ≤ 3)) ⊎ ((6 ≤ f) × (f ≤ 7)) → (within 2 3 f || within 6 7 f) ≡ true
-      two-of f (inl h) = rw (true-within 2 3 f (h .0) (h .1))
-      two-of f (inr h) = rw (true-within 6 7 f (h .0) (h .1)) (either-true (within 2 3 f))

@@ -1,33 +1,32 @@
 -- The task sets of a job that is not refused: members and conditions stand after their set, as many and such as the rules allow.
 -- Assumes nothing.
-use mathlib.Core.Bool.{Bool, true, false, not, cond, _&&_, _||_}
-use mathlib.Core.List.{List, [], _∷_}
-use mathlib.Core.Logic.{_⊎_, inl, inr, by-cases}
-use mathlib.Core.Path.{_≡_, refl, ap, sym, _∙_}
+use mathlib.Core.Bool.{Bool, true, false, _&&_, _||_}
+use mathlib.Core.List.{List}
+use mathlib.Core.Logic.{by-cases}
+use mathlib.Core.Path.{_≡_, refl, sym, _∙_}
 use Prim.Native.Nat.{ℕ, zero, suc, _+_, _-_, _*_, _≤_, _<_}
 use native.Mathlib.Decide.{decLt}
 use native.Mathlib.Nat.{add-zero}
-use native.Mathlib.Numerals.{add-one}
 use native.Mathlib.Omega.{arith}
-use borrow.Author.Tests.{eqb-true, eqb-false, leb-true, ltb-true, eq-eqb, ne-eqb, le-leb, lt-leb}
+use borrow.Author.Tests.{eqb-true, eqb-false, ltb-true, ne-eqb, le-leb, lt-leb}
 use lib.Dec.{eqb, leb, ltb}
 use lib.ListN.{length, getD, drop, length-drop}
 use lib.Seq.{getD-drop, drop-drop}
 use Rattle.words.specs.Tests.{implies, indicator, within}
 use Rattle.words.specs.Fields.{ofKind, kind, form, spare, isSet, memberNode, conditionFormula, conditionI, conditionJ, conditionM, conditionN}
-use Rattle.words.specs.Scan.{takeWhile, dropWhile}
-use Rattle.words.proofs.Choices.{true-false, both-true, either-true, implies-true, cond-same, true-within}
+use Rattle.words.specs.Scan.{takeWhile}
+use Rattle.words.proofs.Choices.{true-false, both-true, implies-true, true-within}
 use Rattle.words.proofs.Scan.{takeWhile-entry, takeWhile-stop, dropWhile-drop}
-use Rattle.answers.proofs.Rows.{first-none}
-use Rattle.job.specs.Rules.{wordRefusalOf, conditionShape, conditionRange}
-use Rattle.job.specs.Before.{before, previous, countOfKind, since, latest}
-use Rattle.job.specs.Refusal.{wordRefusal, refusalOf, nameRefusal, emptySet, endRefusal, jobRefusal}
-use Rattle.job.specs.Parts.{total, nodeWord, memberWords, conditionWords, formulaCount}
+use Rattle.job.specs.Rules.{conditionShape, conditionRange}
+use Rattle.job.specs.Before.{before, countOfKind, since}
+use Rattle.job.specs.Refusal.{emptySet, jobRefusal}
+use Rattle.job.specs.Parts.{memberWords, conditionWords}
 use Rattle.job.specs.WellFormed.{ConditionFormed, SetFormed}
-use Rattle.job.proofs.Laws.{before-more, latest-more, count-more, count-since-more, count-grows}
-use Rattle.job.proofs.Table.{within-limit, rule-passed, Clear, clear, end-clear}
-use Rattle.job.proofs.Where.{IsWord, from-position}
-use Rattle.job.proofs.Parts.{word-at}
+use Rattle.job.proofs.Before.{before-more, latest-more, count-more, count-since-more, count-grows}
+use Rattle.job.proofs.Follow.{set-member, set-before}
+use Rattle.job.proofs.Refusal.{within-limit, rule-passed, Clear, clear, end-clear}
+use Rattle.job.proofs.WordPositions.{IsWord, from-position}
+use Rattle.job.proofs.Parts.{follows}
 
 -- n words of kind k from position s on
 abbrev Run : List ℕ → ℕ → ℕ → ℕ → Type 0
@@ -57,18 +56,6 @@ condition-low w e = by-cases (decLt 4 (form w)) (λ h. absurd (true-false (sym e
   where
     high : 4 < form w → conditionShape w ≡ false
     high h = rw (lt-leb (form w) 1 (omega arith), le-leb 2 (form w) (omega arith), lt-leb (form w) 3 (omega arith), ne-eqb (form w) 4 (λ z. omega arith))
-
--- a word after a set that is no member is refused
-after-set : (job : List ℕ) (at : ℕ) → kind (getD job at 0) ≡ 6 → form (getD job at 0) ≡ 8 → eqb (kind (getD job (at + 1) 0)) 7 ≡ false
-    → refusalOf job (at + 1) ≡ 0 → ⊥
-unfolding refusalOf wordRefusal previous wordRefusalOf
-after-set job at k f other h =
-    let first : eqb (length (getD job at 0 ∷ before job at)) 0 ≡ false = ne-eqb (length (getD job at 0 ∷ before job at)) 0 not-zero in
-    let two = simp (before-more job at, k, f, other, first, cond-same) at h in
-    omega arith
-  where
-    not-zero : length (getD job at 0 ∷ before job at) ≡ 0 → ⊥
-    not-zero z = omega arith
 
 -- a set that is the last word is refused
 no-empty : (job : List ℕ) (at : ℕ) → kind (getD job at 0) ≡ 6 → form (getD job at 0) ≡ 8 → countOfKind 7 (since 6 (before job (at + 1))) ≡ 0
@@ -147,12 +134,14 @@ module _ (job : List ℕ) (ok : jobRefusal job .number ≡ 0) {p at : ℕ} (node
   some-members = by-cases (decLt 0 m) (λ h. h) (λ h. absurd (none (omega arith)))
     where
       -- only a member follows a set
-      follows : m ≡ 0 → at + 1 < length job → ⊥
-      follows z l =
+      next : m ≡ 0 → at + 1 < length job → ⊥
+      next z l =
+          let is-set : isSet (getD job at 0) ≡ true = rw (node .of-kind, set) in
           let w = getD job (at + 1) 0 in
           let stop = takeWhile-stop (ofKind 7) (drop (at + 1) job) (omega (arith, length-drop (at + 1) job)) in
           let other : eqb (kind w) 7 ≡ false = rw (z, getD-drop, add-zero) at stop in
-          after-set job at (node .of-kind) set other (first-none (refusalOf job) (length job) (c .words) (at + 1) l)
+          let may = follows job ok (kind w) (at + 1) l refl in
+          eqb-false (kind w) 7 other (set-member (kind w) (rw (before-more job at, set-before (getD job at 0) (before job at) is-set) at may))
 
       -- and the last node's set has members
       ends : m ≡ 0 → (at + 1 < length job → ⊥) → ⊥
@@ -161,7 +150,7 @@ module _ (job : List ℕ) (ok : jobRefusal job .number ≡ 0) {p at : ℕ} (node
           no-empty job at (node .of-kind) set (start-since 7) (rw e at (end-clear job c .filled))
 
       none : m ≡ 0 → ⊥
-      none z = by-cases (decLt (at + 1) (length job)) (follows z) (ends z)
+      none z = by-cases (decLt (at + 1) (length job)) (next z) (ends z)
 
   -- what the rule of its kind says of condition i
   condition : (i : ℕ) → i < length (takeWhile (ofKind 8) (drop (at + 1 + m) job)) → (i < 8) × ConditionFormed job m (getD job (at + 1 + m + i) 0)
@@ -173,7 +162,7 @@ module _ (job : List ℕ) (ok : jobRefusal job .number ≡ 0) {p at : ℕ} (node
       let q = before job pos in
       let n = countOfKind 7 (since 6 q) in
       let forms = countOfKind 5 q in
-      let g = within-limit 8 (countOfKind 8 (since 6 q)) (within 7 8 (kind (previous q)) && conditionShape w) (conditionRange forms n w) (rule-passed job (c .words) 8 pos (a .2) (a .1)) in
+      let g = within-limit 8 (countOfKind 8 (since 6 q)) (conditionShape w) (conditionRange forms n w) (rule-passed job (c .words) 8 pos (a .2) (a .1)) in
       let members : Run job 7 (at + 1) m = run 7 (at + 1) in
       let sofar : Run job 8 (at + 1 + m) i = λ j l. led 8 (at + 1 + m) j (omega arith) .1 in
       let sevens = run-since job 7 (at + 1) 7 m (λ z. omega arith) members in
@@ -182,8 +171,7 @@ module _ (job : List ℕ) (ok : jobRefusal job .number ≡ 0) {p at : ℕ} (node
       let eights2 = run-since job 8 (at + 1 + m) 8 i (λ z. omega arith) sofar in
       let same : n ≡ m = omega (arith, sevens, sevens2, start-since 7) in
       let inside = a .2 in
-      let shape = both-true (within 7 8 (kind (previous q))) (conditionShape w) (g .0) .1 in
-      let low = condition-low w shape in
+      let low = condition-low w (g .0) in
       let f = implies (within 2 4 (form w)) (ltb (conditionFormula w) forms) in
       let x = ltb (conditionI w) n in
       let y = implies (leb (form w) 1 || eqb (form w) 4) (ltb (conditionJ w) n) in
@@ -196,7 +184,7 @@ module _ (job : List ℕ) (ok : jobRefusal job .number ≡ 0) {p at : ℕ} (node
           forms = low;
           formula = λ h. omega (arith, count-grows 5 job pos (length job) (omega arith), ltb-true (conditionFormula w) forms (implies-true (within 2 4 (form w)) (ltb (conditionFormula w) forms) (r3 .0) (true-within 2 4 (form w) h low)));
           first = omega (arith, same, ltb-true (conditionI w) n (r3 .1));
-          second = omega (arith, same, second w n shape (r2 .1) (omega (arith, same, some-members)));
+          second = omega (arith, same, second w n (g .0) (r2 .1) (omega (arith, same, some-members)));
         },
       )
 

@@ -2,19 +2,20 @@
 use mathlib.Core.Bool.{Bool, true, false, cond}
 use mathlib.Core.List.{List}
 use mathlib.Core.Path.{_≡_, refl, ap, sym, _∙_}
-use Prim.Native.Nat.{ℕ, zero, suc, _-_, _≤_, _<_}
+use Prim.Native.Nat.{ℕ, zero, suc, _-_, _<_}
 use native.Mathlib.Omega.{arith}
 use borrow.Author.Tests.{eqb-true, eqb-false, ltb-true}
 use lib.Dec.{eqb}
-use lib.ListN.{length, getD}
+use lib.ListN.{getD}
 use Rattle.words.specs.Fields.{form}
 use Rattle.answers.proofs.Rows.{first-none}
-use Rattle.job.specs.Before.{before, named}
+use Rattle.job.specs.Before.{named}
 use Rattle.job.specs.Refusal.{nameRefusal, jobRefusal}
-use Rattle.job.specs.Parts.{total, nodeCount, nodeWord}
-use Rattle.job.specs.WellFormed.{SetFormed, WellFormed}
-use Rattle.job.proofs.Table.{graded, few, limits-actions, limits-formulas, limits-nodes, clear}
+use Rattle.job.specs.Parts.{total, nodeWord}
+use Rattle.job.specs.WellFormed.{WellFormed}
+use Rattle.job.proofs.Refusal.{graded, few, limits-formulas, limits-nodes, clear}
 use Rattle.job.proofs.Parts.{size, ranges, rule, ends, word, word-at, lasts, formula, node}
+use Rattle.job.proofs.Known.{known-front, known-once}
 use Rattle.job.proofs.TaskSets.{set-formed}
 
 -- a node that gives no number is named exactly once
@@ -44,6 +45,8 @@ well-formed job ok =
       few-actions = r .1 .1;
       few-moments = r .2;
       known = λ i l h. ltb-true _ _ (graded _ _ _ (rule job ok 2 i l h) .1);
+      known-front = known-front job ok;
+      known-once = known-once job ok;
       counted = e .counted;
       lasting = λ a l. lasts job ok (word job ok 3 a (rw (e .counted) l) .1);
       law = λ i l h. ltb-true _ _ (graded _ _ _ (rule job ok 4 i l h) .1);

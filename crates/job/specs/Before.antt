@@ -6,17 +6,13 @@ use lib.Dec.{eqb}
 use lib.ListN.{getD}
 use Rattle.words.specs.Tests.{indicator}
 use Rattle.words.specs.Fields.{kind}
-use Rattle.job.specs.Rules.{names}
+use Rattle.words.specs.Scan.{count}
+use Rattle.job.specs.Children.{wordChildren}
 
 -- the words before position i, the nearest first
 unfoldable pub before : List ℕ → ℕ → List ℕ
 before job zero = []
 before job (suc i) = getD job i 0 ∷ before job i
-
--- the word directly before; 0, which is of no kind, where there is none
-unfoldable pub previous : List ℕ → ℕ
-previous [] = 0
-previous (w ∷ p) = w
 
 -- how many words are of kind k
 unfoldable pub countOfKind : ℕ → List ℕ → ℕ
@@ -36,4 +32,4 @@ latest k (w ∷ p) = cond (eqb (kind w) k) w (latest k p)
 -- how often node v is named as a child
 unfoldable pub named : ℕ → List ℕ → ℕ
 named v [] = 0
-named v (w ∷ p) = named v p + names v w
+named v (w ∷ p) = named v p + count v (wordChildren w)

@@ -1,10 +1,14 @@
--- The definitions that the contracts of `job` cite: Rules (the rule of each kind of word), Before (facts of the words before a word),
--- Refusal (the refusal of a job), Index (where the words of a kind stand), Parts (what a well-formed job says, part by part),
--- WellFormed (what a job has that is not refused), State (what the scan's state is of the words before).
+-- The definitions that the contracts of `job` cite: Children (the nodes that a word names), Rules (the rule of each kind of word), Follow
+-- (which words may follow which), Before (facts of the words before a word), Refusal (the refusal of a job), Index (where the words of a
+-- kind stand), Parts (what a well-formed job says, part by part), Procedure (its nodes, as the reading layer gets them), WellFormed (what a
+-- job has that is not refused), State (what the scan's state is of the words before).
+pub mod Children
 pub mod Rules
+pub mod Follow
 pub mod Before
 pub mod Refusal
 pub mod Index
 pub mod Parts
+pub mod Procedure
 pub mod WellFormed
 pub mod State

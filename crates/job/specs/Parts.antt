@@ -1,10 +1,8 @@
 -- What a well-formed job says, part by part: its head, actions, formulas and nodes. Words of a kind are numbered from 0 as they stand.
-use mathlib.Core.Bool.{Bool}
-use mathlib.Core.List.{List, map}
+use mathlib.Core.List.{List}
 use Prim.Native.Nat.{ℕ}
-use lib.Dec.{eqb}
 use lib.ListN.{getD, length, drop}
-use Rattle.words.specs.Fields.{ofKind, fluentsOf, actionsOf, lastOf, durationOf, memberNode}
+use Rattle.words.specs.Fields.{ofKind, fluentsOf, actionsOf, lastOf, durationOf}
 use Rattle.words.specs.Scan.{takeWhile, dropWhile, fromNth}
 use Rattle.job.specs.Before.{before, countOfKind}
 

@@ -7,31 +7,28 @@ use lib.ListN.{getD, length}
 use Rattle.words.specs.Tests.{within}
 use Rattle.words.specs.Fields.{kind, form, actionsOf}
 use Rattle.words.specs.Scan.{any}
-use Rattle.job.specs.Rules.{headRefusal, knownRefusal, actionRefusal, lawRefusal, sameFluent, formulaShape, formulaRange, formulaRefusal, nodeShape, nodeRange, nodeRefusal, memberRefusal, conditionShape, conditionRange, conditionRefusal}
-use Rattle.job.specs.Before.{before, previous, countOfKind, since, latest, named}
+use Rattle.job.specs.Rules.{headRefusal, knownRefusal, actionRefusal, lawRefusal, sameFluent, formulaRefusal, nodeRefusal, memberRefusal, conditionRefusal}
+use Rattle.job.specs.Before.{before, countOfKind, since, latest, named}
+use Rattle.job.specs.Follow.{byKind, predecessor, mayFollow}
 use Rattle.answers.specs.declared.Refusal.{Refusal}
 use Rattle.answers.specs.Rows.{row, firstRefusal, firstOf}
-
--- the number that a table has at a key; 2, a kind that is not allowed, where it has none
-abbrev pub refusalByKind : ℕ → List (ℕ × ℕ) → ℕ
-refusalByKind k [] = 2
-refusalByKind k (e ∷ rest) = cond (eqb k (e .0)) (e .1) (refusalByKind k rest)
 
 -- the refusal of word w after the words p of a job with that head, by each kind that it may be of; 0 for none
 abbrev pub rules : ℕ → List ℕ → ℕ → List (ℕ × ℕ)
 rules head p w =
-    (1, headRefusal (length p) w)
-    ∷ (2, knownRefusal head (previous p) (any (sameFluent head w) (since 1 p)) w)
-    ∷ (3, actionRefusal (previous p) (countOfKind 3 p) w)
-    ∷ (4, lawRefusal head (previous p) (any (sameFluent head w) (since 3 p)) w)
-    ∷ (5, formulaRefusal (previous p) (countOfKind 5 p) (formulaShape head w) (formulaRange head (countOfKind 5 p) w))
-    ∷ (6, nodeRefusal (previous p) (countOfKind 6 p) (nodeShape w) (nodeRange (countOfKind 3 p) (countOfKind 5 p) (countOfKind 6 p) w))
-    ∷ (7, memberRefusal (previous p) (countOfKind 6 p) (countOfKind 7 (since 6 p)) w)
-    ∷ (8, conditionRefusal (previous p) (countOfKind 8 (since 6 p)) (conditionShape w) (conditionRange (countOfKind 5 p) (countOfKind 7 (since 6 p)) w))
+    (1, headRefusal w)
+    ∷ (2, knownRefusal head (any (sameFluent head w) (since 1 p)) w)
+    ∷ (3, actionRefusal (countOfKind 3 p) w)
+    ∷ (4, lawRefusal head (any (sameFluent head w) (since 3 p)) w)
+    ∷ (5, formulaRefusal head (countOfKind 5 p) w)
+    ∷ (6, nodeRefusal (countOfKind 3 p) (countOfKind 5 p) (countOfKind 6 p) w)
+    ∷ (7, memberRefusal (countOfKind 6 p) (countOfKind 7 (since 6 p)) w)
+    ∷ (8, conditionRefusal (countOfKind 5 p) (countOfKind 7 (since 6 p)) (countOfKind 8 (since 6 p)) w)
     ∷ []
 
+-- 2 for a word that may not follow the one before, or of a kind that a job does not have; else by its rule
 unfoldable pub wordRefusal : ℕ → List ℕ → ℕ → ℕ
-wordRefusal head p w = refusalByKind (kind w) (rules head p w)
+wordRefusal head p w = cond (mayFollow (kind w) (predecessor p)) (byKind 2 (kind w) (rules head p w)) 2
 
 -- the refusal of the word at position i
 unfoldable pub refusalOf : List ℕ → ℕ → ℕ

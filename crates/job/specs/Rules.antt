@@ -1,13 +1,15 @@
 -- The rule of each kind: the refusal of a word by the few facts of the words before it that the document names for that kind.
--- A new kind is one more definition here and one more line of `rules` (Refusal).
+-- A new kind is one more definition here, and one more line of `predecessors` (Follow) and of `rules` (Refusal).
 use mathlib.Core.Bool.{Bool, true, not, cond, _&&_, _||_}
 use Prim.Native.Nat.{ℕ, _+_, _/_}
 use lib.Dec.{leb, ltb, eqb}
-use Rattle.words.specs.Tests.{implies, indicator, within}
-use Rattle.words.specs.Fields.{field, spare, kind, form, fluentsOf, actionsOf, lastOf, fluentOf, knownSpare, actionNumber, durationOf, roleOf, lawSpare, formulaX, formulaY, atomFluent, atomSpare, nodeX, nodeY, nodeM, nodeN, isSet, memberNode, conditionFormula, conditionI, conditionJ, conditionM, conditionN}
+use Rattle.words.specs.Tests.{implies, within}
+use Rattle.words.specs.Fields.{spare, kind, form, headSpare, fluentsOf, actionsOf, lastOf, fluentOf, knownSpare, actionSpare, actionNumber, durationOf, roleOf, lawSpare, formulaX, formulaY, atomFluent, atomSpare, nodeX, nodeM, nodeN, memberSpare, memberNode, conditionFormula, conditionI, conditionJ, conditionM, conditionN}
+use Rattle.words.specs.Scan.{every}
+use Rattle.job.specs.Children.{nodeChildren}
 
--- rows 2, 3 and 4 on a word, in turn: what is allowed by kind, form, predecessor and spare bits; by numbers, references and
--- ranges; and as a fluent not listed already
+-- rows 2, 3 and 4 on a word, in turn: what is allowed by form and spare bits; by numbers, references and ranges; and as a fluent not
+-- listed already
 unfoldable pub wordRefusalOf : Bool → Bool → Bool → ℕ
 wordRefusalOf shape range fresh = cond shape (cond range (cond fresh 0 4) 3) 2
 
@@ -15,27 +17,24 @@ wordRefusalOf shape range fresh = cond shape (cond range (cond fresh 0 4) 3) 2
 abbrev pub limited : ℕ → ℕ → Bool → Bool → ℕ
 limited most count shape range = wordRefusalOf shape (ltb count most && range) true
 
--- kind 1, head: at which position it stands
-abbrev pub headRefusal : ℕ → ℕ → ℕ
-headRefusal position w =
-    wordRefusalOf (eqb position 0 && spare w 27 24)
+-- kind 1, head
+abbrev pub headRefusal : ℕ → ℕ
+headRefusal w =
+    wordRefusalOf (headSpare w)
     (within 1 64 (fluentsOf w) && within 1 64 (actionsOf w) && leb (lastOf w) 63)
     true
 
--- kind 2, initially known: the word before it, whether its fluent is listed already
-abbrev pub knownRefusal : ℕ → ℕ → Bool → ℕ → ℕ
-knownRefusal head last listed w =
-    wordRefusalOf (within 1 2 (kind last) && knownSpare head w) (ltb (fluentOf head w) (fluentsOf head)) (not listed)
+-- kind 2, initially known: whether its fluent is listed already
+abbrev pub knownRefusal : ℕ → Bool → ℕ → ℕ
+knownRefusal head listed w = wordRefusalOf (knownSpare head w) (ltb (fluentOf head w) (fluentsOf head)) (not listed)
 
--- kind 3, action: the word before it, and how many actions are declared
-abbrev pub actionRefusal : ℕ → ℕ → ℕ → ℕ
-actionRefusal last actions w =
-    wordRefusalOf (within 1 4 (kind last) && spare w 27 12) (eqb (actionNumber w) actions && leb 1 (durationOf w)) true
+-- kind 3, action: how many actions are declared
+abbrev pub actionRefusal : ℕ → ℕ → ℕ
+actionRefusal actions w = wordRefusalOf (actionSpare w) (eqb (actionNumber w) actions && leb 1 (durationOf w)) true
 
--- kind 4, law: the word before it, whether its fluent is listed in this action, in roles of its pair
-abbrev pub lawRefusal : ℕ → ℕ → Bool → ℕ → ℕ
-lawRefusal head last listed w =
-    wordRefusalOf (within 3 4 (kind last) && lawSpare head w) (ltb (fluentOf head w) (fluentsOf head)) (not listed)
+-- kind 4, law: whether its fluent is listed in this action, in roles of its pair
+abbrev pub lawRefusal : ℕ → Bool → ℕ → ℕ
+lawRefusal head listed w = wordRefusalOf (lawSpare head w) (ltb (fluentOf head w) (fluentsOf head)) (not listed)
 
 -- two words of one kind list the same fluent; of laws, in the same pair of roles: needs (0, 1) or makes (2, 3). In words of kind 2 the bit
 -- that `roleOf / 2` reads is spare, so that the fluent alone counts.
@@ -58,21 +57,11 @@ formulaRange head formulas w =
     && implies (within 2 4 (form w)) (ltb (formulaX w) formulas)
     && implies (within 3 4 (form w)) (ltb (formulaY w) formulas)
 
--- the word before it, how many formulas are declared, and its shape and range
-abbrev pub formulaRefusal : ℕ → ℕ → Bool → Bool → ℕ
-formulaRefusal last formulas shape range = limited 64 formulas (within 1 5 (kind last) && shape) range
+-- how many formulas are declared
+abbrev pub formulaRefusal : ℕ → ℕ → ℕ → ℕ
+formulaRefusal head formulas w = limited 64 formulas (formulaShape head w) (formulaRange head formulas w)
 
--- kind 6, program node: the forms that name X (2, 3, 6, 7), Y (these, 4 and 5), M (4) as a child
-abbrev pub childX : ℕ → Bool
-childX w = within 2 3 (form w) || within 6 7 (form w)
-
-abbrev pub childY : ℕ → Bool
-childY w = within 2 7 (form w)
-
-abbrev pub childM : ℕ → Bool
-childM w = eqb (form w) 4
-
--- its form is one of these, and the fields that it does not use are zero
+-- kind 6, program node: its form is one of these, and the fields that it does not use are zero
 abbrev pub nodeShape : ℕ → Bool
 nodeShape w =
     (leb (form w) 1 && spare w 17 0)
@@ -86,19 +75,16 @@ abbrev pub nodeRange : ℕ → ℕ → ℕ → ℕ → Bool
 nodeRange actions formulas nodes w =
     implies (eqb (form w) 0) (ltb (nodeX w) actions)
     && implies (eqb (form w) 1 || within 4 5 (form w)) (ltb (nodeX w) formulas)
-    && implies (childX w) (ltb (nodeX w) nodes)
-    && implies (childY w) (ltb (nodeY w) nodes)
-    && implies (childM w) (ltb (nodeM w) nodes)
+    && every (λ q. ltb q nodes) (nodeChildren w)
     && implies (within 6 7 (form w)) (leb (nodeM w) (nodeN w))
 
--- the word before it, how many nodes are declared, and its shape and range
-abbrev pub nodeRefusal : ℕ → ℕ → Bool → Bool → ℕ
-nodeRefusal last nodes shape range = limited 64 nodes (within 1 8 (kind last) && not (isSet last) && shape) range
+-- how many actions, formulas and nodes are declared
+abbrev pub nodeRefusal : ℕ → ℕ → ℕ → ℕ → ℕ
+nodeRefusal actions formulas nodes w = limited 64 nodes (nodeShape w) (nodeRange actions formulas nodes w)
 
--- kind 7, member: the word before it, how many nodes are declared, the last of which is its set, and that set's members so far
-abbrev pub memberRefusal : ℕ → ℕ → ℕ → ℕ → ℕ
-memberRefusal last nodes members w =
-    limited 4 members ((isSet last || eqb (kind last) 7) && spare w 27 6) (ltb (memberNode w + 1) nodes)
+-- kind 7, member: how many nodes are declared, the last of which is its set, and that set's members so far
+abbrev pub memberRefusal : ℕ → ℕ → ℕ → ℕ
+memberRefusal nodes members w = limited 4 members (memberSpare w) (ltb (memberNode w + 1) nodes)
 
 -- kind 8, condition: its form is one of these, and the fields that it does not use are zero
 abbrev pub conditionShape : ℕ → Bool
@@ -115,14 +101,6 @@ conditionRange formulas members w =
     && implies (leb (form w) 1 || eqb (form w) 4) (ltb (conditionJ w) members)
     && implies (leb (form w) 3) (leb (conditionM w) (conditionN w))
 
--- the word before it, the set's conditions so far, and its shape and range
-abbrev pub conditionRefusal : ℕ → ℕ → Bool → Bool → ℕ
-conditionRefusal last conditions shape range = limited 8 conditions (within 7 8 (kind last) && shape) range
-
--- how often a word names node v as a child: as X, Y or M of a node, or as a member
-abbrev pub names : ℕ → ℕ → ℕ
-names v w =
-    indicator (eqb (kind w) 6 && childX w && eqb (nodeX w) v)
-    + indicator (eqb (kind w) 6 && childY w && eqb (nodeY w) v)
-    + indicator (eqb (kind w) 6 && childM w && eqb (nodeM w) v)
-    + indicator (eqb (kind w) 7 && eqb (memberNode w) v)
+-- how many formulas are declared, and the set's members and conditions so far
+abbrev pub conditionRefusal : ℕ → ℕ → ℕ → ℕ → ℕ
+conditionRefusal formulas members conditions w = limited 8 conditions (conditionShape w) (conditionRange formulas members w)

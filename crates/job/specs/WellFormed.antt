@@ -3,9 +3,11 @@
 use mathlib.Core.List.{List}
 use mathlib.Core.Path.{_≡_}
 use mathlib.Core.Logic.{_⊎_}
-use Prim.Native.Nat.{ℕ, suc, _+_, _<_, _≤_}
+use Prim.Native.Nat.{ℕ, suc, _<_, _≤_}
 use lib.ListN.{length, getD, drop}
-use Rattle.words.specs.Fields.{kind, form, fluentOf, formulaX, formulaY, atomFluent, nodeX, nodeY, nodeM, nodeN, memberNode, conditionFormula, conditionI, conditionJ, conditionM, conditionN}
+use Rattle.words.specs.Fields.{kind, form, fluentOf, formulaX, formulaY, atomFluent, nodeX, nodeM, nodeN, memberNode, conditionFormula, conditionI, conditionJ}
+use Rattle.words.specs.Scan.{count}
+use Rattle.job.specs.Children.{nodeChildren}
 use Rattle.job.specs.Before.{before, named}
 use Rattle.job.specs.Parts.{headWord, fluents, actions, lastMoment, total, wordsFrom, duration, formulaCount, formulaWord, nodeCount, nodeWord, memberWords, conditionWords}
 
@@ -26,9 +28,7 @@ pub record NodeFormed (job : List ℕ) (p : ℕ) : Type 0 where
   pub forms : form (nodeWord job p) ≤ 8
   pub action : form (nodeWord job p) ≡ 0 → nodeX (nodeWord job p) < actions job
   pub formula : (form (nodeWord job p) ≡ 1) ⊎ ((4 ≤ form (nodeWord job p)) × (form (nodeWord job p) ≤ 5)) → nodeX (nodeWord job p) < formulaCount job
-  pub lower-x : ((2 ≤ form (nodeWord job p)) × (form (nodeWord job p) ≤ 3)) ⊎ ((6 ≤ form (nodeWord job p)) × (form (nodeWord job p) ≤ 7)) → nodeX (nodeWord job p) < p
-  pub lower-y : 2 ≤ form (nodeWord job p) → form (nodeWord job p) ≤ 7 → nodeY (nodeWord job p) < p
-  pub lower-m : form (nodeWord job p) ≡ 4 → nodeM (nodeWord job p) < p
+  pub lower : (q : ℕ) → 0 < count q (nodeChildren (nodeWord job p)) → q < p
   pub window : 6 ≤ form (nodeWord job p) → form (nodeWord job p) ≤ 7 → nodeM (nodeWord job p) ≤ nodeN (nodeWord job p)
 
 -- a condition of a task set with `members` members
@@ -46,6 +46,7 @@ pub record SetFormed (job : List ℕ) (p : ℕ) : Type 0 where
   pub few-conditions : length (conditionWords job p) ≤ 8
   pub condition : (c : ℕ) → c < length (conditionWords job p) → ConditionFormed job (length (memberWords job p)) (getD (conditionWords job p) c 0)
 
+-- a well-formed job; its words of kind 2 stand directly after the head, and no two list one fluent
 pub record WellFormed (job : List ℕ) : Type 0 where
   pub some : 0 < length job
   pub short : length job ≤ 2048
@@ -55,6 +56,8 @@ pub record WellFormed (job : List ℕ) : Type 0 where
   pub few-actions : actions job ≤ 64
   pub few-moments : lastMoment job ≤ 63
   pub known : (i : ℕ) → i < length job → kind (getD job i 0) ≡ 2 → fluentOf (headWord job) (getD job i 0) < fluents job
+  pub known-front : (i : ℕ) → i < length job → kind (getD job i 0) ≡ 2 → (j : ℕ) → 0 < j → j ≤ i → kind (getD job j 0) ≡ 2
+  pub known-once : (i j : ℕ) → i < length job → j < length job → kind (getD job i 0) ≡ 2 → kind (getD job j 0) ≡ 2 → fluentOf (headWord job) (getD job i 0) ≡ fluentOf (headWord job) (getD job j 0) → i ≡ j
   pub counted : total 3 job ≡ actions job
   pub lasting : (a : ℕ) → a < actions job → 0 < duration job a
   pub law : (i : ℕ) → i < length job → kind (getD job i 0) ≡ 4 → fluentOf (headWord job) (getD job i 0) < fluents job

@@ -3,19 +3,60 @@ ghost use mathlib.Core.Path.{_≡_};
 ghost use Rattle.job.specs.Refusal.{jobRefusal};
 ghost use Rattle.job.specs.Index.{checkedOf};
 use answers::Refusal;
+use job_end::end_refusal;
 use positions::index_words;
 use scan::scan_words;
-use tail::end_refusal;
 
+pub mod job_end;
 pub mod positions;
 pub mod rules;
 pub mod scan;
-pub mod tail;
+
+// The kinds of a job's words (a `match` takes constants of its own crate only), and what else may stand before a word.
+pub const HEAD: u32 = words::HEAD;
+
+pub const KNOWN: u32 = words::KNOWN;
+
+pub const ACTION: u32 = words::ACTION;
+
+pub const LAW: u32 = words::LAW;
+
+pub const FORMULA: u32 = words::FORMULA;
+
+pub const NODE: u32 = words::NODE;
+
+pub const MEMBER: u32 = words::MEMBER;
+
+pub const CONDITION: u32 = words::CONDITION;
+
+pub const TASK_SET: u32 = 16;
+
+pub const NOTHING: u32 = 17;
+
+// The limits of a job: its words, what its head may say, what it declares, and what a task set has.
+pub const MAX_WORDS: usize = 2048;
+
+pub const MAX_FLUENTS: usize = 64;
+
+pub const MAX_ACTIONS: usize = 64;
+
+pub const LAST_MOMENT: usize = 63;
+
+pub const MAX_FORMULAS: usize = 64;
+
+pub const MAX_NODES: usize = 64;
+
+pub const MAX_MEMBERS: usize = 4;
+
+pub const MAX_CONDITIONS: usize = 8;
+
+// Of each kind that is indexed (actions, formulas, nodes) there are at most as many.
+pub const MAX_PLACES: usize = 64;
 
 // How many words of one kind there are, and where each stands.
 pub struct Places {
     pub total: usize,
-    pub position: [usize; 64],
+    pub position: [usize; MAX_PLACES],
 }
 
 pub struct Index {
@@ -49,11 +90,8 @@ fn job_refusal(job: &[u32]) -> Refusal
     ensures { λ r. ⌜ r ≡ jobRefusal (now (job .entry)) ⌝ }
 {
     let n = job.len();
-    if !((1 <= n) & (n <= 2048)) {
-        return Refusal {
-            number: 1,
-            position: 0,
-        };
+    if !((1 <= n) & (n <= MAX_WORDS)) {
+        return answers::refuse(1, 0);
     }
     let words = scan_words(job);
     let refusal = words.refusal;

@@ -4,7 +4,11 @@ ghost use Prim.Native.Nat.{_≤_};
 ghost use lib.ListN.{length};
 ghost use Rattle.job.specs.Before.{before, countOfKind};
 ghost use Rattle.job.specs.Index.{placesUpto, indexUpto};
+use crate::ACTION;
+use crate::FORMULA;
 use crate::Index;
+use crate::MAX_PLACES;
+use crate::NODE;
 use crate::Places;
 
 // The positions of the words of kind `k` among the first `n`.
@@ -12,11 +16,11 @@ fn place_words(job: &[u32], k: u32, n: usize) -> Places
     requires { ⌜ (n ≤ length (now job)) × (countOfKind k (before (now job) n) ≤ 64) ⌝ }
     ensures { λ r. ⌜ r ≡ placesUpto k (now (job .entry)) n ⌝ }
 {
-    let mut position = [0usize; 64];
+    let mut position = [0usize; MAX_PLACES];
     let mut total: usize = 0;
     let mut i = 0;
     while i < n {
-        if job[i] / 268435456 % 16 == k {
+        if words::kind_of(job[i]) == k {
             position[total] = i;
             total += 1;
         }
@@ -30,9 +34,9 @@ pub fn index_words(job: &[u32], n: usize) -> Index
     requires { ⌜ (n ≤ length (now job)) × (countOfKind 3 (before (now job) n) ≤ 64) × (countOfKind 5 (before (now job) n) ≤ 64) × (countOfKind 6 (before (now job) n) ≤ 64) ⌝ }
     ensures { λ r. ⌜ r ≡ indexUpto (now (job .entry)) n ⌝ }
 {
-    let actions = place_words(job, 3, n);
-    let formulas = place_words(job, 5, n);
-    let nodes = place_words(job, 6, n);
+    let actions = place_words(job, ACTION, n);
+    let formulas = place_words(job, FORMULA, n);
+    let nodes = place_words(job, NODE, n);
     Index {
         actions,
         formulas,

@@ -1,9 +1,30 @@
-// The rule of each kind, as tests with no branch: the value of the code is the definition's own term, so most prove themselves.
+// Which words may follow which, and the rule of each kind, as tests with no branch: the value of the code is the definition's own term, so
+// most prove themselves.
 ghost use mathlib.Core.Bool.{cond};
 ghost use mathlib.Core.Path.{_≡_};
 ghost use Prim.Native.Nat.{_≤_};
 ghost use Rattle.words.specs.Tests.{indicator};
-ghost use Rattle.job.specs.Rules.{wordRefusalOf, limited, headRefusal, knownRefusal, actionRefusal, lawRefusal, sameFluent, formulaShape, formulaRange, formulaRefusal, nodeShape, nodeRange, nodeRefusal, memberRefusal, conditionShape, conditionRange, conditionRefusal, names};
+ghost use Rattle.words.specs.Scan.{count};
+ghost use Rattle.job.specs.Children.{wordChildren};
+ghost use Rattle.job.specs.Follow.{mayFollow};
+ghost use Rattle.job.specs.Rules.{wordRefusalOf, limited, headRefusal, knownRefusal, actionRefusal, lawRefusal, sameFluent, formulaShape, formulaRange, formulaRefusal, nodeShape, nodeRange, nodeRefusal, memberRefusal, conditionShape, conditionRange, conditionRefusal};
+use crate::ACTION;
+use crate::CONDITION;
+use crate::FORMULA;
+use crate::HEAD;
+use crate::KNOWN;
+use crate::LAST_MOMENT;
+use crate::LAW;
+use crate::MAX_ACTIONS;
+use crate::MAX_CONDITIONS;
+use crate::MAX_FLUENTS;
+use crate::MAX_FORMULAS;
+use crate::MAX_MEMBERS;
+use crate::MAX_NODES;
+use crate::MEMBER;
+use crate::NODE;
+use crate::NOTHING;
+use crate::TASK_SET;
 
 pub fn grade_of(shape: bool, range: bool, fresh: bool) -> u32
     ensures { λ r. ⌜ r ≡ wordRefusalOf shape range fresh ⌝ }
@@ -33,68 +54,91 @@ pub fn one_if(t: bool) -> usize
     if t { 1 } else { 0 }
 }
 
-pub fn head(position: usize, w: u32) -> u32
-    ensures { λ r. ⌜ r ≡ headRefusal position w ⌝ }
+// Whether a word of kind `k` may stand directly after `v`.
+pub fn may_follow(k: u32, v: u32) -> bool
+    ensures { λ r. ⌜ r ≡ mayFollow k v ⌝ }
 {
-    let fluents = w / 65536 % 256;
-    let actions = w / 256 % 256;
+    match k {
+        HEAD => v == NOTHING,
+        KNOWN => (HEAD <= v) & (v <= KNOWN),
+        ACTION => (HEAD <= v) & (v <= LAW),
+        LAW => (ACTION <= v) & (v <= LAW),
+        FORMULA => (HEAD <= v) & (v <= FORMULA),
+        NODE => (HEAD <= v) & (v <= CONDITION),
+        MEMBER => (v == TASK_SET) | (v == MEMBER),
+        CONDITION => (MEMBER <= v) & (v <= CONDITION),
+        _ => false,
+    }
+}
+
+pub fn head(w: u32) -> u32
+    ensures { λ r. ⌜ r ≡ headRefusal w ⌝ }
+{
+    let spare = words::head_spare(w);
+    let fluents = words::fluents_of(w);
+    let actions = words::actions_of(w);
     let range = (1 <= fluents)
-        & (fluents <= 64)
-        & ((1 <= actions) & (actions <= 64))
-        & (w / 1 % 256 <= 63);
-    grade_of((position == 0) & (w / 16777216 % 16 == 0), range, true)
+        & (fluents <= MAX_FLUENTS)
+        & ((1 <= actions) & (actions <= MAX_ACTIONS))
+        & (words::last_of(w) <= LAST_MOMENT);
+    grade_of(spare, range, true)
 }
 
 // The words that list a fluent: whether it is the job's.
-pub fn known(head: u32, last: u32, listed: bool, w: u32) -> u32
-    ensures { λ r. ⌜ r ≡ knownRefusal head last listed w ⌝ }
+pub fn known(head: u32, listed: bool, w: u32) -> u32
+    ensures { λ r. ⌜ r ≡ knownRefusal head listed w ⌝ }
 {
-    let k = last / 268435456 % 16;
     let spare = words::known_spare(head, w);
     let range = words::fluent_of(head, w) < words::fluents_of(head);
-    grade_of((1 <= k) & (k <= 2) & spare, range, !listed)
+    grade_of(spare, range, !listed)
 }
 
-pub fn law(head: u32, last: u32, listed: bool, w: u32) -> u32
-    ensures { λ r. ⌜ r ≡ lawRefusal head last listed w ⌝ }
+pub fn law(head: u32, listed: bool, w: u32) -> u32
+    ensures { λ r. ⌜ r ≡ lawRefusal head listed w ⌝ }
 {
-    let k = last / 268435456 % 16;
     let spare = words::law_spare(head, w);
     let range = words::fluent_of(head, w) < words::fluents_of(head);
-    grade_of((3 <= k) & (k <= 4) & spare, range, !listed)
+    grade_of(spare, range, !listed)
 }
 
 pub fn same_fluent(head: u32, w: u32, v: u32) -> bool
     ensures { λ r. ⌜ r ≡ sameFluent head w v ⌝ }
 {
-    (v / 268435456 % 16 == w / 268435456 % 16)
+    (words::kind_of(v) == words::kind_of(w))
         & (words::role_of(head, v) / 2 == words::role_of(head, w) / 2)
         & (words::fluent_of(head, v) == words::fluent_of(head, w))
 }
 
-pub fn action(last: u32, actions: usize, w: u32) -> u32
-    ensures { λ r. ⌜ r ≡ actionRefusal last actions w ⌝ }
+pub fn action(actions: usize, w: u32) -> u32
+    ensures { λ r. ⌜ r ≡ actionRefusal actions w ⌝ }
 {
-    let k = last / 268435456 % 16;
-    let range = ((w / 64 % 64) as usize == actions) & (1 <= w / 1 % 64);
-    grade_of((1 <= k) & (k <= 4) & (w / 4096 % 65536 == 0), range, true)
+    let spare = words::action_spare(w);
+    let range = (words::action_number(w) == actions) & (1 <= words::duration_of(w));
+    grade_of(spare, range, true)
 }
 
-pub fn formula_shape(head: u32, w: u32) -> bool
+// A word of a kind of which there are at most `most`.
+fn limited_to(most: usize, count: usize, shape: bool, range: bool) -> u32
+    ensures { λ r. ⌜ r ≡ limited most count shape range ⌝ }
+{
+    grade_of(shape, (count < most) & range, true)
+}
+
+fn formula_shape(head: u32, w: u32) -> bool
     ensures { λ r. ⌜ r ≡ formulaShape head w ⌝ }
 {
-    let f = w / 16777216 % 16;
+    let f = words::form_of(w);
+    let none = words::spare_23_0(w);
     let atom = words::atom_spare(head, w);
-    ((f == 0) & (w / 1 % 16777216 == 0))
-        | ((f == 1) & atom)
-        | ((f == 2) & ((w / 4096 % 4096 == 0) & (w / 1 % 64 == 0)))
-        | ((3 <= f) & (f <= 4) & (w / 4096 % 4096 == 0))
+    let high = words::spare_23_12(w);
+    let low = words::spare_5_0(w);
+    ((f == 0) & none) | ((f == 1) & atom) | ((f == 2) & (high & low)) | ((3 <= f) & (f <= 4) & high)
 }
 
-pub fn formula_range(head: u32, formulas: usize, w: u32) -> bool
+fn formula_range(head: u32, formulas: usize, w: u32) -> bool
     ensures { λ r. ⌜ r ≡ formulaRange head formulas w ⌝ }
 {
-    let f = w / 16777216 % 16;
+    let f = words::form_of(w);
     let x = words::formula_x(w);
     let y = words::formula_y(w);
     let atom = words::atom_fluent(head, w) < words::fluents_of(head);
@@ -103,47 +147,81 @@ pub fn formula_range(head: u32, formulas: usize, w: u32) -> bool
         & (!((3 <= f) & (f <= 4)) | (y < formulas))
 }
 
-pub fn node_shape(w: u32) -> bool
-    ensures { λ r. ⌜ r ≡ nodeShape w ⌝ }
+pub fn formula(head: u32, formulas: usize, w: u32) -> u32
+    ensures { λ r. ⌜ r ≡ formulaRefusal head formulas w ⌝ }
 {
-    let f = w / 16777216 % 16;
-    ((f <= 1) & (w / 1 % 262144 == 0))
-        | (((2 <= f) & (f <= 3) | (f == 5)) & (w / 1 % 4096 == 0))
-        | ((f == 4) & (w / 1 % 64 == 0))
-        | ((6 <= f) & (f <= 7))
-        | ((f == 8) & (w / 1 % 16777216 == 0))
+    limited_to(
+        MAX_FORMULAS,
+        formulas,
+        formula_shape(head, w),
+        formula_range(head, formulas, w),
+    )
 }
 
-pub fn node_range(actions: usize, formulas: usize, nodes: usize, w: u32) -> bool
+fn node_shape(w: u32) -> bool
+    ensures { λ r. ⌜ r ≡ nodeShape w ⌝ }
+{
+    let f = words::form_of(w);
+    let none = words::spare_23_0(w);
+    let x = words::spare_17_0(w);
+    let xy = words::spare_11_0(w);
+    let xym = words::spare_5_0(w);
+    ((f <= 1) & x)
+        | (((2 <= f) & (f <= 3) | (f == 5)) & xy)
+        | ((f == 4) & xym)
+        | ((6 <= f) & (f <= 7))
+        | ((f == 8) & none)
+}
+
+fn node_range(actions: usize, formulas: usize, nodes: usize, w: u32) -> bool
     ensures { λ r. ⌜ r ≡ nodeRange actions formulas nodes w ⌝ }
 {
-    let f = w / 16777216 % 16;
+    let f = words::form_of(w);
     let x = words::node_x(w);
     let y = words::node_y(w);
     let m = words::node_m(w);
     let late = words::node_n(w);
     let window = (6 <= f) & (f <= 7);
+    let children = (!(((2 <= f) & (f <= 3)) | window) | (x < nodes))
+        & (!((2 <= f) & (f <= 7)) | (y < nodes))
+        & (!(f == 4) | (m < nodes));
     (!(f == 0) | (x < actions))
         & (!((f == 1) | ((4 <= f) & (f <= 5))) | (x < formulas))
-        & (!(((2 <= f) & (f <= 3)) | window) | (x < nodes))
-        & (!((2 <= f) & (f <= 7)) | (y < nodes))
-        & (!(f == 4) | (m < nodes))
+        & children
         & (!window | (m <= late))
 }
 
-pub fn condition_shape(w: u32) -> bool
+pub fn node(actions: usize, formulas: usize, nodes: usize, w: u32) -> u32
+    ensures { λ r. ⌜ r ≡ nodeRefusal actions formulas nodes w ⌝ }
+{
+    limited_to(
+        MAX_NODES,
+        nodes,
+        node_shape(w),
+        node_range(actions, formulas, nodes, w),
+    )
+}
+
+pub fn member(nodes: usize, members: usize, w: u32) -> u32
+    ensures { λ r. ⌜ r ≡ memberRefusal nodes members w ⌝ }
+{
+    let range = words::member_node(w) + 1 < nodes;
+    limited_to(MAX_MEMBERS, members, words::member_spare(w), range)
+}
+
+fn condition_shape(w: u32) -> bool
     ensures { λ r. ⌜ r ≡ conditionShape w ⌝ }
 {
-    let f = w / 16777216 % 16;
+    let f = words::form_of(w);
     let k = words::condition_formula(w);
     let j = words::condition_j(w);
     ((f <= 1) & (k == 0)) | ((2 <= f) & (f <= 3) & (j == 0)) | (f == 4)
 }
 
-pub fn condition_range(formulas: usize, members: usize, w: u32) -> bool
+fn condition_range(formulas: usize, members: usize, w: u32) -> bool
     ensures { λ r. ⌜ r ≡ conditionRange formulas members w ⌝ }
 {
-    let f = w / 16777216 % 16;
+    let f = words::form_of(w);
     let k = words::condition_formula(w);
     let i = words::condition_i(w);
     let j = words::condition_j(w);
@@ -154,57 +232,26 @@ pub fn condition_range(formulas: usize, members: usize, w: u32) -> bool
         & (!(f <= 3) | window)
 }
 
-// A word of a kind of which there are at most `most`.
-pub fn limited_to(most: usize, count: usize, shape: bool, range: bool) -> u32
-    ensures { λ r. ⌜ r ≡ limited most count shape range ⌝ }
+pub fn condition(formulas: usize, members: usize, conditions: usize, w: u32) -> u32
+    ensures { λ r. ⌜ r ≡ conditionRefusal formulas members conditions w ⌝ }
 {
-    grade_of(shape, (count < most) & range, true)
-}
-
-pub fn formula(last: u32, formulas: usize, shape: bool, range: bool) -> u32
-    ensures { λ r. ⌜ r ≡ formulaRefusal last formulas shape range ⌝ }
-{
-    let k = last / 268435456 % 16;
-    limited_to(64, formulas, (1 <= k) & (k <= 5) & shape, range)
-}
-
-pub fn node(last: u32, nodes: usize, shape: bool, range: bool) -> u32
-    ensures { λ r. ⌜ r ≡ nodeRefusal last nodes shape range ⌝ }
-{
-    let k = last / 268435456 % 16;
-    let set = (k == 6) & (last / 16777216 % 16 == 8);
-    limited_to(64, nodes, (1 <= k) & (k <= 8) & !set & shape, range)
-}
-
-pub fn condition(last: u32, conditions: usize, shape: bool, range: bool) -> u32
-    ensures { λ r. ⌜ r ≡ conditionRefusal last conditions shape range ⌝ }
-{
-    let k = last / 268435456 % 16;
-    limited_to(8, conditions, (7 <= k) & (k <= 8) & shape, range)
-}
-
-pub fn member(last: u32, nodes: usize, members: usize, w: u32) -> u32
-    ensures { λ r. ⌜ r ≡ memberRefusal last nodes members w ⌝ }
-{
-    let k = last / 268435456 % 16;
-    let set = (k == 6) & (last / 16777216 % 16 == 8);
-    let range = words::member_node(w) + 1 < nodes;
     limited_to(
-        4,
-        members,
-        (set | (k == 7)) & (w / 64 % 4194304 == 0),
-        range,
+        MAX_CONDITIONS,
+        conditions,
+        condition_shape(w),
+        condition_range(formulas, members, w),
     )
 }
 
+// How often a word names node `v` as a child.
 pub fn names_of(v: usize, w: u32) -> usize
-    ensures { λ r. ⌜ (r ≡ names v w) × (r ≤ 4) ⌝ }
+    ensures { λ r. ⌜ (r ≡ count v (wordChildren w)) × (r ≤ 4) ⌝ }
 {
-    let k = w / 268435456 % 16;
-    let f = w / 16777216 % 16;
-    let x = (k == 6) & (((2 <= f) & (f <= 3)) | ((6 <= f) & (f <= 7))) & (words::node_x(w) == v);
-    let y = (k == 6) & ((2 <= f) & (f <= 7)) & (words::node_y(w) == v);
-    let m = (k == 6) & (f == 4) & (words::node_m(w) == v);
-    let z = (k == 7) & (words::member_node(w) == v);
+    let k = words::kind_of(w);
+    let f = words::form_of(w);
+    let x = (k == NODE) & (((2 <= f) & (f <= 3)) | ((6 <= f) & (f <= 7))) & (v == words::node_x(w));
+    let y = (k == NODE) & ((2 <= f) & (f <= 7)) & (v == words::node_y(w));
+    let m = (k == NODE) & (f == 4) & (v == words::node_m(w));
+    let z = (k == MEMBER) & (v == words::member_node(w));
     one_if(x) + one_if(y) + one_if(m) + one_if(z)
 }

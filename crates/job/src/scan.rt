@@ -5,19 +5,34 @@ ghost use lib.ListN.{length};
 ghost use Rattle.words.specs.Scan.{any};
 ghost use Rattle.answers.specs.Rows.{firstOf};
 ghost use Rattle.job.specs.Rules.{sameFluent};
-ghost use Rattle.job.specs.Before.{before, previous, since};
+ghost use Rattle.job.specs.Before.{before, since};
+ghost use Rattle.job.specs.Follow.{predecessor};
 ghost use Rattle.job.specs.Refusal.{refusalOf};
 ghost use Rattle.job.specs.State.{Tied};
+use crate::ACTION;
+use crate::CONDITION;
+use crate::FORMULA;
+use crate::HEAD;
+use crate::KNOWN;
+use crate::LAW;
+use crate::MEMBER;
+use crate::NODE;
+use crate::NOTHING;
 use crate::Scanned;
 use crate::State;
+use crate::TASK_SET;
 use crate::rules;
-use answers::Refusal;
 
-fn previous(job: &[u32], i: usize) -> u32
+// What stands directly before position `i`.
+fn predecessor(job: &[u32], i: usize) -> u32
     requires { ⌜ i ≤ length (now job) ⌝ }
-    ensures { λ r. ⌜ r ≡ previous (before (now (job .entry)) i) ⌝ }
+    ensures { λ r. ⌜ r ≡ predecessor (before (now (job .entry)) i) ⌝ }
 {
-    if i == 0 { 0 } else { job[i - 1] }
+    if i == 0 {
+        return NOTHING;
+    }
+    let w = job[i - 1];
+    rules::pick_word(words::is_set(w), TASK_SET, words::kind_of(w))
 }
 
 // Whether a word since the last one of kind `k` lists what `w` lists.
@@ -28,7 +43,7 @@ fn listed(job: &[u32], i: usize, k: u32, head: u32, w: u32) -> bool
     let mut j = i;
     while 0 < j {
         let v = job[j - 1];
-        if v / 268435456 % 16 == k {
+        if words::kind_of(v) == k {
             return false;
         }
         if rules::same_fluent(head, w, v) {
@@ -44,33 +59,20 @@ fn word_refusal(job: &[u32], i: usize, s: State) -> u32
     ensures { λ r. ⌜ r ≡ refusalOf (now (job .entry)) i ⌝ }
 {
     let w = job[i];
-    let v = previous(job, i);
     let head = job[0];
-    let k = w / 268435456 % 16;
+    let k = words::kind_of(w);
+    if !rules::may_follow(k, predecessor(job, i)) {
+        return 2;
+    }
     match k {
-        1 => rules::head(i, w),
-        2 => rules::known(head, v, listed(job, i, 1, head, w), w),
-        3 => rules::action(v, s.actions, w),
-        4 => rules::law(head, v, listed(job, i, 3, head, w), w),
-        5 => rules::formula(
-            v,
-            s.formulas,
-            rules::formula_shape(head, w),
-            rules::formula_range(head, s.formulas, w),
-        ),
-        6 => rules::node(
-            v,
-            s.nodes,
-            rules::node_shape(w),
-            rules::node_range(s.actions, s.formulas, s.nodes, w),
-        ),
-        7 => rules::member(v, s.nodes, s.members, w),
-        8 => rules::condition(
-            v,
-            s.conditions,
-            rules::condition_shape(w),
-            rules::condition_range(s.formulas, s.members, w),
-        ),
+        HEAD => rules::head(w),
+        KNOWN => rules::known(head, listed(job, i, HEAD, head, w), w),
+        ACTION => rules::action(s.actions, w),
+        LAW => rules::law(head, listed(job, i, ACTION, head, w), w),
+        FORMULA => rules::formula(head, s.formulas, w),
+        NODE => rules::node(s.actions, s.formulas, s.nodes, w),
+        MEMBER => rules::member(s.nodes, s.members, w),
+        CONDITION => rules::condition(s.formulas, s.members, s.conditions, w),
         _ => 2,
     }
 }
@@ -81,13 +83,13 @@ fn advance(job: &[u32], i: usize, s: State) -> State
     ensures { λ r. ⌜ Tied (before (now (job .entry)) (i + 1)) r ⌝ }
 {
     let w = job[i];
-    let k = w / 268435456 % 16;
-    let actions = s.actions + rules::one_if(k == 3);
-    let formulas = s.formulas + rules::one_if(k == 5);
-    let nodes = s.nodes + rules::one_if(k == 6);
-    let members = rules::pick_count(k == 6, 0, s.members + rules::one_if(k == 7));
-    let conditions = rules::pick_count(k == 6, 0, s.conditions + rules::one_if(k == 8));
-    let node = rules::pick_word(k == 6, w, s.node);
+    let k = words::kind_of(w);
+    let actions = s.actions + rules::one_if(k == ACTION);
+    let formulas = s.formulas + rules::one_if(k == FORMULA);
+    let nodes = s.nodes + rules::one_if(k == NODE);
+    let members = rules::pick_count(k == NODE, 0, s.members + rules::one_if(k == MEMBER));
+    let conditions = rules::pick_count(k == NODE, 0, s.conditions + rules::one_if(k == CONDITION));
+    let node = rules::pick_word(k == NODE, w, s.node);
     State {
         actions,
         formulas,
@@ -115,18 +117,12 @@ pub fn scan_words(job: &[u32]) -> Scanned
     while i < job.len() {
         let number = word_refusal(job, i, s);
         if number != 0 {
-            let refusal = Refusal {
-                number,
-                position: i,
-            };
+            let refusal = answers::refuse(number, i);
             return Scanned { refusal, state: s };
         }
         s = advance(job, i, s);
         i += 1;
     }
-    let refusal = Refusal {
-        number: 0,
-        position: 0,
-    };
+    let refusal = answers::none();
     Scanned { refusal, state: s }
 }

@@ -14,24 +14,24 @@ use Rattle.starts.specs.Rows.{wrongWord, startRows, numbered, rowsRefusa
 use Rattle.starts.proofs.Rows.{row-clear}
 use Rattle.starts.proofs.StartsFormed.{few-words}
 
-numbered-le : (number : ℕ) (test : ℕ → Bool) → number ≤ 13 → (i : ℕ) → numbered number test i ≤ 13
-numbered-le number test h i = cases (test i)
+numbered-low : (number : ℕ) (test : ℕ → Bool) → number < 2 ^ 8 → (i : ℕ) → numbered number test i < 2 ^ 8
+numbered-low number test h i = cases (test i)
   where
-    cases : (t : Bool) → cond t number 0 ≤ 13
+    cases : (t : Bool) → cond t number 0 < 2 ^ 8
     cases true = h
     cases false = omega arith
 
 -- rows with numbers of the document, on a list that is not too long
 abbrev Low : List (ℕ × (ℕ → Bool)) → Type 0
 Low [] = Unit {0}
-Low (row ∷ rest) = (row .0 ≤ 13) × Low rest
+Low (row ∷ rest) = (row .0 < 2 ^ 8) × Low rest
 
 rows-fit : (rows : List (ℕ × (ℕ → Bool))) (n : ℕ) → n ≤ 4096 → Low rows → Fitting (rowsRefusal rows n)
 unfolding rowsRefusal
 rows-fit [] n l h = passed-fits
 rows-fit (row ∷ rest) n l h =
     or-fits (firstOf (numbered (row .0) (row .1)) n) (rowsRefusal rest n)
-    (first-fits (numbered (row .0) (row .1)) (numbered-le (row .0) (row .1) (h .0)) n (omega arith))
+    (first-fits (numbered (row .0) (row .1)) (numbered-low (row .0) (row .1) (h .0)) n (omega arith))
     (rows-fit rest n l (h .1))
 
 module _ (job starts : List ℕ) (words : (i : ℕ) → getD starts i 0 < 2 ^ 32) where
@@ -49,7 +49,7 @@ module _ (job starts : List ℕ) (words : (i : ℕ) → getD starts i 0 < 2 ^ 32
       cases : (t : Bool) → eqb (firstOf f n .number) 0 ≡ t → Fitting (firstOf f n) → Fitting (cond t (refusalAt n (f n)) (firstOf f n))
       cases true e ih =
           pick-fits (eqb (f n) 0) passed-fits
-          (refusal-fits (numbered-le 6 (wrongWord job starts) (omega arith) n) (few n (eqb-true (firstOf f n .number) 0 e)))
+          (refusal-fits (numbered-low 6 (wrongWord job starts) (omega arith) n) (omega (arith, few n (eqb-true (firstOf f n .number) 0 e))))
       cases false e ih = ih
 
   pub starts-fit : Fitting (startsRefusal job starts)

@@ -15,7 +15,7 @@ use Rattle.job.proofs.WellFormed.{well-formed}
 use Rattle.answers.proofs.Rows.{or-none}
 use Rattle.starts.specs.Rows.{startsRefusal}
 use Rattle.theory.specs.Answers.{planRefusal}
-use Rattle.job.proofs.Where.{placed, positions-count}
+use Rattle.job.proofs.WordPositions.{placed, positions-count}
 
 pub checked-refusal : (job : List ℕ) (r : Checked) → r ≡ checkedOf job → r .refusal ≡ jobRefusal job
 unfolding checkedOf

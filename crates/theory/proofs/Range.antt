@@ -8,14 +8,13 @@ use borrow.Author.Tests.{eqb-true}
 use lib.Dec.{eqb, ltb}
 use lib.ListN.{length, getD}
 use Rattle.answers.specs.declared.Refusal.{Refusal}
-use Rattle.answers.specs.declared.Answer.the-variants.{Accepted, Refused}
 use Rattle.answers.specs.Rows.{firstRefusal}
-use Rattle.answers.specs.Packed.{answerOf, InRange}
+use Rattle.answers.specs.Packed.{InRange}
 use Rattle.answers.proofs.Rows.{or-none}
 use Rattle.answers.proofs.Range.{Fitting, pick-fits, refusal-fits, passed-fits, or-fits, row-fits, answer-fits}
 use Rattle.job.specs.Refusal.{jobRefusal}
 use Rattle.job.proofs.WellFormed.{well-formed}
-use Rattle.job.proofs.Range.{job-fits}
+use Rattle.job.proofs.Fits.{job-fits}
 use Rattle.facts.specs.Facts.{factsOf}
 use Rattle.facts.proofs.Lists.{facts-fit}
 use Rattle.starts.specs.Rows.{startsRefusal}
@@ -38,14 +37,6 @@ differ-fits [] (b ∷ wanted) i l = refusal-fits (omega arith) (omega arith)
 differ-fits (a ∷ given) [] i l = refusal-fits (omega arith) (omega arith)
 differ-fits (a ∷ given) (b ∷ wanted) i l = pick-fits (eqb a b) (differ-fits given wanted (suc i) (omega arith)) (refusal-fits (omega arith) (omega arith))
 
--- an accepted answer's length is asked about only where it is accepted
-length-fits : (r : Refusal) (l : ℕ) → Fitting r → (r .number ≡ 0 → l ≤ 4096) → InRange (answerOf r l 0)
-length-fits r l h few = cases (eqb (r .number) 0) refl
-  where
-    cases : (t : Bool) → eqb (r .number) 0 ≡ t → InRange (cond t (Accepted l 0) (Refused (r .number) (r .position) 0))
-    cases true e = omega (arith, few (eqb-true (r .number) 0 e))
-    cases false e = omega (arith, h)
-
 -- a plan that passes rows 1 to 10 has at most 4,096 facts
 few-facts : (job starts : List ℕ) → planRefusal job starts .number ≡ 0 → length (factsOf job starts) ≤ 4096
 unfolding planRefusal
@@ -63,10 +54,10 @@ module _ (job starts : List ℕ) (words : (i : ℕ) → getD starts i 0 < 2 ^ 32
       (rw (check-rows job starts facts)
       (next-fits (planRefusal job starts) (factsRefusal facts (factsOf job starts) 0) plan-fits
       (λ e. differ-fits facts (factsOf job starts) 0 (omega (arith, few-facts job starts e)))))
-      (omega arith) (omega arith)
+      (λ e. (omega arith, omega arith))
 
   pub fill-range : (room : ℕ) → InRange (fillAnswer room job starts)
   unfolding fillAnswer fillRefusal planRefusal
   fill-range room =
-      length-fits _ _ (or-fits (bufferRefusal room) (planRefusal job starts) (row-fits (ltb room 4096) 12 0 (omega arith) (omega arith)) plan-fits)
-      (λ e. few-facts job starts (or-none (bufferRefusal room) (planRefusal job starts) e .1))
+      answer-fits _ _ 0 (or-fits (bufferRefusal room) (planRefusal job starts) (row-fits (ltb room 4096) 12 0 (omega arith) (omega arith)) plan-fits)
+      (λ e. (omega (arith, few-facts job starts (or-none (bufferRefusal room) (planRefusal job starts) e .1)), omega arith))

@@ -12,7 +12,7 @@ use Rattle.job.specs.Index.{placesUpto, checkedOf}
 use Rattle.job.specs.Parts.{total, nodeCount}
 use Rattle.job.specs.WellFormed.{WellFormed, Indexed}
 use Rattle.job.proofs.WellFormed.{well-formed}
-use Rattle.job.proofs.Where.{placed, positions-count}
+use Rattle.job.proofs.WordPositions.{placed, positions-count}
 use Rattle.history.specs.Tables.{Named}
 use Rattle.starts.specs.Rows.{startsRefusal}
 use Rattle.starts.proofs.Words.{starts-passed, named}

@@ -1,5 +1,5 @@
 -- What tests put together say. Assumes nothing.
-use mathlib.Core.Bool.{Bool, true, false, not, _||_, cond, _&&_}
+use mathlib.Core.Bool.{Bool, true, false, _||_, cond, _&&_}
 use mathlib.Core.Logic.{_⊎_, inl, inr}
 use mathlib.Core.Path.{_≡_, refl, ap, sym}
 use Prim.Native.Nat.{ℕ, _≤_}
@@ -27,9 +27,9 @@ pub implies-true : (a b : Bool) → implies a b ≡ true → a ≡ true → b �
 implies-true true b h e = h
 implies-true false b h e = absurd (true-false (sym e))
 
-pub cond-same : (t : Bool) (n : ℕ) → cond t n n ≡ n
-cond-same true n = refl
-cond-same false n = refl
+pub cond-same : {A : Type 0} (t : Bool) (a : A) → cond t a a ≡ a
+cond-same true a = refl
+cond-same false a = refl
 
 pub indicator-le : (t : Bool) → indicator t ≤ 1
 indicator-le true = omega arith

@@ -10,7 +10,11 @@ use native.Mathlib.Decide.{decLt}
 use native.Mathlib.Omega.{arith}
 use lib.ListN.{length, getD, take, drop, drop-of-length-le}
 use lib.Seq.{drop-cons}
-use Rattle.words.specs.Scan.{any, findOr, takeWhile, dropWhile}
+use Rattle.words.specs.Scan.{any, every, findOr, takeWhile, dropWhile, count}
+use Rattle.words.specs.Tests.{indicator}
+use Rattle.words.proofs.Choices.{both-true}
+use borrow.Author.Tests.{eq-eqb, eqb-true}
+use lib.Dec.{eqb}
 
 module _ (ws : List ℕ) (i : ℕ) where
   pub drop-next : i < length ws → drop i ws ≡ getD ws i 0 ∷ drop (i + 1) ws
@@ -150,3 +154,23 @@ module _ (test : ℕ → Bool) where
   -- there are no more of them than words
   pub takeWhile-fits : (ws : List ℕ) → length (takeWhile test ws) ≤ length ws
   takeWhile-fits ws = by-cases (decLt (length ws) (length (takeWhile test ws))) (λ h. absurd (let z = takeWhile-entry ws (length ws) h in omega (arith, z .2))) (λ h. omega arith)
+
+-- what is in a list, and what holds of every word
+pub count-here : (q : ℕ) (xs : List ℕ) → 0 < count q (q ∷ xs)
+unfolding count
+count-here q xs = rw (eq-eqb q q refl) (omega arith)
+
+pub count-later : (q x : ℕ) (xs : List ℕ) → 0 < count q xs → 0 < count q (x ∷ xs)
+unfolding count
+count-later q x xs h = omega arith
+
+pub every-true : (test : ℕ → Bool) (xs : List ℕ) → every test xs ≡ true → (q : ℕ) → 0 < count q xs → test q ≡ true
+unfolding every count
+every-true test [] e q h = absurd (omega arith)
+every-true test (x ∷ xs) e q h =
+    let b = both-true (test x) (every test xs) e in
+    cases (eqb q x) refl h (b .0) (every-true test xs (b .1) q)
+  where
+    cases : (t : Bool) → eqb q x ≡ t → 0 < indicator t + count q xs → test x ≡ true → (0 < count q xs → test q ≡ true) → test q ≡ true
+    cases true f h here ih = rw (eqb-true q x f) here
+    cases false f h here ih = ih (omega arith)

@@ -31,7 +31,10 @@ unknown = 1
 abbrev pub holds : ℕ
 holds = 2
 
--- kind 1, head: fluents F, actions, last moment n
+-- kind 1, head: fluents F, actions, last moment n, and the bits that it leaves spare
+abbrev pub headSpare : ℕ → Bool
+headSpare head = spare head 27 24
+
 abbrev pub fluentsOf : ℕ → ℕ
 fluentsOf head = field head 23 16
 
@@ -52,7 +55,10 @@ knownValue head w = cond (eqb (field w 6 6) 0) holds fails
 abbrev pub knownSpare : ℕ → ℕ → Bool
 knownSpare head w = spare w 27 7
 
--- kind 3, action: its number, its duration
+-- kind 3, action: its number, its duration, and the bits that it leaves spare
+abbrev pub actionSpare : ℕ → Bool
+actionSpare w = spare w 27 12
+
 abbrev pub actionNumber : ℕ → ℕ
 actionNumber w = field w 11 6
 
@@ -104,7 +110,10 @@ nodeN w = field w 5 0
 abbrev pub isSet : ℕ → Bool
 isSet w = eqb (kind w) 6 && eqb (form w) 8
 
--- kind 7, member: its node
+-- kind 7, member: its node, and the bits that it leaves spare
+abbrev pub memberSpare : ℕ → Bool
+memberSpare w = spare w 27 6
+
 abbrev pub memberNode : ℕ → ℕ
 memberNode w = field w 5 0
 
@@ -124,7 +133,11 @@ conditionM w = field w 11 6
 abbrev pub conditionN : ℕ → ℕ
 conditionN w = field w 5 0
 
--- kind 9, start (an occurrence of an action, 004's init): its moment u (time point), its action a
+-- kind 9, start (an occurrence of an action, 004's init): its moment u (time point), its action a, and the bits that it leaves
+-- spare
+abbrev pub startSpare : ℕ → Bool
+startSpare s = spare s 27 12
+
 abbrev pub startMoment : ℕ → ℕ
 startMoment s = field s 11 6
 

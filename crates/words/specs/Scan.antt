@@ -1,5 +1,5 @@
 -- What a list of words has, by a test on a word.
-use mathlib.Core.Bool.{Bool, true, false, cond, _||_}
+use mathlib.Core.Bool.{Bool, true, false, cond, _&&_, _||_}
 use mathlib.Core.List.{List, [], _∷_, _++_}
 use Prim.Native.Nat.{ℕ, zero, suc, _+_}
 use lib.Dec.{eqb}
@@ -9,6 +9,11 @@ use Rattle.words.specs.Tests.{indicator}
 unfoldable pub any : (ℕ → Bool) → List ℕ → Bool
 any test [] = false
 any test (w ∷ ws) = test w || any test ws
+
+-- every word passes
+unfoldable pub every : (ℕ → Bool) → List ℕ → Bool
+every test [] = true
+every test (w ∷ ws) = test w && every test ws
 
 -- what the first word that passes gives, or `other` where none does
 unfoldable pub findOr : (ℕ → Bool) → (ℕ → ℕ) → ℕ → List ℕ → ℕ

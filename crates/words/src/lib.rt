@@ -1,15 +1,45 @@
-// The fields of the words, each read here alone, by the definitions of specs/Fields.antt.
+// The fields of the words, each read here alone, by the definitions of specs/Fields.antt; the kinds and the values by name.
 ghost use mathlib.Core.Bool.{cond};
 ghost use mathlib.Core.Path.{_≡_};
 ghost use Prim.Native.Nat.{_<_, _≤_};
 ghost use lib.ListN.{length, drop};
-ghost use Rattle.words.specs.Fields.{kind, ofKind, form, fluentsOf, actionsOf, lastOf, fluentOf, knownSpare, lawSpare, knownValue, durationOf, roleOf, makes, madeValue, formulaX, formulaY, atomFluent, atomSpare, nodeX, nodeY, nodeM, nodeN, memberNode, conditionFormula, conditionI, conditionJ, conditionM, conditionN, startMoment, startAction, startSpare, factWord, readingWord};
+ghost use Rattle.words.specs.Fields.{kind, ofKind, form, spare, headSpare, actionNumber, actionSpare, isSet, memberSpare, startSpare, fluentsOf, actionsOf, lastOf, fluentOf, knownSpare, lawSpare, knownValue, durationOf, roleOf, makes, madeValue, formulaX, formulaY, atomFluent, atomSpare, nodeX, nodeY, nodeM, nodeN, memberNode, conditionFormula, conditionI, conditionJ, conditionM, conditionN, startMoment, startAction, factWord, readingWord};
 ghost use Rattle.words.specs.Scan.{takeWhile};
+
+// The kinds of words.
+pub const HEAD: u32 = 1;
+
+pub const KNOWN: u32 = 2;
+
+pub const ACTION: u32 = 3;
+
+pub const LAW: u32 = 4;
+
+pub const FORMULA: u32 = 5;
+
+pub const NODE: u32 = 6;
+
+pub const MEMBER: u32 = 7;
+
+pub const CONDITION: u32 = 8;
+
+pub const START: u32 = 9;
+
+pub const FACT: u32 = 10;
+
+pub const READING: u32 = 11;
+
+// The values of a fluent or a formula.
+pub const FAILS: u8 = 0;
+
+pub const OPEN: u8 = 1;
+
+pub const HOLDS: u8 = 2;
 
 pub fn kind_of(w: u32) -> u32
     ensures { λ r. ⌜ (r ≡ kind w) × (r < 16) ⌝ }
 {
-    w / 268435456 % 16
+    w >> 28
 }
 
 // How many words of kind `k` lead what stands from position `at` on.
@@ -30,64 +60,114 @@ pub fn run_length(ws: &[u32], at: usize, k: u32) -> usize
 pub fn form_of(w: u32) -> u32
     ensures { λ r. ⌜ (r ≡ form w) × (r < 16) ⌝ }
 {
-    w / 16777216 % 16
+    (w >> 24) % 16
 }
 
-// Head: fluents, actions, last moment.
+// Forms leave fields unused: whether the bits from one to another are zero.
+pub fn spare_23_0(w: u32) -> bool
+    ensures { λ r. ⌜ r ≡ spare w 23 0 ⌝ }
+{
+    (w >> 0) % (1 << 24) == 0
+}
+
+pub fn spare_23_12(w: u32) -> bool
+    ensures { λ r. ⌜ r ≡ spare w 23 12 ⌝ }
+{
+    (w >> 12) % (1 << 12) == 0
+}
+
+pub fn spare_17_0(w: u32) -> bool
+    ensures { λ r. ⌜ r ≡ spare w 17 0 ⌝ }
+{
+    (w >> 0) % (1 << 18) == 0
+}
+
+pub fn spare_11_0(w: u32) -> bool
+    ensures { λ r. ⌜ r ≡ spare w 11 0 ⌝ }
+{
+    (w >> 0) % (1 << 12) == 0
+}
+
+pub fn spare_5_0(w: u32) -> bool
+    ensures { λ r. ⌜ r ≡ spare w 5 0 ⌝ }
+{
+    (w >> 0) % 64 == 0
+}
+
+// Head: the bits that it leaves spare are zero; fluents, actions, last moment.
+pub fn head_spare(head: u32) -> bool
+    ensures { λ r. ⌜ r ≡ headSpare head ⌝ }
+{
+    (head >> 24) % 16 == 0
+}
+
 pub fn fluents_of(head: u32) -> usize
     ensures { λ r. ⌜ (r ≡ fluentsOf head) × (r < 256) ⌝ }
 {
-    (head / 65536 % 256) as usize
+    ((head >> 16) % 256) as usize
 }
 
 pub fn actions_of(head: u32) -> usize
     ensures { λ r. ⌜ (r ≡ actionsOf head) × (r < 256) ⌝ }
 {
-    (head / 256 % 256) as usize
+    ((head >> 8) % 256) as usize
 }
 
 pub fn last_of(head: u32) -> usize
     ensures { λ r. ⌜ (r ≡ lastOf head) × (r < 256) ⌝ }
 {
-    (head / 1 % 256) as usize
+    (head % 256) as usize
 }
 
 // Initially known word, and law: the fluent, and whether the bits that each leaves spare are zero.
 pub fn fluent_of(head: u32, w: u32) -> usize
     ensures { λ r. ⌜ (r ≡ fluentOf head w) × (r < 64) ⌝ }
 {
-    (w / 1 % 64) as usize
+    (w % 64) as usize
 }
 
 pub fn known_spare(head: u32, w: u32) -> bool
     ensures { λ r. ⌜ r ≡ knownSpare head w ⌝ }
 {
-    w / 128 % 2097152 == 0
+    (w >> 7) % (1 << 21) == 0
 }
 
 pub fn law_spare(head: u32, w: u32) -> bool
     ensures { λ r. ⌜ r ≡ lawSpare head w ⌝ }
 {
-    w / 256 % 1048576 == 0
+    (w >> 8) % (1 << 20) == 0
 }
 
 pub fn known_value(head: u32, w: u32) -> u8
     ensures { λ r. ⌜ r ≡ knownValue head w ⌝ }
 {
-    holds_or_fails(w / 64 % 2 == 0)
+    holds_or_fails((w >> 6) % 2 == 0)
+}
+
+// Action: its number, its duration, and whether the bits that it leaves spare are zero.
+pub fn action_number(w: u32) -> usize
+    ensures { λ r. ⌜ (r ≡ actionNumber w) × (r < 64) ⌝ }
+{
+    ((w >> 6) % 64) as usize
+}
+
+pub fn action_spare(w: u32) -> bool
+    ensures { λ r. ⌜ r ≡ actionSpare w ⌝ }
+{
+    (w >> 12) % (1 << 16) == 0
 }
 
 pub fn duration_of(w: u32) -> usize
     ensures { λ r. ⌜ (r ≡ durationOf w) × (r < 64) ⌝ }
 {
-    (w / 1 % 64) as usize
+    (w % 64) as usize
 }
 
 // Law: the role, whether it makes a value, and which.
 pub fn role_of(head: u32, w: u32) -> u32
     ensures { λ r. ⌜ (r ≡ roleOf head w) × (r < 4) ⌝ }
 {
-    w / 64 % 4
+    (w >> 6) % 4
 }
 
 pub fn makes_value(role: u32) -> bool
@@ -105,115 +185,128 @@ pub fn made_value(role: u32) -> u8
 fn holds_or_fails(t: bool) -> u8
     ensures { λ r. ⌜ r ≡ cond t 2 0 ⌝ }
 {
-    if t { 2 } else { 0 }
+    if t { HOLDS } else { FAILS }
 }
 
 // Formula of form 1: the fluent, and whether the bits that it leaves spare are zero.
 pub fn atom_fluent(head: u32, w: u32) -> usize
     ensures { λ r. ⌜ (r ≡ atomFluent head w) × (r < 64) ⌝ }
 {
-    (w / 64 % 64) as usize
+    ((w >> 6) % 64) as usize
 }
 
 pub fn atom_spare(head: u32, w: u32) -> bool
     ensures { λ r. ⌜ r ≡ atomSpare head w ⌝ }
 {
-    (w / 4096 % 4096 == 0) & (w / 1 % 64 == 0)
+    ((w >> 12) % (1 << 12) == 0) & ((w >> 0) % 64 == 0)
 }
 
 // Formula of forms 2 to 4: X and Y.
 pub fn formula_x(w: u32) -> usize
     ensures { λ r. ⌜ (r ≡ formulaX w) × (r < 64) ⌝ }
 {
-    (w / 64 % 64) as usize
+    ((w >> 6) % 64) as usize
 }
 
 pub fn formula_y(w: u32) -> usize
     ensures { λ r. ⌜ (r ≡ formulaY w) × (r < 64) ⌝ }
 {
-    (w / 1 % 64) as usize
+    (w % 64) as usize
 }
 
 // Node: X, Y, M, N.
 pub fn node_x(w: u32) -> usize
     ensures { λ r. ⌜ (r ≡ nodeX w) × (r < 64) ⌝ }
 {
-    (w / 262144 % 64) as usize
+    ((w >> 18) % 64) as usize
 }
 
 pub fn node_y(w: u32) -> usize
     ensures { λ r. ⌜ (r ≡ nodeY w) × (r < 64) ⌝ }
 {
-    (w / 4096 % 64) as usize
+    ((w >> 12) % 64) as usize
 }
 
 pub fn node_m(w: u32) -> usize
     ensures { λ r. ⌜ (r ≡ nodeM w) × (r < 64) ⌝ }
 {
-    (w / 64 % 64) as usize
+    ((w >> 6) % 64) as usize
 }
 
 pub fn node_n(w: u32) -> usize
     ensures { λ r. ⌜ (r ≡ nodeN w) × (r < 64) ⌝ }
 {
-    (w / 1 % 64) as usize
+    (w % 64) as usize
 }
 
-// Member of a task set: its node.
+// A node of form 8, a task set.
+pub fn is_set(w: u32) -> bool
+    ensures { λ r. ⌜ r ≡ isSet w ⌝ }
+{
+    ((w >> 28) % 16 == NODE) & ((w >> 24) % 16 == 8)
+}
+
+// Member of a task set: its node, and whether the bits that it leaves spare are zero.
+pub fn member_spare(w: u32) -> bool
+    ensures { λ r. ⌜ r ≡ memberSpare w ⌝ }
+{
+    (w >> 6) % (1 << 22) == 0
+}
+
 pub fn member_node(w: u32) -> usize
     ensures { λ r. ⌜ (r ≡ memberNode w) × (r < 64) ⌝ }
 {
-    (w / 1 % 64) as usize
+    (w % 64) as usize
 }
 
 // Condition of a task set: the formula, members i and j, M, N.
 pub fn condition_formula(w: u32) -> usize
     ensures { λ r. ⌜ (r ≡ conditionFormula w) × (r < 64) ⌝ }
 {
-    (w / 262144 % 64) as usize
+    ((w >> 18) % 64) as usize
 }
 
 pub fn condition_i(w: u32) -> usize
     ensures { λ r. ⌜ (r ≡ conditionI w) × (r < 8) ⌝ }
 {
-    (w / 32768 % 8) as usize
+    ((w >> 15) % 8) as usize
 }
 
 pub fn condition_j(w: u32) -> usize
     ensures { λ r. ⌜ (r ≡ conditionJ w) × (r < 8) ⌝ }
 {
-    (w / 4096 % 8) as usize
+    ((w >> 12) % 8) as usize
 }
 
 pub fn condition_m(w: u32) -> usize
     ensures { λ r. ⌜ (r ≡ conditionM w) × (r < 64) ⌝ }
 {
-    (w / 64 % 64) as usize
+    ((w >> 6) % 64) as usize
 }
 
 pub fn condition_n(w: u32) -> usize
     ensures { λ r. ⌜ (r ≡ conditionN w) × (r < 64) ⌝ }
 {
-    (w / 1 % 64) as usize
+    (w % 64) as usize
 }
 
 // Start: the moment, the action, and whether the bits that it leaves spare are zero.
+pub fn start_spare(s: u32) -> bool
+    ensures { λ r. ⌜ r ≡ startSpare s ⌝ }
+{
+    (s >> 12) % (1 << 16) == 0
+}
+
 pub fn start_moment(s: u32) -> usize
     ensures { λ r. ⌜ (r ≡ startMoment s) × (r < 64) ⌝ }
 {
-    (s / 64 % 64) as usize
+    ((s >> 6) % 64) as usize
 }
 
 pub fn start_action(s: u32) -> usize
     ensures { λ r. ⌜ (r ≡ startAction s) × (r < 64) ⌝ }
 {
-    (s / 1 % 64) as usize
-}
-
-pub fn start_spare(s: u32) -> bool
-    ensures { λ r. ⌜ r ≡ startSpare s ⌝ }
-{
-    s / 4096 % 65536 == 0
+    (s % 64) as usize
 }
 
 // The fact word that fluent `f` has a value, other than open, at moment `t`.
@@ -222,7 +315,7 @@ pub fn fact_word(head: u32, t: usize, f: usize, value: u8) -> u32
     ensures { λ r. ⌜ r ≡ factWord head t f value ⌝ }
 {
     let base = 2684354560 + (t as u32) * 128 + (f as u32) * 2;
-    if value == 2 { base + 0 } else { base + 1 }
+    if value == HOLDS { base + 0 } else { base + 1 }
 }
 
 // The word of a reading: node `p` from `b` to `e`.

@@ -1,12 +1,12 @@
 -- `job::check_job` meets its contract, by the test of the refusal's number. Assumes nothing.
-use mathlib.Core.Path.{_≡_, ap, sym, _∙_}
+use mathlib.Core.Path.{ap, sym, _∙_}
 use native.Mathlib.Omega.{arith}
 use borrow.Author.Tests.{eq-eqb, ne-eqb}
 use borrow.Author.Needs.{needs}
 use Rattle.answers.specs.declared.Refusal.{Refusal}
 use Rattle.job.specs.Index.{checkedOf}
-use Rattle.job.proofs.Laws.{count-none}
-use Rattle.job.proofs.Table.{clear, few, limits-actions, limits-formulas, limits-nodes}
+use Rattle.job.proofs.Before.{count-none}
+use Rattle.job.proofs.Refusal.{clear, few, limits-actions, limits-formulas, limits-nodes}
 use Rattle.job.proofs.check_job.Statement.{statement}
 use Rattle.job.proofs.check_job.Tie as tie
 

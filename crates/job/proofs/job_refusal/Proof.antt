@@ -1,15 +1,15 @@
 -- `job::job_refusal` meets its contract, by the place of `jobRefusal` at which each `return` stands. Assumes nothing.
-use mathlib.Core.Path.{_≡_, ap, sym, _∙_}
+use mathlib.Core.Path.{ap, sym, _∙_}
 use borrow.Author.Tests.{leb-true, not-false}
 use borrow.Author.Needs.{needs}
 use Rattle.answers.specs.declared.Refusal.{Refusal}
 use Rattle.words.proofs.Choices.{both-true}
-use Rattle.job.proofs.Table.{by-length, by-words, by-end}
+use Rattle.job.proofs.Refusal.{by-length, by-words, by-end}
 use Rattle.job.proofs.job_refusal.Statement.{statement}
 use Rattle.job.proofs.job_refusal.Tie as tie
 
 returns : tie.Need-returns
-returns c = sym (by-length _ (c .if1 .taken))
+returns c = c .refuse .ensures ∙ sym (by-length _ (c .before .if1 .taken))
 
 returns-2 : tie.Need-returns-2
 returns-2 c =
@@ -29,4 +29,4 @@ returns-3 c =
 pub job-refusal-spec : {M : Type 1} → statement M
 job-refusal-spec =
     tie.close
-    (tie.spec returns (λ c κs. search needs) returns-2 end-refusal-requires returns-3)
+    (tie.spec (λ c κs. search needs) returns (λ c κs. search needs) returns-2 end-refusal-requires returns-3)

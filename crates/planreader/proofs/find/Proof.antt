@@ -1,6 +1,6 @@
 -- `planreader::find` meets its contract: the answer of `finder::find_reading`, which is in range, packed. Assumes nothing.
 use borrow.Author.Needs.{needs}
-use Rattle.answers.specs.Packed.{reads-back}
+use Rattle.answers.proofs.Packed.{reads-back}
 use Rattle.planreader.proofs.find.Statement.{statement}
 use Rattle.planreader.proofs.find.Tie as tie
 

@@ -1,15 +1,12 @@
 -- `job::positions::place_words` meets its contract. The invariant: the words of the kind before `i` have their positions. Assumes nothing.
-use mathlib.Core.List.{List, []}
-use mathlib.Core.Path.{_≡_, refl, ap, sym, _∙_}
-use Prim.Native.Nat.{ℕ, _+_, _-_, _≤_, _<_}
+use mathlib.Core.Path.{_≡_, sym, _∙_}
+use Prim.Native.Nat.{_-_, _≤_}
 use mathlib.Core.Logic.{⊎-elim}
 use borrow.Author.Needs.{needs}
 use native.Mathlib.Omega.{arith}
-use lib.ListN.{length, replicate, set}
-use lib.Seq.{sets}
-use Rattle.job.specs.Before.{before, countOfKind}
-use Rattle.job.specs.Index.{positions, placesUpto}
-use Rattle.job.proofs.Where.{Marked, marked-none, room, hit, miss}
+use Rattle.job.specs.Before.{before}
+use Rattle.job.specs.Index.{placesUpto}
+use Rattle.job.proofs.WordPositions.{Marked, marked-none, room, hit, miss}
 use Rattle.job.proofs.positions.place_words.Statement.{statement}
 use Rattle.job.proofs.positions.place_words.Tie as tie
 
@@ -23,20 +20,20 @@ loop-holds : tie.Need-loop-holds Inv-loop μ-loop
 loop-holds c = (omega arith, marked-none _ _)
 
 mul-position : tie.Need-mul-position Inv-loop μ-loop
-mul-position c = omega (arith, room (c .before .before .before .loop .inv .1) _ (c .before .before .loop-test .taken) (c .if1 .taken) (c .before .before .before .before .pre .1))
+mul-position c = omega (arith, room (c .before .before .before .before .loop .inv .1) _ (c .before .before .before .loop-test .taken) (sym (c .before .kind-of .ensures .0) ∙ c .if1 .taken) (c .before .before .before .before .before .before .pre .1))
 
 array-write-position : tie.Need-array-write-position Inv-loop μ-loop
-array-write-position c = room (c .before .before .before .loop .inv .1) _ (c .before .before .loop-test .taken) (c .if1 .taken) (c .before .before .before .before .pre .1)
+array-write-position c = room (c .before .before .before .before .loop .inv .1) _ (c .before .before .before .loop-test .taken) (sym (c .before .kind-of .ensures .0) ∙ c .if1 .taken) (c .before .before .before .before .before .before .pre .1)
 
 add-total : tie.Need-add-total Inv-loop μ-loop
-add-total c = omega (arith, room (c .before .before .before .loop .inv .1) _ (c .before .before .loop-test .taken) (c .if1 .taken) (c .before .before .before .before .pre .1))
+add-total c = omega (arith, room (c .before .before .before .before .loop .inv .1) _ (c .before .before .before .loop-test .taken) (sym (c .before .kind-of .ensures .0) ∙ c .if1 .taken) (c .before .before .before .before .before .before .pre .1))
 
 loop-again : tie.Need-loop-again Inv-loop μ-loop
 loop-again c = (
   omega arith,
   ⊎-elim
-      (λ w. rw (w .1, w .2) (hit (c .before .before .before .loop .inv .1) (w .0 .taken)))
-      (λ w. rw (w .1, w .2) (miss (c .before .before .before .loop .inv .1) (w .0 .left)))
+      (λ w. rw (w .1, w .2) (hit (c .before .before .before .before .loop .inv .1) (sym (c .before .kind-of .ensures .0) ∙ w .0 .taken)))
+      (λ w. rw (w .1, w .2) (miss (c .before .before .before .before .loop .inv .1) (λ e. w .0 .left (c .before .kind-of .ensures .0 ∙ e))))
       (c .if1 .came),
 )
 
@@ -44,7 +41,7 @@ returns : tie.Need-returns Inv-loop μ-loop
 unfolding placesUpto
 returns c =
     let m = c .before .loop .inv .1 in
-    let e : c .before .loop .i ≡ c .before .before .args .n = omega arith in
+    let e : c .before .loop .i ≡ c .before .before .before .args .n = omega arith in
     rw (m .total, m .entries, e)
 
 pub place-words-spec : {M : Type 1} → statement M
@@ -56,6 +53,7 @@ place-words-spec =
     loop-holds
     (λ c. search needs)
     (λ c. search needs)
+    (λ c κs. search needs)
     mul-position
     array-write-position
     add-total

@@ -4,7 +4,17 @@ use Rattle.job.proofs.rules.condition_range.Statement.{statement}
 use Rattle.job.proofs.rules.condition_range.Tie as tie
 
 returns : tie.Need-returns
-returns c = rw (c .condition-n .ensures .0, c .before .condition-m .ensures .0, c .before .before .condition-j .ensures .0, c .before .before .before .condition-i .ensures .0, c .before .before .before .before .condition-formula .ensures .0)
+returns c =
+    rw (c .condition-n .ensures .0, c .before .condition-m .ensures .0, c .before .before .condition-j .ensures .0, c .before .before .before .condition-i .ensures .0, c .before .before .before .before .condition-formula .ensures .0, c .before .before .before .before .before .form-of .ensures .0)
 
 pub condition-range-spec : {M : Type 1} → statement M
-condition-range-spec = tie.close (tie.spec (λ c κs. search needs) (λ c κs. search needs) (λ c κs. search needs) (λ c κs. search needs) (λ c κs. search needs) returns)
+condition-range-spec =
+    tie.close
+    (tie.spec
+    (λ c κs. search needs)
+    (λ c κs. search needs)
+    (λ c κs. search needs)
+    (λ c κs. search needs)
+    (λ c κs. search needs)
+    (λ c κs. search needs)
+    returns)

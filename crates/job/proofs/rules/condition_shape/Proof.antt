@@ -4,7 +4,9 @@ use Rattle.job.proofs.rules.condition_shape.Statement.{statement}
 use Rattle.job.proofs.rules.condition_shape.Tie as tie
 
 returns : tie.Need-returns
-returns c = rw (c .condition-j .ensures .0, c .before .condition-formula .ensures .0)
+returns c =
+    rw (c .condition-j .ensures .0, c .before .condition-formula .ensures .0, c .before .before .form-of .ensures .0)
 
 pub condition-shape-spec : {M : Type 1} → statement M
-condition-shape-spec = tie.close (tie.spec (λ c κs. search needs) (λ c κs. search needs) returns)
+condition-shape-spec =
+    tie.close (tie.spec (λ c κs. search needs) (λ c κs. search needs) (λ c κs. search needs) returns)

@@ -4,8 +4,16 @@ use Rattle.job.proofs.rules.formula_range.Statement.{statement}
 use Rattle.job.proofs.rules.formula_range.Tie as tie
 
 returns : tie.Need-returns
-returns c = rw (c .fluents-of .ensures .0, c .before .atom-fluent .ensures .0, c .before .before .formula-y .ensures .0, c .before .before .before .formula-x .ensures .0)
+returns c =
+    rw (c .fluents-of .ensures .0, c .before .atom-fluent .ensures .0, c .before .before .formula-y .ensures .0, c .before .before .before .formula-x .ensures .0, c .before .before .before .before .form-of .ensures .0)
 
 pub formula-range-spec : {M : Type 1} → statement M
 formula-range-spec =
-    tie.close (tie.spec (λ c κs. search needs) (λ c κs. search needs) (λ c κs. search needs) (λ c κs. search needs) returns)
+    tie.close
+    (tie.spec
+    (λ c κs. search needs)
+    (λ c κs. search needs)
+    (λ c κs. search needs)
+    (λ c κs. search needs)
+    (λ c κs. search needs)
+    returns)

@@ -1,10 +1,19 @@
--- `job::rules::formula_shape` meets its contract, by the spare bits of form 1. Assumes nothing.
+-- `job::rules::formula_shape` meets its contract, by the fields that it reads. Assumes nothing.
 use borrow.Author.Needs.{needs}
 use Rattle.job.proofs.rules.formula_shape.Statement.{statement}
 use Rattle.job.proofs.rules.formula_shape.Tie as tie
 
 returns : tie.Need-returns
-returns c = rw (c .atom-spare .ensures)
+returns c =
+    rw (c .spare-5-0 .ensures, c .before .spare-23-12 .ensures, c .before .before .atom-spare .ensures, c .before .before .before .spare-23-0 .ensures, c .before .before .before .before .form-of .ensures .0)
 
 pub formula-shape-spec : {M : Type 1} → statement M
-formula-shape-spec = tie.close (tie.spec (λ c κs. search needs) returns)
+formula-shape-spec =
+    tie.close
+    (tie.spec
+    (λ c κs. search needs)
+    (λ c κs. search needs)
+    (λ c κs. search needs)
+    (λ c κs. search needs)
+    (λ c κs. search needs)
+    returns)

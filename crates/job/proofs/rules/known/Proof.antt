@@ -1,11 +1,11 @@
--- `job::rules::known` meets its contract: the parts of its grade are the fields that it reads. Assumes nothing.
+-- `job::rules::known` meets its contract, by the fields that it reads. Assumes nothing.
 use borrow.Author.Needs.{needs}
 use Rattle.job.proofs.rules.known.Statement.{statement}
 use Rattle.job.proofs.rules.known.Tie as tie
 
 returns : tie.Need-returns
 returns c =
-    rw (← (c .before .fluents-of .ensures .0), ← (c .before .before .fluent-of .ensures .0), ← (c .before .before .before .known-spare .ensures)) (c .grade-of .ensures)
+    rw (c .before .fluents-of .ensures .0, c .before .before .fluent-of .ensures .0, c .before .before .before .known-spare .ensures) at (c .grade-of .ensures)
 
 pub known-spec : {M : Type 1} → statement M
 known-spec =

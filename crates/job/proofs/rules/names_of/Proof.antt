@@ -1,12 +1,13 @@
--- `job::rules::names_of` meets its contract, by the fields that it reads. Assumes nothing.
+-- `job::rules::names_of` meets its contract, by the fields that it reads and the law of the children. Assumes nothing.
 use native.Mathlib.Omega.{arith}
+use Rattle.job.proofs.Children.{count-children}
 use borrow.Author.Needs.{needs}
 use Rattle.job.proofs.rules.names_of.Statement.{statement}
 use Rattle.job.proofs.rules.names_of.Tie as tie
 
 returns : tie.Need-returns
 returns c = (
-  rw (c .one-if4 .ensures .0, c .before .one-if3 .ensures .0, c .before .before .one-if2 .ensures .0, c .before .before .before .one-if .ensures .0, c .before .before .before .before .member-node .ensures .0, c .before .before .before .before .before .node-m .ensures .0, c .before .before .before .before .before .before .node-y .ensures .0, c .before .before .before .before .before .before .before .node-x .ensures .0),
+  rw (c .one-if4 .ensures .0, c .before .one-if3 .ensures .0, c .before .before .one-if2 .ensures .0, c .before .before .before .one-if .ensures .0, c .before .before .before .before .member-node .ensures .0, c .before .before .before .before .before .node-m .ensures .0, c .before .before .before .before .before .before .node-y .ensures .0, c .before .before .before .before .before .before .before .node-x .ensures .0, c .before .before .before .before .before .before .before .before .form-of .ensures .0, c .before .before .before .before .before .before .before .before .before .kind-of .ensures .0, count-children),
   omega (arith, c .one-if4 .ensures .1, c .before .one-if3 .ensures .1, c .before .before .one-if2 .ensures .1, c .before .before .before .one-if .ensures .1),
 )
 
@@ -14,6 +15,8 @@ pub names-of-spec : {M : Type 1} → statement M
 names-of-spec =
     tie.close
     (tie.spec
+    (λ c κs. search needs)
+    (λ c κs. search needs)
     (λ c κs. search needs)
     (λ c κs. search needs)
     (λ c κs. search needs)

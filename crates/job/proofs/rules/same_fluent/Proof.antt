@@ -5,14 +5,16 @@ use Rattle.job.proofs.rules.same_fluent.Tie as tie
 
 returns : tie.Need-returns
 returns c =
-    rw (
-      c .fluent-of2 .ensures .0,
-      c .before .fluent-of .ensures .0,
-      c .before .before .role-of2 .ensures .0,
-      c .before .before .before .role-of .ensures .0,
-    )
+    rw (c .fluent-of2 .ensures .0, c .before .fluent-of .ensures .0, c .before .before .role-of2 .ensures .0, c .before .before .before .role-of .ensures .0, c .before .before .before .before .kind-of2 .ensures .0, c .before .before .before .before .before .kind-of .ensures .0)
 
 pub same-fluent-spec : {M : Type 1} → statement M
 same-fluent-spec =
     tie.close
-    (tie.spec (λ c κs. search needs) (λ c κs. search needs) (λ c κs. search needs) (λ c κs. search needs) returns)
+    (tie.spec
+    (λ c κs. search needs)
+    (λ c κs. search needs)
+    (λ c κs. search needs)
+    (λ c κs. search needs)
+    (λ c κs. search needs)
+    (λ c κs. search needs)
+    returns)

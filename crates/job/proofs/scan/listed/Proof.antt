@@ -8,7 +8,7 @@ use lib.ListN.{length}
 use Rattle.job.specs.Rules.{sameFluent}
 use Rattle.words.specs.Scan.{any}
 use Rattle.job.specs.Before.{before, since}
-use Rattle.job.proofs.Laws.{since-any, since-none}
+use Rattle.job.proofs.Before.{since-any, since-none}
 use Rattle.job.proofs.scan.listed.Statement.{statement}
 use Rattle.job.proofs.scan.listed.Tie as tie
 
@@ -25,15 +25,15 @@ loop-holds c = (search needs, refl)
 returns : tie.Need-returns Inv-loop μ-loop
 returns c =
     rw
-    (c .before .before .before .loop .inv .1, since-any, c .before .before .loop-test .taken, eq-eqb _ _ (c .if1 .taken))
+    (c .before .before .before .before .loop .inv .1, since-any, c .before .before .before .loop-test .taken, eq-eqb _ _ (sym (c .before .kind-of .ensures .0) ∙ c .if1 .taken))
 
 returns-2 : tie.Need-returns-2 Inv-loop μ-loop
 returns-2 c =
     rw (
-      c .before .before .before .before .before .loop .inv .1,
+      c .before .before .before .before .before .before .loop .inv .1,
       since-any,
-      c .before .before .before .before .loop-test .taken,
-      ne-eqb _ _ (c .before .before .if1 .left),
+      c .before .before .before .before .before .loop-test .taken,
+      ne-eqb _ _ (λ e. c .before .before .if1 .left (c .before .before .before .kind-of .ensures .0 ∙ e)),
       sym (c .before .same-fluent .ensures) ∙ c .if2 .taken,
     )
 
@@ -41,10 +41,10 @@ loop-again : tie.Need-loop-again Inv-loop μ-loop
 loop-again c = (
   omega arith,
   rw (
-    c .before .before .before .before .before .loop .inv .1,
+    c .before .before .before .before .before .before .loop .inv .1,
     since-any,
-    c .before .before .before .before .loop-test .taken,
-    ne-eqb _ _ (c .before .before .if1 .left),
+    c .before .before .before .before .before .loop-test .taken,
+    ne-eqb _ _ (λ e. c .before .before .if1 .left (c .before .before .before .kind-of .ensures .0 ∙ e)),
     sym (c .before .same-fluent .ensures) ∙ c .if2 .left,
   ),
 )
@@ -64,6 +64,7 @@ listed-spec =
     (λ c. omega arith)
     (λ c. omega arith)
     (λ c. omega arith)
+    (λ c κs. search needs)
     returns
     (λ c κs. search needs)
     returns-2

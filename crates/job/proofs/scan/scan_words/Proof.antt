@@ -1,14 +1,15 @@
 -- `job::scan::scan_words` meets its contract. The invariant: no word before `i` is refused, and the state is tied to them. Assumes nothing.
-use mathlib.Core.Path.{_≡_, sym, _∙_}
+use mathlib.Core.Path.{_≡_, ap, sym, _∙_}
 use Prim.Native.Nat.{_≤_, _-_}
 use borrow.Author.Needs.{needs}
 use native.Mathlib.Omega.{arith}
 use lib.ListN.{length}
 use Rattle.job.specs.Before.{before}
+use Rattle.answers.specs.declared.Refusal.{Refusal}
 use Rattle.answers.specs.Rows.{firstOf, passed}
 use Rattle.job.specs.Refusal.{refusalOf}
 use Rattle.job.specs.State.{Tied}
-use Rattle.job.proofs.Laws.{tied-start}
+use Rattle.job.proofs.Before.{tied-start}
 use Rattle.answers.proofs.Rows.{first-start, first-more, first-found}
 use Rattle.job.proofs.scan.scan_words.Statement.{statement}
 use Rattle.job.proofs.scan.scan_words.Tie as tie
@@ -23,14 +24,16 @@ loop-holds : tie.Need-loop-holds Inv-loop μ-loop
 loop-holds c = (omega arith, tied-start _, first-start _)
 
 returns : tie.Need-returns Inv-loop μ-loop
-returns c = (
-  rw (c .before .word-refusal .ensures)
-      (sym
-      (first-found _ _ _ (c .before .before .before .loop .inv .2)
-      (λ e. c .if1 .taken (c .before .word-refusal .ensures ∙ e))
-      (c .before .before .loop-test .taken))),
-  λ e. absurd (c .if1 .taken e),
-)
+returns c =
+    let e = c .before .before .word-refusal .ensures in (
+      c .refuse .ensures
+          ∙ rw e
+          (sym
+          (first-found _ _ _ (c .before .before .before .before .loop .inv .2)
+          (λ z. c .before .if1 .taken (e ∙ z))
+          (c .before .before .before .loop-test .taken))),
+      λ z. absurd (c .before .if1 .taken (sym (ap (λ (r : Refusal). r .number) (c .refuse .ensures)) ∙ z)),
+    )
 
 loop-again : tie.Need-loop-again Inv-loop μ-loop
 loop-again c = (
@@ -41,8 +44,8 @@ loop-again c = (
 
 returns-2 : tie.Need-returns-2 Inv-loop μ-loop
 returns-2 c =
-    let e : c .before .loop .i ≡ length (c .before .before .before .args .job .now) = omega arith in
-    (rw (← e) (sym (c .before .loop .inv .2)), λ z. rw (← e) (c .before .loop .inv .1))
+    let e : c .before .before .loop .i ≡ length (c .before .before .before .before .args .job .now) = omega arith in
+    (rw (← e) (c .none .ensures ∙ sym (c .before .before .loop .inv .2)), λ z. rw (← e) (c .before .before .loop .inv .1))
 
 pub scan-words-spec : {M : Type 1} → statement M
 scan-words-spec =
@@ -52,9 +55,11 @@ scan-words-spec =
     μ-loop
     loop-holds
     (λ c κs. search needs)
+    (λ c κs. search needs)
     returns
     (λ c κs. search needs)
     (λ c. omega arith)
     (λ c. omega arith)
     loop-again
+    (λ c κs. search needs)
     returns-2)

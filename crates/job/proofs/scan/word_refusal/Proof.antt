@@ -1,67 +1,62 @@
--- `job::scan::word_refusal` meets its contract: each arm's kind picks its row of the table, and the arm's call has that row's rule at the
--- facts of the words before. Assumes nothing.
-use mathlib.Core.Path.{sym}
+-- `job::scan::word_refusal` meets its contract: each arm's kind picks its entry of the rules, and the arm's call has that rule at the facts
+-- of the words before. Assumes nothing.
+use mathlib.Core.Path.{_≡_, refl, sym, _∙_}
+use Prim.Native.Nat.{ℕ}
 use native.Mathlib.Omega.{arith}
-use Rattle.job.proofs.Laws.{length-before}
-use Rattle.job.proofs.Table.{at-kind, other-kind}
 use borrow.Author.Needs.{needs}
+use borrow.Author.Tests.{not-true, not-false, ne-eqb}
+use Rattle.job.specs.Refusal.{refusalOf}
+use Rattle.job.proofs.Refusal.{ruled, may, may-not}
 use Rattle.job.proofs.scan.word_refusal.Statement.{statement}
 use Rattle.job.proofs.scan.word_refusal.Tie as tie
 
+abbrev entry : tie.Else1 → tie.Start
+entry c = c .before .before .before .before .before .before .before
+
+-- past the test of the word before, the refusal of a word of kind k is its rule's
+passed : (c : tie.Else1) (k : ℕ) → c .before .before .before .kind-of .result ≡ k
+    → refusalOf (entry c .args .job .now) (entry c .args .i) ≡ ruled (entry c .args .job .now) (entry c .args .i) k
+passed c k h =
+    may (entry c .args .job .now) (entry c .args .i) k (sym (c .before .before .before .kind-of .ensures .0) ∙ h)
+    (rw (← (c .before .before .predecessor .ensures), ← h) (sym (c .before .may-follow .ensures) ∙ not-false _ (c .if1 .left)))
+
 returns : tie.Need-returns
 returns c =
-    let s = c .before .before .before .before .before .before in
-    rw (at-kind (s .args .job .now) (s .args .i) 1 (c .before .match .keys1), length-before)
-    (c .head .ensures)
+    let s = c .before .before .before .before .before .before .before in
+    sym
+    (may-not (s .args .job .now) (s .args .i) _ (sym (c .before .before .before .kind-of .ensures .0))
+    (rw (← (c .before .before .predecessor .ensures)) (sym (c .before .may-follow .ensures) ∙ not-true _ (c .if1 .taken))))
 
 returns-2 : tie.Need-returns-2
-returns-2 c =
-    let s = c .before .before .before .before .before .before .before in
-    rw (at-kind (s .args .job .now) (s .args .i) 2 (c .before .before .match .keys2), ← (c .before .before .before .before .previous .ensures), ← (c .before .listed .ensures))
-    (c .known .ensures)
+returns-2 c = rw (passed (c .before .before) 1 (c .before .match .keys1)) (c .head .ensures)
 
 returns-3 : tie.Need-returns-3
-returns-3 c =
-    let s = c .before .before .before .before .before .before in
-    rw (at-kind (s .args .job .now) (s .args .i) 3 (c .before .match .keys3), ← (c .before .before .before .previous .ensures), ← (s .pre .1 .actions))
-    (c .action .ensures)
+returns-3 c = rw (passed (c .before .before .before) 2 (c .before .before .match .keys2), ← (c .before .listed .ensures)) (c .known .ensures)
 
 returns-4 : tie.Need-returns-4
-returns-4 c =
-    let s = c .before .before .before .before .before .before .before in
-    rw (at-kind (s .args .job .now) (s .args .i) 4 (c .before .before .match .keys4), ← (c .before .before .before .before .previous .ensures), ← (c .before .listed2 .ensures))
-    (c .law .ensures)
+returns-4 c = rw (passed (c .before .before) 3 (c .before .match .keys3), ← (entry (c .before .before) .pre .1 .actions)) (c .action .ensures)
 
 returns-5 : tie.Need-returns-5
-returns-5 c =
-    let s = c .before .before .before .before .before .before .before .before in
-    rw (at-kind (s .args .job .now) (s .args .i) 5 (c .before .before .before .match .keys5), ← (c .before .before .before .before .before .previous .ensures), ← (s .pre .1 .formulas), ← (c .before .formula-range .ensures), ← (c .before .before .formula-shape .ensures))
-    (c .formula .ensures)
+returns-5 c = rw (passed (c .before .before .before) 4 (c .before .before .match .keys4), ← (c .before .listed2 .ensures)) (c .law .ensures)
 
 returns-6 : tie.Need-returns-6
-returns-6 c =
-    let s = c .before .before .before .before .before .before .before .before in
-    rw (at-kind (s .args .job .now) (s .args .i) 6 (c .before .before .before .match .keys6), ← (c .before .before .before .before .before .previous .ensures), ← (s .pre .1 .actions), ← (s .pre .1 .formulas), ← (s .pre .1 .nodes), ← (c .before .node-range .ensures), ← (c .before .before .node-shape .ensures))
-    (c .node .ensures)
+returns-6 c = rw (passed (c .before .before) 5 (c .before .match .keys5), ← (entry (c .before .before) .pre .1 .formulas)) (c .formula .ensures)
 
 returns-7 : tie.Need-returns-7
-returns-7 c =
-    let s = c .before .before .before .before .before .before in
-    rw (at-kind (s .args .job .now) (s .args .i) 7 (c .before .match .keys7), ← (c .before .before .before .previous .ensures), ← (s .pre .1 .nodes), ← (s .pre .1 .members))
-    (c .member .ensures)
+returns-7 c = rw (passed (c .before .before) 6 (c .before .match .keys6), ← (entry (c .before .before) .pre .1 .actions), ← (entry (c .before .before) .pre .1 .formulas), ← (entry (c .before .before) .pre .1 .nodes)) (c .node .ensures)
 
 returns-8 : tie.Need-returns-8
-returns-8 c =
-    let s = c .before .before .before .before .before .before .before .before in
-    rw (at-kind (s .args .job .now) (s .args .i) 8 (c .before .before .before .match .keys8), ← (c .before .before .before .before .before .previous .ensures), ← (s .pre .1 .formulas), ← (s .pre .1 .members), ← (s .pre .1 .conditions), ← (c .before .condition-range .ensures), ← (c .before .before .condition-shape .ensures))
-    (c .condition .ensures)
+returns-8 c = rw (passed (c .before .before) 7 (c .before .match .keys7), ← (entry (c .before .before) .pre .1 .nodes), ← (entry (c .before .before) .pre .1 .members)) (c .member .ensures)
 
 returns-9 : tie.Need-returns-9
-returns-9 c =
-    let s = c .before .before .before .before .before in
+returns-9 c = rw (passed (c .before .before) 8 (c .before .match .keys8), ← (entry (c .before .before) .pre .1 .formulas), ← (entry (c .before .before) .pre .1 .members), ← (entry (c .before .before) .pre .1 .conditions)) (c .condition .ensures)
+
+returns-10 : tie.Need-returns-10
+returns-10 c =
     let r = c .match .rest in
     sym
-    (other-kind (s .args .job .now) (s .args .i) (r .0 .0 .0 .0 .0 .0 .0 .1) (r .0 .0 .0 .0 .0 .0 .1) (r .0 .0 .0 .0 .0 .1) (r .0 .0 .0 .0 .1) (r .0 .0 .0 .1) (r .0 .0 .1) (r .0 .1) (r .1))
+    (passed (c .before) _ refl
+    ∙ rw (ne-eqb _ 1 (r .0 .0 .0 .0 .0 .0 .0 .1), ne-eqb _ 2 (r .0 .0 .0 .0 .0 .0 .1), ne-eqb _ 3 (r .0 .0 .0 .0 .0 .1), ne-eqb _ 4 (r .0 .0 .0 .0 .1), ne-eqb _ 5 (r .0 .0 .0 .1), ne-eqb _ 6 (r .0 .0 .1), ne-eqb _ 7 (r .0 .1), ne-eqb _ 8 (r .1)))
 
 pub word-refusal-spec : {M : Type 1} → statement M
 word-refusal-spec =
@@ -69,25 +64,21 @@ word-refusal-spec =
     (tie.spec
     (λ c. search needs)
     (λ c. search needs)
-    (λ c κs. search needs)
     (λ c. omega arith)
     (λ c κs. search needs)
-    (λ c κs. search needs)
-    (λ c κs. search needs)
-    (λ c κs. search needs)
-    (λ c κs. search needs)
-    (λ c κs. search needs)
-    (λ c κs. search needs)
-    (λ c κs. search needs)
-    (λ c κs. search needs)
-    (λ c κs. search needs)
-    (λ c κs. search needs)
-    (λ c κs. search needs)
-    (λ c κs. search needs)
-    (λ c κs. search needs)
-    (λ c κs. search needs)
+    (λ c κs. omega arith)
     (λ c κs. search needs)
     returns
+    (λ c κs. search needs)
+    (λ c κs. search needs)
+    (λ c κs. search needs)
+    (λ c κs. search needs)
+    (λ c κs. search needs)
+    (λ c κs. search needs)
+    (λ c κs. search needs)
+    (λ c κs. search needs)
+    (λ c κs. search needs)
+    (λ c κs. search needs)
     returns-2
     returns-3
     returns-4
@@ -95,4 +86,5 @@ word-refusal-spec =
     returns-6
     returns-7
     returns-8
-    returns-9)
+    returns-9
+    returns-10)

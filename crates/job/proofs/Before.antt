@@ -11,8 +11,8 @@ use lib.Dec.{eqb}
 use lib.ListN.{length, getD}
 use Rattle.words.specs.Tests.{indicator}
 use Rattle.words.specs.Fields.{kind}
-use Rattle.job.specs.Rules.{names}
-use Rattle.words.specs.Scan.{any}
+use Rattle.words.specs.Scan.{any, count}
+use Rattle.job.specs.Children.{wordChildren}
 use Rattle.job.specs.Before.{before, countOfKind, since, latest, named}
 use Rattle.job.specs.Refusal.{nameRefusal}
 use Rattle.job.specs.State.{Tied}
@@ -76,7 +76,7 @@ module _ (job : List ℕ) (i : ℕ) where
   unfolding latest
   latest-more k = rw (before-more job i)
 
-  pub named-more : (v : ℕ) → named v (before job (i + 1)) ≡ named v (before job i) + names v (getD job i 0)
+  pub named-more : (v : ℕ) → named v (before job (i + 1)) ≡ named v (before job i) + count v (wordChildren (getD job i 0))
   unfolding named
   named-more v = rw (before-more job i)
 

@@ -38,17 +38,11 @@ fn name_refusal(job: &[u32], root: usize) -> Refusal
     let mut v = 0;
     while v < root {
         if times_named(job, v) != 1 {
-            return Refusal {
-                number: 5,
-                position: v,
-            };
+            return answers::refuse(5, v);
         }
         v += 1;
     }
-    Refusal {
-        number: 0,
-        position: 0,
-    }
+    answers::none()
 }
 
 pub fn end_refusal(job: &[u32], s: State) -> Refusal
@@ -59,7 +53,7 @@ pub fn end_refusal(job: &[u32], s: State) -> Refusal
     let root = less_one(s.nodes);
     let count = row_of(!(s.actions == declared), 3, job.len());
     let none = row_of(s.nodes == 0, 5, 0);
-    let empty = row_of((s.node / 16777216 % 16 == 8) & (s.members == 0), 5, root);
+    let empty = row_of((words::form_of(s.node) == 8) & (s.members == 0), 5, root);
     let names = name_refusal(job, root);
     first_refusal(count, first_refusal(none, first_refusal(empty, names)))
 }

@@ -1,4 +1,4 @@
--- `job::tail::name_refusal` meets its contract. The invariant: every node below `v` is named exactly once. Assumes nothing.
+-- `job::job_end::name_refusal` meets its contract. The invariant: every node below `v` is named exactly once. Assumes nothing.
 use mathlib.Core.Path.{_≡_, sym, _∙_}
 use Prim.Native.Nat.{ℕ, _≤_, _-_}
 use borrow.Author.Needs.{needs}
@@ -7,10 +7,10 @@ use lib.ListN.{length}
 use Rattle.job.specs.Before.{before}
 use Rattle.answers.specs.Rows.{firstOf, passed}
 use Rattle.job.specs.Refusal.{nameRefusal}
-use Rattle.job.proofs.Laws.{once, not-once}
+use Rattle.job.proofs.Before.{once, not-once}
 use Rattle.answers.proofs.Rows.{first-start, first-more, first-found}
-use Rattle.job.proofs.tail.name_refusal.Statement.{statement}
-use Rattle.job.proofs.tail.name_refusal.Tie as tie
+use Rattle.job.proofs.job_end.name_refusal.Statement.{statement}
+use Rattle.job.proofs.job_end.name_refusal.Tie as tie
 
 five-ne : _≡_ {A = ℕ} 5 0 → ⊥
 five-ne e = omega arith
@@ -26,10 +26,11 @@ loop-holds c = (omega arith, first-start _)
 
 returns : tie.Need-returns Inv-loop μ-loop
 returns c =
-    let five = not-once _ _ (λ e. c .if1 .taken (c .before .times-named .ensures ∙ e)) in
-    sym
+    let five = not-once _ _ (λ e. c .before .if1 .taken (c .before .before .times-named .ensures ∙ e)) in
+    c .refuse .ensures
+    ∙ sym
     (rw five at
-    (first-found _ _ _ (c .before .before .before .loop .inv .1) (λ z. five-ne (sym five ∙ z)) (c .before .before .loop-test .taken)))
+    (first-found _ _ _ (c .before .before .before .before .loop .inv .1) (λ z. five-ne (sym five ∙ z)) (c .before .before .before .loop-test .taken)))
 
 loop-again : tie.Need-loop-again Inv-loop μ-loop
 loop-again c =
@@ -37,8 +38,8 @@ loop-again c =
 
 returns-2 : tie.Need-returns-2 Inv-loop μ-loop
 returns-2 c =
-    let e : c .before .loop .v ≡ c .before .before .before .args .root = omega arith in
-    rw (← e) (sym (c .before .loop .inv .1))
+    let e : c .before .before .loop .v ≡ c .before .before .before .before .args .root = omega arith in
+    rw (← e) (c .none .ensures ∙ sym (c .before .before .loop .inv .1))
 
 pub name-refusal-spec : {M : Type 1} → statement M
 name-refusal-spec =
@@ -48,8 +49,10 @@ name-refusal-spec =
     μ-loop
     loop-holds
     (λ c κs. search needs)
+    (λ c κs. search needs)
     returns
     (λ c. omega arith)
     (λ c. omega arith)
     loop-again
+    (λ c κs. search needs)
     returns-2)

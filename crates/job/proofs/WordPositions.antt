@@ -20,7 +20,7 @@ use Rattle.words.specs.Scan.{fromNth}
 use Rattle.job.specs.Index.{positions, placesUpto}
 use Rattle.job.specs.Parts.{total}
 use Rattle.job.specs.WellFormed.{Indexed}
-use Rattle.job.proofs.Laws.{count-more, count-none, count-grows}
+use Rattle.job.proofs.Before.{count-more, count-none, count-grows}
 
 -- one more word stored after others
 pub sets-more : (l : List ℕ) (i : ℕ) (vs : List ℕ) (a : ℕ) → set (sets l i vs) (i + length vs) a ≡ sets l i (vs ++ (a ∷ []))

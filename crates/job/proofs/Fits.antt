@@ -1,8 +1,8 @@
 -- The refusal of any job, of any length, fits the fields of an answer. Assumes nothing.
-use mathlib.Core.Bool.{Bool, true, false, not, cond}
+use mathlib.Core.Bool.{Bool, true, false, not}
 use mathlib.Core.List.{List}
 use mathlib.Core.Path.{_≡_, refl}
-use Prim.Native.Nat.{ℕ, _-_, _≤_}
+use Prim.Native.Nat.{ℕ, _-_, _^_, _<_, _≤_}
 use native.Mathlib.Omega.{arith}
 use lib.Dec.{eqb}
 use lib.ListN.{length, getD}
@@ -10,38 +10,37 @@ use Rattle.words.specs.Tests.{within}
 use Rattle.words.specs.Fields.{kind, actionsOf}
 use Rattle.words.proofs.Choices.{within-true}
 use Rattle.answers.specs.Rows.{row, firstRefusal, firstOf}
-use Rattle.answers.proofs.Range.{Fitting, or-fits, row-fits, first-fits}
+use Rattle.answers.proofs.Range.{Fitting, pick-number, or-fits, row-fits, first-fits}
 use Rattle.job.specs.Rules.{wordRefusalOf}
+use Rattle.job.specs.Follow.{predecessor, mayFollow}
 use Rattle.job.specs.Before.{before, countOfKind, named}
 use Rattle.job.specs.Refusal.{wordRefusal, refusalOf, nameRefusal, emptySet, endRefusal, jobRefusal}
-use Rattle.job.proofs.Laws.{count-before}
+use Rattle.job.proofs.Before.{count-before}
 
-pick-le : (t : Bool) (a b : ℕ) → a ≤ 13 → b ≤ 13 → cond t a b ≤ 13
-pick-le true a b h l = h
-pick-le false a b h l = l
-
-grade-le : (a b c : Bool) → wordRefusalOf a b c ≤ 13
+grade-number : (a b c : Bool) → wordRefusalOf a b c < 2 ^ 8
 unfolding wordRefusalOf
-grade-le a b c = pick-le a _ 2 (pick-le b _ 3 (pick-le c 0 4 (omega arith) (omega arith)) (omega arith)) (omega arith)
+grade-number a b c = pick-number a (pick-number b (pick-number c (omega arith) (omega arith)) (omega arith)) (omega arith)
 
-word-le : (head : ℕ) (p : List ℕ) (w : ℕ) → wordRefusal head p w ≤ 13
+word-number : (head : ℕ) (p : List ℕ) (w : ℕ) → wordRefusal head p w < 2 ^ 8
 unfolding wordRefusal
-word-le head p w =
-    pick-le (eqb (kind w) 1) _ _ (grade-le _ _ _)
-    (pick-le (eqb (kind w) 2) _ _ (grade-le _ _ _)
-    (pick-le (eqb (kind w) 3) _ _ (grade-le _ _ _)
-    (pick-le (eqb (kind w) 4) _ _ (grade-le _ _ _)
-    (pick-le (eqb (kind w) 5) _ _ (grade-le _ _ _)
-    (pick-le (eqb (kind w) 6) _ _ (grade-le _ _ _)
-    (pick-le (eqb (kind w) 7) _ _ (grade-le _ _ _) (pick-le (eqb (kind w) 8) _ _ (grade-le _ _ _) (omega arith))))))))
+word-number head p w =
+    pick-number (mayFollow (kind w) (predecessor p))
+    (pick-number (eqb (kind w) 1) (grade-number _ _ _)
+    (pick-number (eqb (kind w) 2) (grade-number _ _ _)
+    (pick-number (eqb (kind w) 3) (grade-number _ _ _)
+    (pick-number (eqb (kind w) 4) (grade-number _ _ _)
+    (pick-number (eqb (kind w) 5) (grade-number _ _ _)
+    (pick-number (eqb (kind w) 6) (grade-number _ _ _)
+    (pick-number (eqb (kind w) 7) (grade-number _ _ _) (pick-number (eqb (kind w) 8) (grade-number _ _ _) (omega arith)))))))))
+    (omega arith)
 
-refusal-le : (job : List ℕ) (i : ℕ) → refusalOf job i ≤ 13
+refusal-number : (job : List ℕ) (i : ℕ) → refusalOf job i < 2 ^ 8
 unfolding refusalOf
-refusal-le job i = word-le (getD job 0 0) (before job i) (getD job i 0)
+refusal-number job i = word-number (getD job 0 0) (before job i) (getD job i 0)
 
-name-le : (p : List ℕ) (v : ℕ) → nameRefusal p v ≤ 13
+name-number : (p : List ℕ) (v : ℕ) → nameRefusal p v < 2 ^ 8
 unfolding nameRefusal
-name-le p v = pick-le (eqb (named v p) 1) 0 5 (omega arith) (omega arith)
+name-number p v = pick-number (eqb (named v p) 1) (omega arith) (omega arith)
 
 end-fits : (job : List ℕ) → length job ≤ 2048 → Fitting (endRefusal (getD job 0 0) (length job) (before job (length job)))
 unfolding endRefusal
@@ -51,7 +50,7 @@ end-fits job l =
     or-fits _ _ (row-fits (not (eqb (countOfKind 3 p) (actionsOf (getD job 0 0)))) 3 (length job) (omega arith) (omega arith))
     (or-fits _ _ (row-fits (eqb (countOfKind 6 p) 0) 5 0 (omega arith) (omega arith))
     (or-fits _ _ (row-fits (emptySet p) 5 (countOfKind 6 p - 1) (omega arith) (omega arith))
-    (first-fits (nameRefusal p) (name-le p) (countOfKind 6 p - 1) (omega arith))))
+    (first-fits (nameRefusal p) (name-number p) (countOfKind 6 p - 1) (omega arith))))
 
 pub job-fits : (job : List ℕ) → Fitting (jobRefusal job)
 unfolding jobRefusal
@@ -62,4 +61,4 @@ job-fits job = cases (within 1 2048 (length job)) refl
     cases false e = row-fits true 1 0 (omega arith) (omega arith)
     cases true e =
         let l = within-true 1 2048 (length job) e .1 in
-        or-fits _ _ (first-fits (refusalOf job) (refusal-le job) (length job) (omega arith)) (end-fits job l)
+        or-fits _ _ (first-fits (refusalOf job) (refusal-number job) (length job) (omega arith)) (end-fits job l)

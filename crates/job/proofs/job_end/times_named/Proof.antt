@@ -1,4 +1,4 @@
--- `job::tail::times_named` meets its contract. The invariant: `n` is how often the words before `i` name the node, at most three times each.
+-- `job::job_end::times_named` meets its contract. The invariant: `n` is how often the words before `i` name the node, at most three times each.
 -- Assumes nothing.
 use borrow.Author.Needs.{needs}
 use mathlib.Core.Path.{_≡_}
@@ -6,9 +6,9 @@ use Prim.Native.Nat.{_≤_, _*_, _-_}
 use native.Mathlib.Omega.{arith}
 use lib.ListN.{length}
 use Rattle.job.specs.Before.{before, named}
-use Rattle.job.proofs.Laws.{named-none, named-more}
-use Rattle.job.proofs.tail.times_named.Statement.{statement}
-use Rattle.job.proofs.tail.times_named.Tie as tie
+use Rattle.job.proofs.Before.{named-none, named-more}
+use Rattle.job.proofs.job_end.times_named.Statement.{statement}
+use Rattle.job.proofs.job_end.times_named.Tie as tie
 
 abbrev Inv-loop : tie.InvT-loop
 Inv-loop job v n₀ i₀ n i = (i ≤ length job) × (n ≤ 4 * i) × (n ≡ named v (before job i))

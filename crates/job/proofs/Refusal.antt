@@ -1,5 +1,5 @@
 -- The rule of a word by its kind, and what the rules bound. Assumes nothing.
-use mathlib.Core.Bool.{Bool, true, false, not, _&&_}
+use mathlib.Core.Bool.{Bool, true, false, not, cond, _&&_}
 use mathlib.Core.List.{List}
 use mathlib.Core.Path.{_≡_, refl, ap, sym, _∙_}
 use Prim.Native.Nat.{ℕ, zero, suc, _+_, _-_, _≤_, _<_}
@@ -15,21 +15,36 @@ use Rattle.answers.specs.Rows.{refusal, row, firstRefusal, firstOf}
 use Rattle.answers.proofs.Rows.{first-none, or-none, row-none}
 use Rattle.job.specs.Rules.{wordRefusalOf, limited}
 use Rattle.job.specs.Before.{before, countOfKind}
-use Rattle.job.specs.Refusal.{refusalByKind, rules, wordRefusal, refusalOf, nameRefusal, emptySet, endRefusal, jobRefusal}
-use Rattle.job.proofs.Laws.{count-more, count-none}
+use Rattle.job.specs.Follow.{byKind, predecessor, mayFollow}
+use Rattle.job.specs.Refusal.{rules, wordRefusal, refusalOf, nameRefusal, emptySet, endRefusal, jobRefusal}
+use Rattle.job.proofs.Before.{count-more, count-none}
 
 module _ (job : List ℕ) (i : ℕ) where
-  pub at-kind : (k : ℕ) → kind (getD job i 0) ≡ k → refusalOf job i ≡ refusalByKind k (rules (getD job 0 0) (before job i) (getD job i 0))
-  unfolding refusalOf wordRefusal
-  at-kind k h = ap (λ (m : ℕ). refusalByKind m (rules (getD job 0 0) (before job i) (getD job i 0))) h
+  -- whether it may follow the word before, if it is of kind k, and what the rule of kind k says of it
+  abbrev pub followed : ℕ → Bool
+  followed k = mayFollow k (predecessor (before job i))
 
-  abbrev pub Not : ℕ → Type 0
-  Not k = kind (getD job i 0) ≡ k → ⊥
+  abbrev pub ruled : ℕ → ℕ
+  ruled k = byKind 2 k (rules (getD job 0 0) (before job i) (getD job i 0))
 
-  pub other-kind : Not 1 → Not 2 → Not 3 → Not 4 → Not 5 → Not 6 → Not 7 → Not 8 → refusalOf job i ≡ 2
-  unfolding refusalOf wordRefusal
-  other-kind h1 h2 h3 h4 h5 h6 h7 h8 =
-      rw (ne-eqb _ 1 h1, ne-eqb _ 2 h2, ne-eqb _ 3 h3, ne-eqb _ 4 h4, ne-eqb _ 5 h5, ne-eqb _ 6 h6, ne-eqb _ 7 h7, ne-eqb _ 8 h8)
+  module _ (k : ℕ) (h : kind (getD job i 0) ≡ k) where
+    pub at-kind : refusalOf job i ≡ cond (followed k) (ruled k) 2
+    unfolding refusalOf wordRefusal
+    at-kind = ap (λ (m : ℕ). cond (followed m) (ruled m) 2) h
+
+    pub may-not : followed k ≡ false → refusalOf job i ≡ 2
+    may-not e = at-kind ∙ rw e
+
+    pub may : followed k ≡ true → refusalOf job i ≡ ruled k
+    may e = at-kind ∙ rw e
+
+    -- a word that is not refused may follow, and passes its rule
+    pub passes : refusalOf job i ≡ 0 → (followed k ≡ true) × (ruled k ≡ 0)
+    passes e = cases (followed k) refl (sym at-kind ∙ e)
+      where
+        cases : (t : Bool) → followed k ≡ t → cond t (ruled k) 2 ≡ 0 → (followed k ≡ true) × (ruled k ≡ 0)
+        cases true f z = (f, z)
+        cases false f z = absurd (omega arith)
 
 -- what a word that is not refused passes
 pub graded : (shape range fresh : Bool) → wordRefusalOf shape range fresh ≡ 0 → (shape ≡ true) × (range ≡ true) × (fresh ≡ true)
@@ -60,13 +75,16 @@ module _ (job : List ℕ) where
       cases false e ih more = omega (arith, rw e at more)
 
   module _ (none : firstOf (refusalOf job) (length job) .number ≡ 0) where
-    -- the rule of its kind refuses no word
-    pub rule-passed : (k i : ℕ) → i < length job → kind (getD job i 0) ≡ k → refusalByKind k (rules (getD job 0 0) (before job i) (getD job i 0)) ≡ 0
-    rule-passed k i l h = sym (at-kind job i k h) ∙ first-none (refusalOf job) (length job) none i l
+    -- each word may follow the one before, and the rule of its kind does not refuse it
+    pub word-passed : (k i : ℕ) → i < length job → kind (getD job i 0) ≡ k → (followed job i k ≡ true) × (ruled job i k ≡ 0)
+    word-passed k i l h = passes job i k h (first-none (refusalOf job) (length job) none i l)
+
+    pub rule-passed : (k i : ℕ) → i < length job → kind (getD job i 0) ≡ k → ruled job i k ≡ 0
+    rule-passed k i l h = word-passed k i l h .1
 
     -- a kind whose rule lets a word pass only with fewer than 64 before it
     abbrev pub Limits : ℕ → Type 0
-    Limits k = (p : List ℕ) (w : ℕ) → refusalByKind k (rules (getD job 0 0) p w) ≡ 0 → countOfKind k p < 64
+    Limits k = (p : List ℕ) (w : ℕ) → byKind 2 k (rules (getD job 0 0) p w) ≡ 0 → countOfKind k p < 64
 
     pub few : (k : ℕ) → Limits k → countOfKind k (before job (length job)) ≤ 64
     few k limits = bounded k (length job) (λ i l h. limits (before job i) (getD job i 0) (rule-passed k i l h))

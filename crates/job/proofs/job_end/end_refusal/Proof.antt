@@ -1,8 +1,8 @@
--- `job::tail::end_refusal` meets its contract: its calls are the rows of `endRefusal`, at the facts that the state holds. Assumes nothing.
+-- `job::job_end::end_refusal` meets its contract: its calls are the rows of `endRefusal`, at the facts that the state holds. Assumes nothing.
 use Rattle.job.specs.Refusal.{endRefusal}
 use borrow.Author.Needs.{needs}
-use Rattle.job.proofs.tail.end_refusal.Statement.{statement}
-use Rattle.job.proofs.tail.end_refusal.Tie as tie
+use Rattle.job.proofs.job_end.end_refusal.Statement.{statement}
+use Rattle.job.proofs.job_end.end_refusal.Tie as tie
 
 returns : tie.Need-returns
 unfolding endRefusal
@@ -13,6 +13,7 @@ returns c =
       ← (s .nodes),
       ← (s .members),
       ← (s .node),
+      ← (c .before .before .before .before .before .before .form-of .ensures .0),
       ← (c .before .before .before .before .before .before .before .before .before .before .before .before .actions-of .ensures .0),
       ← (c .before .before .before .before .before .before .before .before .before .before .before .less-one .ensures),
       ← (c .before .before .before .before .before .before .before .before .before .row-of .ensures),
@@ -29,6 +30,7 @@ end-refusal-spec =
     tie.close
     (tie.spec
     (λ c. search needs)
+    (λ c κs. search needs)
     (λ c κs. search needs)
     (λ c κs. search needs)
     (λ c κs. search needs)

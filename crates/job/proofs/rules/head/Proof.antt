@@ -1,0 +1,19 @@
+-- `job::rules::head` meets its contract, by the fields that it reads. Assumes nothing.
+use borrow.Author.Needs.{needs}
+use Rattle.job.proofs.rules.head.Statement.{statement}
+use Rattle.job.proofs.rules.head.Tie as tie
+
+returns : tie.Need-returns
+returns c =
+    rw (c .before .last-of .ensures .0, c .before .before .actions-of .ensures .0, c .before .before .before .fluents-of .ensures .0, c .before .before .before .before .head-spare .ensures) at (c .grade-of .ensures)
+
+pub head-spec : {M : Type 1} → statement M
+head-spec =
+    tie.close
+    (tie.spec
+    (λ c κs. search needs)
+    (λ c κs. search needs)
+    (λ c κs. search needs)
+    (λ c κs. search needs)
+    (λ c κs. search needs)
+    returns)
