@@ -144,9 +144,6 @@ startMoment s = field s 11 6
 abbrev pub startAction : ℕ → ℕ
 startAction s = field s 5 0
 
-abbrev pub startSpare : ℕ → Bool
-startSpare w = spare w 27 12
-
 -- kind 10, fact: the word that fluent f has a value, other than open, at moment t
 abbrev pub factWord : ℕ → ℕ → ℕ → ℕ → ℕ
 factWord head t f value = 10 * 2 ^ 28 + t * 2 ^ 7 + f * 2 + cond (eqb value holds) 0 1
