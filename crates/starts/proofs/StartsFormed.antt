@@ -17,8 +17,8 @@ use Rattle.history.proofs.Moments.{finish-tabled}
 use Rattle.answers.specs.declared.Refusal.{Refusal}
 use Rattle.answers.specs.Rows.{firstOf}
 use Rattle.answers.proofs.Rows.{or-none}
-use Rattle.starts.specs.Rows.{isStart, ascends, wrongWord, timeRows, numbered, rowsRefusal, startsRefusal}
-use Rattle.starts.specs.Given.{StartsFormed}
+use Rattle.starts.specs.Rows.{isStart, ascends, wrongWord, numbered, rowsRefusal, startsRefusal}
+use Rattle.starts.specs.Given.{timeRows, StartsFormed}
 use Rattle.starts.proofs.Rows.{row-clear, starts-by-rows}
 
 -- what a right word says

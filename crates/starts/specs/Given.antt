@@ -1,14 +1,18 @@
--- What the functions of `starts` ask of their callers.
-use mathlib.Core.Bool.{false}
+-- What passes between the functions of `starts` and their callers: the rows of a call, and what each asks.
+use mathlib.Core.Bool.{Bool, false}
 use mathlib.Core.List.{List}
 use mathlib.Core.Path.{_≡_}
 use Prim.Native.Nat.{ℕ, _<_}
-use lib.ListN.{length}
+use lib.ListN.{length, take}
 use Rattle.job.specs.Parts.{actions}
 use Rattle.job.specs.WellFormed.{WellFormed, Indexed}
 use Rattle.history.specs.Tables.{Durations, Effects, History}
-use Rattle.starts.specs.Rows.{wrongWord}
+use Rattle.starts.specs.Rows.{wrongWord, startRows}
 use Rattle.starts.specs.Latest.{Clashes}
+
+-- the rows that read no state: 6 to 9
+abbrev pub timeRows : List ℕ → List ℕ → List (ℕ × (ℕ → Bool))
+timeRows job starts = take 4 (startRows job starts)
 
 -- row 6 fits no word
 pub record StartsFormed (job starts : List ℕ) : Type 0 where

@@ -3,7 +3,7 @@ use mathlib.Core.Bool.{Bool, not, cond, _&&_, _||_}
 use mathlib.Core.List.{List, [], _∷_}
 use Prim.Native.Nat.{ℕ, _+_, _-_}
 use lib.Dec.{eqb, leb, ltb}
-use lib.ListN.{getD, length, take}
+use lib.ListN.{getD, length}
 use Rattle.words.specs.Fields.{kind, fails, holds, fluentOf, roleOf, startMoment, startAction, startSpare}
 use Rattle.words.specs.Scan.{any, anyBelow}
 use Rattle.answers.specs.declared.Refusal.{Refusal}
@@ -76,10 +76,6 @@ startRows job starts =
     ∷ (9, clashes job starts)
     ∷ (10, needsUnmet job starts)
     ∷ []
-
--- those that read no state: rows 6 to 9
-abbrev pub timeRows : List ℕ → List ℕ → List (ℕ × (ℕ → Bool))
-timeRows job starts = take 4 (startRows job starts)
 
 -- a row's number at each position that it fits
 abbrev pub numbered : ℕ → (ℕ → Bool) → ℕ → ℕ

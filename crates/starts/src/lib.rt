@@ -1,8 +1,8 @@
 // The rows on starts, 6 to 10, of a well-formed job. Each row's function answers its number at the first word that it fits.
 ghost use mathlib.Core.Path.{_≡_};
 ghost use lib.ListN.{length};
-ghost use Rattle.starts.specs.Rows.{timeRows, rowsRefusal};
-ghost use Rattle.starts.specs.Given.{Tabled};
+ghost use Rattle.starts.specs.Rows.{rowsRefusal};
+ghost use Rattle.starts.specs.Given.{timeRows, Tabled};
 
 mod clashes;
 mod order;
