@@ -4,10 +4,10 @@ use Rattle.answers.specs.declared.Refusal.{Refusal}
 use Rattle.job.specs.Refusal.{jobRefusal}
 use Rattle.job.proofs.WellFormed.{well-formed}
 use Rattle.starts.specs.Rows.{startsRefusal}
-use Rattle.starts.proofs.Rows.{starts-by-rows}
+use Rattle.starts.proofs.Rows.{starts-found, starts-next}
 use Rattle.starts.proofs.StartsFormed.{times-passed, named}
 use Rattle.theory.specs.Answers.{planRefusal}
-use Rattle.theory.proofs.Laws.{or-refused, or-passed}
+use Rattle.theory.proofs.Laws.{or-passed}
 use Rattle.theory.proofs.Passing.{actions-indexed}
 use borrow.Author.Needs.{needs}
 use Rattle.theory.proofs.judge_starts.Statement.{statement}
@@ -42,10 +42,8 @@ check-times-requires c κs = record {
 returns : tie.Need-returns
 returns c =
     let times = c .before .before .before in
-    let s = timed times in
     let never = c .before .if1 .taken in
-    let rows = starts-by-rows (s .args .job .now) (s .args .starts .now) in
-    let is = times .check-times .ensures ∙ or-refused _ _ (λ z. never (ap (λ (r : Refusal). r .number) (times .check-times .ensures) ∙ z)) ∙ sym rows ∙ starts-rows s in
+    let is = starts-found _ _ (times .check-times .ensures) never ∙ starts-rows (timed times) in
     record { refusal = c .refused .ensures ∙ is; passed = λ z. absurd (never (ap (λ (r : Refusal). r .number) is ∙ z)) }
 
 history-requires : tie.Need-history-requires
@@ -54,32 +52,30 @@ history-requires c κs =
     record {
       well = well-formed _ (timed times .pre .0);
       tables = record { durations = times .before .before .before .before .before .durations .ensures; effects = times .before .before .before .effects .ensures };
-      named = named (times-passed _ _ (sym (ap (λ (r : Refusal). r .number) (times .check-times .ensures)) ∙ c .before .before .if1 .left));
+      named = named (times-passed (times .check-times .ensures) (c .before .before .if1 .left));
     }
 
 check-needs-requires : tie.Need-check-needs-requires
 check-needs-requires c κs =
-    let times = c .before .before .before .before .before .before .before in
+    let passing = c .before .before .before .before .before in
+    let times = passing .before .before in
     let s = timed times in
     record {
       formed = well-formed _ (s .pre .0);
       indexed = actions-indexed _ (s .pre .0) (s .pre .1);
       values = c .before .before .history .ensures;
-      words = times-passed _ _ (sym (ap (λ (r : Refusal). r .number) (times .check-times .ensures)) ∙ c .before .before .before .before .before .if1 .left);
+      words = times-passed (times .check-times .ensures) (passing .if1 .left);
     }
 
 returns-2 : tie.Need-returns-2
 returns-2 c =
-    let times = c .before .before .before .before .before .before .before .before in
-    let s = timed times in
-    let none = c .before .before .before .before .before .before .if1 .left in
-    let rows = starts-by-rows (s .args .job .now) (s .args .starts .now) in
-    let is = c .check-needs .ensures ∙ or-passed _ _ (sym (ap (λ (r : Refusal). r .number) (times .check-times .ensures)) ∙ none) ∙ sym rows ∙ starts-rows s in
+    let passing = c .before .before .before .before .before .before in
+    let times = passing .before .before in
     record {
-      refusal = is;
+      refusal = starts-next _ _ (times .check-times .ensures) (passing .if1 .left) (c .check-needs .ensures) ∙ starts-rows (timed times);
       passed = λ z. record {
         clear = z;
-        index = s .pre .1;
+        index = timed times .pre .1;
         durations = times .before .before .before .before .before .durations .ensures;
         history = c .before .before .before .history .ensures;
       };
