@@ -34,9 +34,6 @@ after-actions-of c = c .before .before .before .before
 abbrev turn-of : tie.After-duration-of Inv-loop μ-loop → tie.At-loop Inv-loop μ-loop
 turn-of c = c .before .before .before .before
 
-shared-slice-read-actions-of : tie.Need-shared-slice-read-actions-of Inv-loop μ-loop
-shared-slice-read-actions-of c = c .before .before .pre .0 .some
-
 loop-holds : tie.Need-loop-holds Inv-loop μ-loop
 loop-holds c =
     record {
@@ -87,7 +84,7 @@ durations-spec =
     (tie.spec
     Inv-loop
     μ-loop
-    shared-slice-read-actions-of
+    (λ c. search needs)
     (λ c κs. search needs)
     loop-holds
     (λ c. search needs)
