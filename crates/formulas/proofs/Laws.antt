@@ -10,12 +10,12 @@ use lib.Dec.{eqb}
 use lib.ListN.{getD}
 use Rattle.words.specs.Fields.{form, holds, formulaX, formulaY, atomFluent}
 use Rattle.job.specs.Parts.{headWord, fluents, lastMoment, formulaWord, formulaCount}
-use Rattle.job.specs.WellFormed.{WellFormed}
+use Rattle.job.specs.WellFormed.{WellFormed, Indexed}
 use Rattle.history.specs.Values.{valueAt}
 use Rattle.history.specs.Tables.{History}
 use Rattle.history.proofs.Values.{pick-most, value-most}
 use Rattle.formulas.specs.Values.{byTable, formValue, formulaBelow, formulaAt}
-use Rattle.formulas.specs.Table.{Connectives, tabled, Valued, ColumnAt, FormulaTable}
+use Rattle.formulas.specs.Table.{Connectives, tabled, Valued, Grounds, ColumnAt, FormulaTable}
 
 pick-when : (t : Bool) {a : ℕ} (b : ℕ) {m : ℕ} → (t ≡ true → a ≤ m) → b ≤ m → cond t a b ≤ m
 pick-when true b h l = h refl
@@ -117,5 +117,13 @@ module _ (conj disj : List ℕ) {job : List ℕ} (p : WellFormed job) where
         entry = λ k t l m. f .entry k t l m ∙ formula-same (tabled history) (valueAt job starts) (lastMoment job) (h .entry) k t l m;
       }
 
-pub history-valued : {job starts history : List ℕ} → History job starts history → Valued job history
-history-valued {job} {starts} h = record { most = λ t f l m. rw (h .entry t f l m) (value-most job starts t f) }
+-- the history of a plan serves
+pub grounds : {job places starts history : List ℕ} {count : ℕ} → WellFormed job → Indexed job 5 places → count ≡ formulaCount job → History job starts history
+    → Grounds job places count history
+grounds {job} {starts = starts} w p c h =
+    record {
+      well = w;
+      indexed = p;
+      counted = c;
+      valued = record { most = λ t f l m. rw (h .entry t f l m) (value-most job starts t f) };
+    }

@@ -69,7 +69,7 @@ fn effects_row(head: u32, laws: &[u32]) -> [u8; 64]
 }
 
 // Stores row `a` of a table.
-pub fn store_row(row: &[u8; 64], a: usize, table: &mut [u8; 4096])
+pub(crate) fn store_row(row: &[u8; 64], a: usize, table: &mut [u8; 4096])
     requires { ⌜ (a < 64) × (length (now table) ≡ 4096) ⌝ }
     ensures { λ _. ⌜ RowStored (now (row .entry)) a 64 (now (table .entry)) (now (table .exit)) ⌝ }
 {

@@ -32,9 +32,6 @@ entry c = c .before .before .before .before .before
 abbrev place : tie.After-form-value-arg Inv-loop μ-loop → tie.After-at Inv-loop μ-loop
 place c = c .before .before
 
-shared-slice-read-head : tie.Need-shared-slice-read-head Inv-loop μ-loop
-shared-slice-read-head c = c .before .before .pre .grounds .well .some
-
 loop-holds : tie.Need-loop-holds Inv-loop μ-loop
 loop-holds c =
     let p = c .before .before .pre in
@@ -54,9 +51,6 @@ shared-slice-read-form-value : tie.Need-shared-slice-read-form-value Inv-loop μ
 shared-slice-read-form-value c =
     let g = entry (c .before) .pre .grounds in
     g .indexed .inside (c .before .before .before .loop .k) (rw (g .counted) at (c .before .before .loop-test .taken))
-
-form-value-requires : tie.Need-form-value-requires Inv-loop μ-loop
-form-value-requires c κs = let old = place c .before .before .loop .inv in (old .filled .small, old .soon)
 
 loop-again : tie.Need-loop-again Inv-loop μ-loop
 loop-again c =
@@ -89,13 +83,13 @@ fill-moment-spec =
     (tie.spec
     Inv-loop
     μ-loop
-    shared-slice-read-head
+    (λ c. search needs)
     loop-holds
     (λ c. search needs)
     (λ c. search needs)
     mul-form-value
     shared-slice-read-form-value
-    form-value-requires
+    (λ c κs. search needs)
     (λ c. search needs)
     (λ c. search needs)
     (λ c. search needs)

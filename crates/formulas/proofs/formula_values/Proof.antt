@@ -18,22 +18,8 @@ abbrev μ-loop : tie.MeasureT-loop
 abbrev entry : tie.At-loop Inv-loop μ-loop → tie.Start Inv-loop μ-loop
 entry c = c .before .before .before .before
 
-abbrev after-last-of : tie.After-fill-moment Inv-loop μ-loop → tie.After-last-of Inv-loop μ-loop
-after-last-of c = c .before .before .before .before
-
-shared-slice-read-last-of : tie.Need-shared-slice-read-last-of Inv-loop μ-loop
-shared-slice-read-last-of c = c .before .before .pre .1 .well .some
-
 loop-holds : tie.Need-loop-holds Inv-loop μ-loop
 loop-holds c = (omega arith, columns-none)
-
-fill-moment-requires : tie.Need-fill-moment-requires Inv-loop μ-loop
-fill-moment-requires c κs =
-    let p = entry (c .before .before) .pre in
-    record { connectives = p .0; grounds = p .1; moment = omega (arith, c .before .before .before .last-of .ensures .0); earlier = c .before .before .loop .inv .1 }
-
-add-t : tie.Need-add-t Inv-loop μ-loop
-add-t c = omega (arith, entry (c .before .before .before) .pre .1 .well .few-moments, after-last-of c .last-of .ensures .0)
 
 loop-again : tie.Need-loop-again Inv-loop μ-loop
 loop-again c = (omega arith, c .fill-moment .ensures)
@@ -51,11 +37,11 @@ formula-values-spec =
     (tie.spec
     Inv-loop
     μ-loop
-    shared-slice-read-last-of
+    (λ c. search needs)
     (λ c κs. search needs)
     loop-holds
-    fill-moment-requires
-    add-t
+    (λ c κs. search needs)
+    (λ c. search needs)
     (λ c. search needs)
     loop-again
     returns)

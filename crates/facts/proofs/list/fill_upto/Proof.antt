@@ -1,6 +1,5 @@
 -- `facts::list::fill_upto` meets its contract. The invariant: the facts of the moments before `t` are written. Assumes nothing.
 use mathlib.Core.List.{List}
-use mathlib.Core.Path.{_≡_}
 use Prim.Native.Nat.{ℕ, _+_, _-_, _≤_}
 use lib.ListN.{length, getD}
 use Rattle.facts.specs.Written.{Written}
@@ -29,9 +28,6 @@ entry c = c .before .before .before .before
 
 abbrev turn-of : tie.After-slice-known2 Inv-loop μ-loop → tie.At-loop Inv-loop μ-loop
 turn-of c = c .before .before .before .before .before
-
-shared-slice-read-head : tie.Need-shared-slice-read-head Inv-loop μ-loop
-shared-slice-read-head c = c .before .before .before .pre .well .some
 
 loop-holds : tie.Need-loop-holds Inv-loop μ-loop
 loop-holds c =
@@ -81,7 +77,7 @@ fill-upto-spec =
     (tie.spec
     Inv-loop
     μ-loop
-    shared-slice-read-head
+    (λ c. search needs)
     (λ c κs. search needs)
     loop-holds
     write-facts-requires

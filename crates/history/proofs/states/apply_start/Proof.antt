@@ -27,15 +27,6 @@ acts-here c =
 add-acts : tie.Need-add-acts
 add-acts c = omega (arith, entry c .pre .0 .tables .durations .small (c .before .before .start-action .result), c .before .start-moment .ensures .1)
 
-shared-slice-read-fluents-of : tie.Need-shared-slice-read-fluents-of
-shared-slice-read-fluents-of c = entry (c .before .before .before) .pre .0 .well .some
-
-apply-requires : tie.Need-apply-requires
-apply-requires c κs =
-    let p = entry (tested c .before) .pre in
-    let n = c .before .fluents-of .ensures .0 in
-    (tested c .before .before .before .start-action .ensures .1, rw n (p .0 .well .few-fluents), rw n (p .1))
-
 returns : tie.Need-returns
 returns c =
     let here = tested (c .before) in
@@ -60,8 +51,8 @@ apply-start-spec =
     (λ c. search needs)
     add-acts
     (λ c κs. search needs)
-    shared-slice-read-fluents-of
+    (λ c. search needs)
     (λ c κs. search needs)
-    apply-requires
+    (λ c κs. search needs)
     returns
     returns-2)

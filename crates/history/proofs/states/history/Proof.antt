@@ -31,12 +31,6 @@ start c = c .before .before .before .before
 abbrev turn : tie.After-state2 Inv-loop μ-loop → tie.At-loop Inv-loop μ-loop
 turn c = c .before .before .before .before .before
 
-shared-slice-read-last-of : tie.Need-shared-slice-read-last-of Inv-loop μ-loop
-shared-slice-read-last-of c = c .before .before .before .pre .well .some
-
-initial-state-requires : tie.Need-initial-state-requires Inv-loop μ-loop
-initial-state-requires c κs = start c .pre .well
-
 loop-holds : tie.Need-loop-holds Inv-loop μ-loop
 loop-holds c =
     let p = start (c .before) .pre in
@@ -46,11 +40,6 @@ loop-holds c =
       reached = state-start (c .initial-state .ensures);
       stored = rows-none;
     }
-
-step-requires : tie.Need-step-requires Inv-loop μ-loop
-step-requires c κs =
-    let here = turn c in
-    record { walk = start (here .before .before) .pre; soon = omega arith; state = here .loop .inv .reached }
 
 loop-again : tie.Need-loop-again Inv-loop μ-loop
 loop-again c =
@@ -70,12 +59,12 @@ history-spec =
     (tie.spec
     Inv-loop
     μ-loop
-    shared-slice-read-last-of
+    (λ c. search needs)
     (λ c κs. search needs)
-    initial-state-requires
+    (λ c κs. search needs)
     loop-holds
     (λ c κs. search needs)
-    step-requires
+    (λ c κs. search needs)
     (λ c. search needs)
     (λ c. search needs)
     loop-again

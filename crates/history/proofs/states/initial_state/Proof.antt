@@ -27,9 +27,6 @@ turn c = c .before .before .before .before
 loop-holds : tie.Need-loop-holds Inv-loop μ-loop
 loop-holds c = (omega arith, overlaid-none (c .before .before .args .job .now))
 
-store-known-requires : tie.Need-store-known-requires Inv-loop μ-loop
-store-known-requires c κs = c .before .before .before .loop .inv .1 .size
-
 loop-again : tie.Need-loop-again Inv-loop μ-loop
 loop-again c =
     let old = turn c .loop .inv in
@@ -54,7 +51,7 @@ initial-state-spec =
     (λ c. search needs)
     (λ c. search needs)
     (λ c. search needs)
-    store-known-requires
+    (λ c κs. search needs)
     (λ c. search needs)
     loop-again
     returns)

@@ -8,12 +8,6 @@ use Rattle.history.proofs.states.step.Tie as tie
 abbrev entry : tie.After-apply-starts-arg2 → tie.Start
 entry c = c .before .before .before .before .before
 
-apply-starts-requires : tie.Need-apply-starts-requires
-apply-starts-requires c κs = let p = c .before .before .before .pre in (p .walk, p .state .room)
-
-apply-starts-requires-2 : tie.Need-apply-starts-requires-2
-apply-starts-requires-2 c κs = let p = entry c .pre in (p .walk, rw (c .before .apply-starts .ensures .size) (p .state .room))
-
 returns : tie.Need-returns
 returns c =
     let start = entry (c .before) in
@@ -22,4 +16,4 @@ returns c =
 pub step-spec : {M : Type 1} → statement M
 step-spec =
     tie.close
-    (tie.spec (λ c. search needs) apply-starts-requires (λ c. search needs) apply-starts-requires-2 returns)
+    (tie.spec (λ c. search needs) (λ c κs. search needs) (λ c. search needs) (λ c κs. search needs) returns)

@@ -3,7 +3,7 @@ use mathlib.Core.List.{List}
 use mathlib.Core.Path.{_≡_, refl, sym, _∙_}
 use Prim.Native.Nat.{ℕ, _-_, _<_, _≤_}
 use lib.ListN.{length, getD, length-set}
-use Rattle.job.specs.Parts.{duration}
+use Rattle.job.specs.Parts.{total, duration}
 use Rattle.job.proofs.ByPlace.{duration-place, action-counted}
 use Rattle.history.proofs.Stores.{fill-more, set-all, replicate-all}
 use native.Mathlib.Omega.{arith}
@@ -25,17 +25,14 @@ abbrev μ-loop : tie.MeasureT-loop
 μ-loop job places n table₀ a₀ table a = n - a
 
 -- the places of the code that the proof speaks of
-abbrev entry-of : tie.After-at Inv-loop μ-loop → tie.Start Inv-loop μ-loop
-entry-of c = c .before .before .before .before .before .before
+abbrev entry : tie.In-loop Inv-loop μ-loop → tie.Start Inv-loop μ-loop
+entry c = c .before .before .before .before .before
 
-abbrev after-actions-of : tie.After-shared-slice-known3 Inv-loop μ-loop → tie.After-actions-of Inv-loop μ-loop
-after-actions-of c = c .before .before .before .before
+abbrev inside : tie.After-shared-slice-known3 Inv-loop μ-loop → tie.In-loop Inv-loop μ-loop
+inside c = c .before .before
 
-abbrev turn-of : tie.After-duration-of Inv-loop μ-loop → tie.At-loop Inv-loop μ-loop
-turn-of c = c .before .before .before .before
-
-shared-slice-read-actions-of : tie.Need-shared-slice-read-actions-of Inv-loop μ-loop
-shared-slice-read-actions-of c = c .before .before .pre .0 .some
+counted : (c : tie.In-loop Inv-loop μ-loop) → c .before .loop .a < total 3 (entry c .args .job .now)
+counted c = action-counted (entry c .pre .0) (rw (c .before .before .actions-of .ensures .0) at (c .loop-test .taken))
 
 loop-holds : tie.Need-loop-holds Inv-loop μ-loop
 loop-holds c =
@@ -48,32 +45,25 @@ loop-holds c =
     }
 
 mul-duration-of : tie.Need-mul-duration-of Inv-loop μ-loop
-mul-duration-of c =
-    let p = entry-of c .pre in
-    let known = action-counted (p .0) (rw (c .before .before .before .actions-of .ensures .0) at (c .before .loop-test .taken)) in
-    omega (arith, p .1 .inside (c .before .before .loop .a) known)
+mul-duration-of c = omega (arith, entry (c .before) .pre .1 .inside _ (counted (c .before)))
 
 shared-slice-read-duration-of : tie.Need-shared-slice-read-duration-of Inv-loop μ-loop
-shared-slice-read-duration-of c =
-    let p = entry-of (c .before) .pre in
-    let known = action-counted (p .0) (rw (after-actions-of c .actions-of .ensures .0) at (c .before .before .loop-test .taken)) in
-    p .1 .inside (c .before .before .before .loop .a) known
+shared-slice-read-duration-of c = entry (inside c) .pre .1 .inside _ (counted (inside c))
 
 loop-again : tie.Need-loop-again Inv-loop μ-loop
 loop-again c =
-    let start = entry-of (c .before .before) in
-    let p = start .pre in
-    let job = start .args .job .now in
-    let turn = turn-of c .loop in
-    let known = action-counted (p .0) (rw (after-actions-of (c .before) .actions-of .ensures .0) at (c .before .before .before .loop-test .taken)) in
+    let here = inside (c .before) in
+    let turn = here .before .loop in
+    let old = turn .inv in
+    let job = entry here .args .job .now in
     record {
       bound = omega arith;
-      few = turn .inv .few;
-      size = rw length-set (turn .inv .size);
+      few = old .few;
+      size = rw length-set (old .size);
       stored =
-          fill-more (λ (k v : ℕ). v ≡ duration job k) (turn .table) (turn .a) (c .duration-of .result) (omega (arith, turn .inv .size)) (turn .inv .stored)
-          (c .duration-of .ensures .0 ∙ sym (duration-place (p .1) (turn .a) known));
-      small = set-all (λ (v : ℕ). v < 64) (turn .table) (turn .a) (c .duration-of .result) (turn .inv .small) (c .duration-of .ensures .1);
+          fill-more (λ (k v : ℕ). v ≡ duration job k) (turn .table) (turn .a) (c .duration-of .result) (omega (arith, old .size)) (old .stored)
+          (c .duration-of .ensures .0 ∙ sym (duration-place (entry here .pre .1) (turn .a) (counted here)));
+      small = set-all (λ (v : ℕ). v < 64) (turn .table) (turn .a) (c .duration-of .result) (old .small) (c .duration-of .ensures .1);
     }
 
 returns : tie.Need-returns Inv-loop μ-loop
@@ -87,7 +77,7 @@ durations-spec =
     (tie.spec
     Inv-loop
     μ-loop
-    shared-slice-read-actions-of
+    (λ c. search needs)
     (λ c κs. search needs)
     loop-holds
     (λ c. search needs)

@@ -30,17 +30,9 @@ turn c = c .before .before .before .before .before .before
 abbrev after-laws-of : tie.After-store-row Inv-loop μ-loop → tie.After-laws-of Inv-loop μ-loop
 after-laws-of c = c .before .before .before .before
 
-shared-slice-read-head : tie.Need-shared-slice-read-head Inv-loop μ-loop
-shared-slice-read-head c = c .before .before .pre .0 .some
-
 loop-holds : tie.Need-loop-holds Inv-loop μ-loop
 loop-holds c =
     record { bound = omega arith; few = rw (c .actions-of .ensures .0) (c .before .before .before .pre .0 .few-actions); stored = rows-none }
-
-laws-of-requires : tie.Need-laws-of-requires Inv-loop μ-loop
-laws-of-requires c κs =
-    let p = entry-of (c .before) .pre in
-    (p .0, p .1, rw (c .before .before .actions-of .ensures .0) at (c .loop-test .taken))
 
 loop-again : tie.Need-loop-again Inv-loop μ-loop
 loop-again c =
@@ -63,10 +55,10 @@ effects-spec =
     (tie.spec
     Inv-loop
     μ-loop
-    shared-slice-read-head
+    (λ c. search needs)
     (λ c κs. search needs)
     loop-holds
-    laws-of-requires
+    (λ c κs. search needs)
     (λ c κs. search needs)
     (λ c κs. search needs)
     (λ c. search needs)

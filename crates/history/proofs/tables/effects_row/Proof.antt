@@ -24,9 +24,6 @@ turn c = c .before .before .before .before
 loop-holds : tie.Need-loop-holds Inv-loop μ-loop
 loop-holds c = (omega arith, overlaid-none (c .before .args .laws .now))
 
-store-law-requires : tie.Need-store-law-requires Inv-loop μ-loop
-store-law-requires c κs = c .before .before .before .loop .inv .1 .size
-
 loop-again : tie.Need-loop-again Inv-loop μ-loop
 loop-again c =
     let old = turn c .loop .inv in
@@ -45,7 +42,7 @@ effects-row-spec =
     (λ c. search needs)
     (λ c. search needs)
     (λ c. search needs)
-    store-law-requires
+    (λ c κs. search needs)
     (λ c. search needs)
     loop-again
     returns)

@@ -31,12 +31,6 @@ module _ {job places : List ℕ} {a : ℕ} (w : WellFormed job) (p : Indexed job
 abbrev entry : tie.After-result → tie.Start
 entry c = c .before .before .before .before
 
-mul-from : tie.Need-mul-from
-mul-from c = omega (arith, c .before .pre .0 .few-actions)
-
-element-copy-out-from : tie.Need-element-copy-out-from
-element-copy-out-from c = omega (arith, c .before .pre .0 .few-actions)
-
 add-from : tie.Need-add-from
 add-from c = let pre = c .before .before .pre in omega (arith, pre .0 .short, inside (pre .0) (pre .1) (pre .2))
 
@@ -59,8 +53,8 @@ pub laws-of-spec : {M : Type 1} → statement M
 laws-of-spec =
     tie.close
     (tie.spec
-    mul-from
-    element-copy-out-from
+    (λ c. search needs)
+    (λ c. search needs)
     add-from
     run-length-requires
     add-end
