@@ -13,6 +13,8 @@ ghost use Rattle.starts.specs.Latest.{Clashes, clashesAfter};
 ghost use Rattle.starts.specs.Given.{Timed, Paired, Compared};
 use crate::times::finish_of;
 use answers::Refusal;
+use answers::none;
+use answers::refuse;
 use words::*;
 
 // Whether two actions clash, and the table of all pairs.
@@ -95,16 +97,10 @@ pub fn first_clash(
         let s = starts[i];
         let a = start_action(s);
         if clashes_after(job, &latest, &table, a, start_moment(s)) {
-            return Refusal {
-                number: 9,
-                position: i,
-            };
+            return refuse(9, i);
         }
         latest[a] = finish_of(durations, s);
         i += 1;
     }
-    Refusal {
-        number: 0,
-        position: 0,
-    }
+    none()
 }

@@ -6,6 +6,8 @@ ghost use Rattle.answers.specs.Rows.{firstOf};
 ghost use Rattle.job.specs.WellFormed.{WellFormed};
 ghost use Rattle.starts.specs.Rows.{isStart, ascends, wrongWord, numbered};
 use answers::Refusal;
+use answers::none;
+use answers::refuse;
 use words::*;
 
 // Whether a word is a start of the job, and above the word before it.
@@ -38,15 +40,9 @@ pub fn wrong_word(job: &[u32], starts: &[u32]) -> Refusal
     let mut i = 0;
     while i < starts.len() {
         if !(is_start(job, starts[i]) & is_above(starts, i)) {
-            return Refusal {
-                number: 6,
-                position: i,
-            };
+            return refuse(6, i);
         }
         i += 1;
     }
-    Refusal {
-        number: 0,
-        position: 0,
-    }
+    none()
 }

@@ -7,6 +7,8 @@ ghost use Rattle.answers.specs.Rows.{firstOf};
 ghost use Rattle.starts.specs.Rows.{endsLate, inHandAlready, numbered};
 ghost use Rattle.starts.specs.Given.{Timed};
 use answers::Refusal;
+use answers::none;
+use answers::refuse;
 use words::*;
 
 // The moment at which a start finishes, by the table of durations.
@@ -26,17 +28,11 @@ pub fn late_end(job: &[u32], durations: &[usize; 64], starts: &[u32]) -> Refusal
     let mut i = 0;
     while i < starts.len() {
         if last < finish_of(durations, starts[i]) {
-            return Refusal {
-                number: 7,
-                position: i,
-            };
+            return refuse(7, i);
         }
         i += 1;
     }
-    Refusal {
-        number: 0,
-        position: 0,
-    }
+    none()
 }
 
 // Row 8. `latest` has the latest finish of each action's starts so far.
@@ -50,16 +46,10 @@ pub fn restart(job: &[u32], durations: &[usize; 64], starts: &[u32]) -> Refusal
         let s = starts[i];
         let a = start_action(s);
         if start_moment(s) < latest[a] {
-            return Refusal {
-                number: 8,
-                position: i,
-            };
+            return refuse(8, i);
         }
         latest[a] = finish_of(durations, s);
         i += 1;
     }
-    Refusal {
-        number: 0,
-        position: 0,
-    }
+    none()
 }

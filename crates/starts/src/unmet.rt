@@ -7,6 +7,8 @@ ghost use Rattle.answers.specs.Rows.{firstOf};
 ghost use Rattle.starts.specs.Rows.{unmet, needsUnmet, numbered};
 ghost use Rattle.starts.specs.Given.{Recorded};
 use answers::Refusal;
+use answers::none;
+use answers::refuse;
 use history::laws_of;
 use words::*;
 
@@ -50,15 +52,9 @@ pub fn check_needs(
         let s = starts[i];
         let laws = laws_of(job, places, start_action(s));
         if has_unmet(head, history, start_moment(s), laws) {
-            return Refusal {
-                number: 10,
-                position: i,
-            };
+            return refuse(10, i);
         }
         i += 1;
     }
-    Refusal {
-        number: 0,
-        position: 0,
-    }
+    none()
 }

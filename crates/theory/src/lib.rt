@@ -9,6 +9,8 @@ ghost use Rattle.theory.specs.Judged.{Judged};
 use answers::Answer;
 use answers::Refusal;
 use answers::answer_of;
+use answers::none;
+use answers::refuse;
 use facts::fill_facts;
 use history::durations;
 use history::effects;
@@ -83,29 +85,17 @@ pub fn compare_facts(given: &[u32], wanted: &[u32]) -> Refusal
     let mut i = 0;
     while i < given.len() {
         if wanted.len() <= i {
-            return Refusal {
-                number: 11,
-                position: i,
-            };
+            return refuse(11, i);
         }
         if given[i] != wanted[i] {
-            return Refusal {
-                number: 11,
-                position: i,
-            };
+            return refuse(11, i);
         }
         i += 1;
     }
     if i < wanted.len() {
-        return Refusal {
-            number: 11,
-            position: i,
-        };
+        return refuse(11, i);
     }
-    Refusal {
-        number: 0,
-        position: 0,
-    }
+    none()
 }
 
 // Rows 1 to 11.
@@ -144,14 +134,7 @@ pub fn fill_plan(job: &[u32], starts: &[u32], buffer: &mut [u32]) -> Answer
     ensures { λ r. ⌜ now (buffer .exit) ≡ written r (factsOf (now (job .entry)) (now (starts .entry))) (now (buffer .entry)) ⌝ }
 {
     if buffer.len() < 4096 {
-        return answer_of(
-            Refusal {
-                number: 12,
-                position: 0,
-            },
-            0,
-            0,
-        );
+        return answer_of(refuse(12, 0), 0, 0);
     }
     let plan = judge(job, starts);
     let refused = plan.refusal;

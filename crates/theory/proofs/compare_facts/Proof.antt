@@ -1,4 +1,5 @@
 -- `theory::compare_facts` meets its contract. The invariant: the lists are equal below `i`. Assumes nothing.
+use borrow.Author.Needs.{needs}
 use mathlib.Core.Path.{_≡_, refl, sym, _∙_}
 use Prim.Native.Nat.{ℕ, _≤_, _-_}
 use lib.ListN.{length, drop}
@@ -18,19 +19,19 @@ loop-holds : tie.Need-loop-holds Inv-loop μ-loop
 loop-holds c = (omega arith, refl)
 
 returns : tie.Need-returns Inv-loop μ-loop
-returns c = sym (c .before .before .loop .inv .1 ∙ wanted-ends _ _ _ (c .before .loop-test .taken) (c .if1 .taken))
+returns c = c .refuse .ensures ∙ sym (c .before .before .before .loop .inv .1 ∙ wanted-ends _ _ _ (c .before .before .loop-test .taken) (c .before .if1 .taken))
 
 returns-2 : tie.Need-returns-2 Inv-loop μ-loop
-returns-2 c = sym (c .before .before .before .before .before .loop .inv .1 ∙ facts-differ _ _ _ (c .before .before .before .before .loop-test .taken) (c .before .before .before .if1 .left) (c .if2 .taken))
+returns-2 c = c .refuse2 .ensures ∙ sym (c .before .before .before .before .before .before .loop .inv .1 ∙ facts-differ _ _ _ (c .before .before .before .before .before .loop-test .taken) (c .before .before .before .before .if1 .left) (c .before .if2 .taken))
 
 loop-again : tie.Need-loop-again Inv-loop μ-loop
 loop-again c = (omega arith, c .before .before .before .before .before .loop .inv .1 ∙ facts-same _ _ _ (c .before .before .before .before .loop-test .taken) (c .before .before .before .if1 .left) (c .if2 .left))
 
 returns-3 : tie.Need-returns-3 Inv-loop μ-loop
-returns-3 c = sym (c .before .before .loop .inv .1 ∙ given-ends _ _ _ (c .before .loop-test .left) (c .if3 .taken))
+returns-3 c = c .refuse3 .ensures ∙ sym (c .before .before .before .loop .inv .1 ∙ given-ends _ _ _ (c .before .before .loop-test .left) (c .before .if3 .taken))
 
 returns-4 : tie.Need-returns-4 Inv-loop μ-loop
-returns-4 c = sym (c .before .before .loop .inv .1 ∙ both-end _ _ _ (c .before .loop-test .left) (c .if3 .left))
+returns-4 c = c .none .ensures ∙ sym (c .before .before .before .loop .inv .1 ∙ both-end _ _ _ (c .before .before .loop-test .left) (c .before .if3 .left))
 
 pub compare-facts-spec : {M : Type 1} → statement M
 compare-facts-spec =
@@ -39,14 +40,18 @@ compare-facts-spec =
     Inv-loop
     μ-loop
     loop-holds
+    (λ c κs. search needs)
     returns
     (λ c. omega arith)
     (λ c. omega arith)
     (λ c. omega arith)
     (λ c. omega arith)
+    (λ c κs. search needs)
     returns-2
     (λ c. omega arith)
     (λ c. omega arith)
     loop-again
+    (λ c κs. search needs)
     returns-3
+    (λ c κs. search needs)
     returns-4)

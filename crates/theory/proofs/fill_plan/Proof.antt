@@ -36,7 +36,9 @@ filled c = c .fill-facts .ensures _ (judged (ahead c) .judge .ensures .passed (c
 
 returns : tie.Need-returns
 unfolding fillAnswer fillRefusal
-returns c = (c .answer-of .ensures ∙ rw (lt-ltb _ _ (c .before .if1 .taken)), rw (c .answer-of .ensures))
+returns c =
+    let made = c .answer-of .ensures ∙ ap (λ (r : Refusal). answerOf r 0 0) (c .before .refuse .ensures) in
+    (made ∙ rw (lt-ltb _ _ (c .before .before .if1 .taken)), rw made)
 
 returns-2 : tie.Need-returns-2
 unfolding fillAnswer fillRefusal planRefusal
@@ -71,6 +73,7 @@ pub fill-plan-spec : {M : Type 1} → statement M
 fill-plan-spec =
     tie.close
     (tie.spec
+    (λ c κs. search needs)
     (λ c κs. search needs)
     returns
     (λ c κs. search needs)

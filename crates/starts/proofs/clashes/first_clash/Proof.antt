@@ -56,8 +56,9 @@ clashes-after-requires c κs =
 
 returns : tie.Need-returns Inv-loop μ-loop
 returns c =
-    tried-found (turn (body (c .before)) .loop .inv .0) (omega arith) (body (c .before) .before .before .loop-test .taken)
-    (value (c .before) ∙ c .if1 .taken)
+    c .refuse .ensures
+    ∙ tried-found (turn (body (c .before .before)) .loop .inv .0) (omega arith) (body (c .before .before) .before .before .loop-test .taken)
+    (value (c .before .before) ∙ c .before .if1 .taken)
 
 finish-of-requires : tie.Need-finish-of-requires Inv-loop μ-loop
 finish-of-requires c κs = entry (body (c .before)) .pre .0 .lasts .small _
@@ -86,6 +87,7 @@ first-clash-spec =
     (λ c κs. search needs)
     (λ c κs. search needs)
     clashes-after-requires
+    (λ c κs. search needs)
     returns
     finish-of-requires
     (λ c. omega arith)
@@ -93,4 +95,5 @@ first-clash-spec =
     (λ c. omega arith)
     (λ c. omega arith)
     loop-again
-    (λ c. tried-end (c .before .loop .inv .0) (omega arith)))
+    (λ c κs. search needs)
+    (λ c. c .none .ensures ∙ tried-end (c .before .before .loop .inv .0) (omega arith)))

@@ -1,4 +1,6 @@
 -- `starts::order::wrong_word` meets its contract. The invariant: the row fits no word before `i`. Assumes nothing.
+use borrow.Author.Needs.{needs}
+use mathlib.Core.Path.{_∙_}
 use Prim.Native.Nat.{_-_}
 use lib.ListN.{length}
 use Rattle.starts.specs.Rows.{wrongWord}
@@ -26,8 +28,9 @@ is-start-requires c κs = entry c .pre .some
 returns : tie.Need-returns Inv-loop μ-loop
 unfolding wrongWord
 returns c =
-    tried-found (turn (c .before) .loop .inv) (omega arith) (omega arith)
-    (rw (← c .before .before .is-start .ensures, ← c .before .is-above .ensures) (c .if1 .taken))
+    c .refuse .ensures
+    ∙ tried-found (turn (c .before .before) .loop .inv) (omega arith) (omega arith)
+    (rw (← c .before .before .before .is-start .ensures, ← c .before .before .is-above .ensures) (c .before .if1 .taken))
 
 loop-again : tie.Need-loop-again Inv-loop μ-loop
 unfolding wrongWord
@@ -46,8 +49,10 @@ wrong-word-spec =
     (λ c. omega arith)
     is-start-requires
     (λ c κs. omega arith)
+    (λ c κs. search needs)
     returns
     (λ c. omega arith)
     (λ c. omega arith)
     loop-again
-    (λ c. tried-end (c .before .loop .inv) (omega arith)))
+    (λ c κs. search needs)
+    (λ c. c .none .ensures ∙ tried-end (c .before .before .loop .inv) (omega arith)))

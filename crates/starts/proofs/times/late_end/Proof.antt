@@ -40,8 +40,9 @@ finish-of-requires c κs = entry c .pre .lasts .small _
 returns : tie.Need-returns Inv-loop μ-loop
 unfolding endsLate
 returns c =
-    tried-found (turn (c .before) .loop .inv) (omega arith) (omega arith)
-    (rw (← after-last-of (c .before) .last-of .ensures .0, ← ends (c .before)) (lt-ltb (after-last-of (c .before) .last-of .result) (c .before .finish-of .result) (omega arith)))
+    c .refuse .ensures
+    ∙ tried-found (turn (c .before .before) .loop .inv) (omega arith) (omega arith)
+    (rw (← after-last-of (c .before .before) .last-of .ensures .0, ← ends (c .before .before)) (lt-ltb (after-last-of (c .before .before) .last-of .result) (c .before .before .finish-of .result) (omega arith)))
 
 loop-again : tie.Need-loop-again Inv-loop μ-loop
 unfolding endsLate
@@ -61,8 +62,10 @@ late-end-spec =
     (λ c. omega arith)
     (λ c. omega arith)
     finish-of-requires
+    (λ c κs. search needs)
     returns
     (λ c. omega arith)
     (λ c. omega arith)
     loop-again
-    (λ c. tried-end (c .before .loop .inv) (omega arith)))
+    (λ c κs. search needs)
+    (λ c. c .none .ensures ∙ tried-end (c .before .before .loop .inv) (omega arith)))

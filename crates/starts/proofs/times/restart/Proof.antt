@@ -41,9 +41,10 @@ value c =
 
 returns : tie.Need-returns Inv-loop μ-loop
 returns c =
-    let body = c .before .before in
-    tried-found (turn body .loop .inv .0) (omega arith) (body .before .before .loop-test .taken)
-    (value (c .before) ∙ lt-ltb _ _ (c .if1 .taken))
+    let body = c .before .before .before in
+    c .refuse .ensures
+    ∙ tried-found (turn body .loop .inv .0) (omega arith) (body .before .before .loop-test .taken)
+    (value (c .before .before) ∙ lt-ltb _ _ (c .before .if1 .taken))
 
 finish-of-requires : tie.Need-finish-of-requires Inv-loop μ-loop
 finish-of-requires c κs = entry (c .before .before) .pre .lasts .small _
@@ -69,6 +70,7 @@ restart-spec =
     (λ c κs. search needs)
     (λ c. omega arith)
     (λ c. omega arith)
+    (λ c κs. search needs)
     returns
     finish-of-requires
     (λ c. omega arith)
@@ -76,4 +78,5 @@ restart-spec =
     (λ c. omega arith)
     (λ c. omega arith)
     loop-again
-    (λ c. tried-end (c .before .loop .inv .0) (omega arith)))
+    (λ c κs. search needs)
+    (λ c. c .none .ensures ∙ tried-end (c .before .before .loop .inv .0) (omega arith)))

@@ -41,8 +41,9 @@ laws-of-requires c κs =
 
 returns : tie.Need-returns Inv-loop μ-loop
 returns c =
-    let here = body (c .before) in
-    tried-found (turn here .loop .inv) (omega arith) (here .before .before .loop-test .taken) (value (c .before) ∙ c .if1 .taken)
+    let here = body (c .before .before) in
+    c .refuse .ensures
+    ∙ tried-found (turn here .loop .inv) (omega arith) (here .before .before .loop-test .taken) (value (c .before .before) ∙ c .before .if1 .taken)
 
 loop-again : tie.Need-loop-again Inv-loop μ-loop
 loop-again c =
@@ -63,8 +64,10 @@ check-needs-spec =
     laws-of-requires
     (λ c κs. search needs)
     (λ c κs. search needs)
+    (λ c κs. search needs)
     returns
     (λ c. search needs)
     (λ c. search needs)
     loop-again
-    (λ c. tried-end (c .before .loop .inv) (omega arith)))
+    (λ c κs. search needs)
+    (λ c. c .none .ensures ∙ tried-end (c .before .before .loop .inv) (omega arith)))
