@@ -10,6 +10,10 @@ use Rattle.job.proofs.Refusal.{clear, few, limits-actions, limits-formu
 use Rattle.job.proofs.check_job.Statement.{statement}
 use Rattle.job.proofs.check_job.Tie as tie
 
+-- the places of the code that the proof speaks of
+abbrev entry : tie.Else1 → tie.Start
+entry c = c .before .before .before .before
+
 index-words-requires : tie.Need-index-words-requires
 index-words-requires c κs =
     let none = clear _ (sym (ap (λ (r : Refusal). r .number) (c .before .before .job-refusal .ensures)) ∙ c .if1 .taken) .words in
@@ -22,7 +26,7 @@ index-words-requires c κs =
 
 index-words-requires-2 : tie.Need-index-words-requires-2
 index-words-requires-2 c κs =
-    let none = count-none (c .before .before .before .before .args .job .now) in
+    let none = count-none (entry c .args .job .now) in
     record { inside = search needs; actions = omega (arith, none 3); formulas = omega (arith, none 5); nodes = omega (arith, none 6) }
 
 returns : tie.Need-returns

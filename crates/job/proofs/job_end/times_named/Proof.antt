@@ -22,12 +22,17 @@ Inv-loop job v n₀ i₀ n i = Counting job v n i
 abbrev μ-loop : tie.MeasureT-loop
 μ-loop job v n₀ i₀ n i = length job - i
 
+-- the places of the code that the proof speaks of
+abbrev entry : tie.After-names-of Inv-loop μ-loop → tie.Start Inv-loop μ-loop
+entry c = c .before .before .before .before .before
+
 loop-holds : tie.Need-loop-holds Inv-loop μ-loop
 loop-holds c = record { inside = omega arith; few = omega arith; counted = omega (arith, named-none (c .before .args .job .now) (c .before .args .v)) }
 
 loop-again : tie.Need-loop-again Inv-loop μ-loop
 loop-again c =
-    let more = named-more (c .before .before .before .before .before .args .job .now) (c .before .before .before .loop .i) (c .before .before .before .before .before .args .v) in
+    let start = entry c in
+    let more = named-more (start .args .job .now) (c .before .before .before .loop .i) (start .args .v) in
     record { inside = omega arith; few = omega arith; counted = omega (arith, more) }
 
 returns : tie.Need-returns Inv-loop μ-loop

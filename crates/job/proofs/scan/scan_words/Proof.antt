@@ -27,6 +27,13 @@ Inv-loop job s₀ i₀ s i = Scanning job s i
 abbrev μ-loop : tie.MeasureT-loop
 μ-loop job s₀ i₀ s i = length job - i
 
+-- the places of the code that the proof speaks of
+abbrev entry : tie.After-none Inv-loop μ-loop → tie.Start Inv-loop μ-loop
+entry c = c .before .before .before .before
+
+abbrev turn : tie.After-word-refusal Inv-loop μ-loop → tie.At-loop Inv-loop μ-loop
+turn c = c .before .before
+
 loop-holds : tie.Need-loop-holds Inv-loop μ-loop
 loop-holds c = record { inside = omega arith; state = tied-start _; none = first-start _ }
 
@@ -36,7 +43,7 @@ returns c =
       c .refuse .ensures
           ∙ rw e
           (sym
-          (first-found _ _ _ (c .before .before .before .before .loop .inv .none)
+          (first-found _ _ _ (turn (c .before .before) .loop .inv .none)
           (λ z. c .before .if1 .taken (e ∙ z))
           (c .before .before .before .loop-test .taken))),
       λ z. absurd (c .before .if1 .taken (sym (ap (λ (r : Refusal). r .number) (c .refuse .ensures)) ∙ z)),
@@ -46,12 +53,12 @@ loop-again : tie.Need-loop-again Inv-loop μ-loop
 loop-again c = record {
   inside = omega arith;
   state = c .advance .ensures;
-  none = first-more _ _ (c .before .before .before .before .loop .inv .none) (sym (c .before .before .word-refusal .ensures) ∙ c .before .if1 .left);
+  none = first-more _ _ (turn (c .before .before) .loop .inv .none) (sym (c .before .before .word-refusal .ensures) ∙ c .before .if1 .left);
 }
 
 returns-2 : tie.Need-returns-2 Inv-loop μ-loop
 returns-2 c =
-    let e : c .before .before .loop .i ≡ length (c .before .before .before .before .args .job .now) = omega arith in
+    let e : c .before .before .loop .i ≡ length (entry c .args .job .now) = omega arith in
     (rw (← e) (c .none .ensures ∙ sym (c .before .before .loop .inv .none)), λ z. rw (← e) (c .before .before .loop .inv .state))
 
 pub scan-words-spec : {M : Type 1} → statement M
