@@ -17,21 +17,21 @@ use Rattle.job.specs.Before.{before, countOfKind, named}
 use Rattle.job.specs.Refusal.{wordRefusal, refusalOf, nameRefusal, emptySet, endRefusal, jobRefusal}
 use Rattle.job.proofs.Before.{count-before}
 
-grade-number : (a b c : Bool) → wordRefusalOf a b c < 2 ^ 8
+tests-number : (a b c : Bool) → wordRefusalOf a b c < 2 ^ 8
 unfolding wordRefusalOf
-grade-number a b c = pick-number a (pick-number b (pick-number c (omega arith) (omega arith)) (omega arith)) (omega arith)
+tests-number a b c = pick-number a (pick-number b (pick-number c (omega arith) (omega arith)) (omega arith)) (omega arith)
 
 word-number : (head : ℕ) (p : List ℕ) (w : ℕ) → wordRefusal head p w < 2 ^ 8
 unfolding wordRefusal
 word-number head p w =
     pick-number (mayFollow (kind w) (predecessor p))
-    (pick-number (eqb (kind w) 1) (grade-number _ _ _)
-    (pick-number (eqb (kind w) 2) (grade-number _ _ _)
-    (pick-number (eqb (kind w) 3) (grade-number _ _ _)
-    (pick-number (eqb (kind w) 4) (grade-number _ _ _)
-    (pick-number (eqb (kind w) 5) (grade-number _ _ _)
-    (pick-number (eqb (kind w) 6) (grade-number _ _ _)
-    (pick-number (eqb (kind w) 7) (grade-number _ _ _) (pick-number (eqb (kind w) 8) (grade-number _ _ _) (omega arith)))))))))
+    (pick-number (eqb (kind w) 1) (tests-number _ _ _)
+    (pick-number (eqb (kind w) 2) (tests-number _ _ _)
+    (pick-number (eqb (kind w) 3) (tests-number _ _ _)
+    (pick-number (eqb (kind w) 4) (tests-number _ _ _)
+    (pick-number (eqb (kind w) 5) (tests-number _ _ _)
+    (pick-number (eqb (kind w) 6) (tests-number _ _ _)
+    (pick-number (eqb (kind w) 7) (tests-number _ _ _) (pick-number (eqb (kind w) 8) (tests-number _ _ _) (omega arith)))))))))
     (omega arith)
 
 refusal-number : (job : List ℕ) (i : ℕ) → refusalOf job i < 2 ^ 8

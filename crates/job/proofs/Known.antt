@@ -20,7 +20,7 @@ use Rattle.job.specs.Refusal.{jobRefusal}
 use Rattle.job.specs.Parts.{headWord}
 use Rattle.job.proofs.Before.{before-suc}
 use Rattle.job.proofs.Follow.{word-before}
-use Rattle.job.proofs.Refusal.{graded}
+use Rattle.job.proofs.Refusal.{tests-passed}
 use Rattle.job.proofs.Parts.{follows, rule}
 
 -- the words since one of kind k have word j
@@ -68,13 +68,13 @@ module _ (job : List ℕ) (ok : jobRefusal job .number ≡ 0) where
           (λ one. absurd (one-head i (omega arith) (omega arith) (omega arith)))
 
   bare : (i : ℕ) → i < length job → kind (getD job i 0) ≡ 2 → field (getD job i 0) 27 7 ≡ 0
-  bare i l h = eqb-true (field (getD job i 0) 27 7) 0 (graded _ _ _ (rule job ok 2 i l h) .0)
+  bare i l h = eqb-true (field (getD job i 0) 27 7) 0 (tests-passed _ _ _ (rule job ok 2 i l h) .0)
 
   -- the fluent of one of kind 2 is listed by no earlier one
   fresh : (i j : ℕ) → j < i → i < length job → kind (getD job i 0) ≡ 2 → kind (getD job j 0) ≡ 2
       → fluentOf (headWord job) (getD job j 0) ≡ fluentOf (headWord job) (getD job i 0) → ⊥
   fresh i j l m hi hj e =
-      let listed = not-true _ (graded _ _ _ (rule job ok 2 i m hi) .2) in
+      let listed = not-true _ (tests-passed _ _ _ (rule job ok 2 i m hi) .2) in
       true-false (sym (since-hit (sameFluent (headWord job) (getD job i 0)) 1 job i j l same (λ u a b k. later u a b k)) ∙ listed)
     where
       later : (u : ℕ) → j ≤ u → u < i → kind (getD job u 0) ≡ 1 → ⊥

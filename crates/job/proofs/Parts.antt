@@ -27,7 +27,7 @@ use Rattle.words.specs.Scan.{every}
 use Rattle.words.proofs.Scan.{every-true}
 use Rattle.job.proofs.Follow.{first-head}
 use Rattle.job.proofs.Before.{count-grows}
-use Rattle.job.proofs.Refusal.{followed, ruled, graded, within-limit, word-passed, Clear, clear, EndClear, end-clear}
+use Rattle.job.proofs.Refusal.{followed, ruled, tests-passed, within-limit, word-passed, Clear, clear, EndClear, end-clear}
 use Rattle.job.proofs.WordPositions.{IsWord, is-word, positions-count, from-position}
 
 -- the forms that a shape allows
@@ -83,7 +83,7 @@ module _ (job : List ℕ) (ok : jobRefusal job .number ≡ 0) where
   ranges =
       let f = within 1 64 (fluents job) in
       let a = within 1 64 (actions job) in
-      let g = both-true (f && a) (leb (lastMoment job) 63) (graded _ _ _ (rule 1 0 (size .0) head) .1) in
+      let g = both-true (f && a) (leb (lastMoment job) 63) (tests-passed _ _ _ (rule 1 0 (size .0) head) .1) in
       let h = both-true f a (g .0) in
       (within-true 1 64 (fluents job) (h .0), within-true 1 64 (actions job) (h .1), leb-true (lastMoment job) 63 (g .1))
 
@@ -105,7 +105,7 @@ module _ (job : List ℕ) (ok : jobRefusal job .number ≡ 0) where
   unfolding duration
   lasts {a} {i} at =
       let w = getD job i 0 in
-      let g = both-true (eqb (actionNumber w) (countOfKind 3 (before job i))) (leb 1 (durationOf w)) (graded _ _ _ (rule 3 i (at .inside) (at .of-kind)) .1) in
+      let g = both-true (eqb (actionNumber w) (countOfKind 3 (before job i))) (leb 1 (durationOf w)) (tests-passed _ _ _ (rule 3 i (at .inside) (at .of-kind)) .1) in
       rw (word-at 3 a i at) (leb-true 1 (durationOf w) (g .1))
 
   pub formula : {k i : ℕ} → IsWord job 5 k i → FormulaFormed job k

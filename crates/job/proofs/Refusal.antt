@@ -47,16 +47,16 @@ module _ (job : List ℕ) (i : ℕ) where
         cases false f z = absurd (omega arith)
 
 -- what a word that is not refused passes
-pub graded : (shape range fresh : Bool) → wordRefusalOf shape range fresh ≡ 0 → (shape ≡ true) × (range ≡ true) × (fresh ≡ true)
+pub tests-passed : (shape range fresh : Bool) → wordRefusalOf shape range fresh ≡ 0 → (shape ≡ true) × (range ≡ true) × (fresh ≡ true)
 unfolding wordRefusalOf
-graded false b c e = absurd (omega arith)
-graded true false c e = absurd (omega arith)
-graded true true false e = absurd (omega arith)
-graded true true true e = (refl, refl, refl)
+tests-passed false b c e = absurd (omega arith)
+tests-passed true false c e = absurd (omega arith)
+tests-passed true true false e = absurd (omega arith)
+tests-passed true true true e = (refl, refl, refl)
 
 pub within-limit : (most count : ℕ) (shape range : Bool) → limited most count shape range ≡ 0 → (shape ≡ true) × (count < most) × (range ≡ true)
 within-limit most count shape range e =
-    let g = graded shape (ltb count most && range) true e in
+    let g = tests-passed shape (ltb count most && range) true e in
     let b = both-true (ltb count most) range (g .1) in
     (g .0, ltb-true count most (b .0), b .1)
 
@@ -90,7 +90,7 @@ module _ (job : List ℕ) where
     few k limits = bounded k (length job) (λ i l h. limits (before job i) (getD job i 0) (rule-passed k i l h))
 
     pub limits-actions : Limits 3
-    limits-actions p w e = let n = eqb-true (actionNumber w) _ (both-true _ _ (graded _ _ _ e .1) .0) in omega (arith, n)
+    limits-actions p w e = let n = eqb-true (actionNumber w) _ (both-true _ _ (tests-passed _ _ _ e .1) .0) in omega (arith, n)
 
     pub limits-formulas : Limits 5
     limits-formulas p w e = within-limit 64 (countOfKind 5 p) _ _ e .1

@@ -13,7 +13,7 @@ use Rattle.job.specs.Before.{named}
 use Rattle.job.specs.Refusal.{nameRefusal, jobRefusal}
 use Rattle.job.specs.Parts.{total, nodeWord}
 use Rattle.job.specs.WellFormed.{WellFormed}
-use Rattle.job.proofs.Refusal.{graded, few, limits-formulas, limits-nodes, clear}
+use Rattle.job.proofs.Refusal.{tests-passed, few, limits-formulas, limits-nodes, clear}
 use Rattle.job.proofs.Parts.{size, ranges, rule, ends, word, word-at, lasts, formula, node}
 use Rattle.job.proofs.Known.{known-front, known-once}
 use Rattle.job.proofs.TaskSets.{set-formed}
@@ -44,12 +44,12 @@ well-formed job ok =
       some-actions = r .1 .0;
       few-actions = r .1 .1;
       few-moments = r .2;
-      known = λ i l h. ltb-true _ _ (graded _ _ _ (rule job ok 2 i l h) .1);
+      known = λ i l h. ltb-true _ _ (tests-passed _ _ _ (rule job ok 2 i l h) .1);
       known-front = known-front job ok;
       known-once = known-once job ok;
       counted = e .counted;
       lasting = λ a l. lasts job ok (word job ok 3 a (rw (e .counted) l) .1);
-      law = λ i l h. ltb-true _ _ (graded _ _ _ (rule job ok 4 i l h) .1);
+      law = λ i l h. ltb-true _ _ (tests-passed _ _ _ (rule job ok 4 i l h) .1);
       few-formulas = few job words 5 (limits-formulas job words);
       formula = λ k l. formula job ok (word job ok 5 k l .1);
       some-nodes = omega (arith, positive (total 6 job) none);

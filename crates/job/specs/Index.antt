@@ -1,11 +1,12 @@
 -- Where the words of a kind stand, and what a check of a job gives.
 use mathlib.Core.Bool.{cond}
 use mathlib.Core.List.{List, [], _∷_, _++_}
-use Prim.Native.Nat.{ℕ, zero, suc}
+use Prim.Native.Nat.{ℕ, zero, suc, _≤_}
 use lib.Dec.{eqb}
 use lib.ListN.{getD, length, replicate}
 use lib.Seq.{sets}
 use Rattle.words.specs.Fields.{kind}
+use Rattle.job.specs.Before.{before, countOfKind}
 use Rattle.job.specs.Refusal.{jobRefusal}
 use Rattle.job.specs.declared.Places.{Places}
 use Rattle.job.specs.declared.Index.{Index}
@@ -20,6 +21,13 @@ positions k job (suc i) = positions k job i ++ cond (eqb (kind (getD job i 0)) k
 unfoldable pub placesUpto : ℕ → List ℕ → ℕ → Places
 placesUpto k job i =
     record { total = length (positions k job i); position = sets (replicate 64 0) 0 (positions k job i) }
+
+-- the first i words can be indexed: of each kind there are as many as its array has room for
+pub record Indexable (job : List ℕ) (i : ℕ) : Type 0 where
+  pub inside : i ≤ length job
+  pub actions : countOfKind 3 (before job i) ≤ 64
+  pub formulas : countOfKind 5 (before job i) ≤ 64
+  pub nodes : countOfKind 6 (before job i) ≤ 64
 
 -- the index of the first i words: actions, formulas and nodes
 abbrev pub indexUpto : List ℕ → ℕ → Index

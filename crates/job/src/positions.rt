@@ -3,7 +3,7 @@ ghost use mathlib.Core.Path.{_≡_};
 ghost use Prim.Native.Nat.{_≤_};
 ghost use lib.ListN.{length};
 ghost use Rattle.job.specs.Before.{before, countOfKind};
-ghost use Rattle.job.specs.Index.{placesUpto, indexUpto};
+ghost use Rattle.job.specs.Index.{placesUpto, Indexable, indexUpto};
 use crate::ACTION;
 use crate::FORMULA;
 use crate::Index;
@@ -31,7 +31,7 @@ fn place_words(job: &[u32], k: u32, n: usize) -> Places
 
 // The index of the first `n` words.
 pub fn index_words(job: &[u32], n: usize) -> Index
-    requires { ⌜ (n ≤ length (now job)) × (countOfKind 3 (before (now job) n) ≤ 64) × (countOfKind 5 (before (now job) n) ≤ 64) × (countOfKind 6 (before (now job) n) ≤ 64) ⌝ }
+    requires { ⌜ Indexable (now job) n ⌝ }
     ensures { λ r. ⌜ r ≡ indexUpto (now (job .entry)) n ⌝ }
 {
     let actions = place_words(job, ACTION, n);

@@ -26,7 +26,7 @@ use crate::NODE;
 use crate::NOTHING;
 use crate::TASK_SET;
 
-pub fn grade_of(shape: bool, range: bool, fresh: bool) -> u32
+pub fn word_refusal_of(shape: bool, range: bool, fresh: bool) -> u32
     ensures { λ r. ⌜ r ≡ wordRefusalOf shape range fresh ⌝ }
 {
     if shape {
@@ -81,7 +81,7 @@ pub fn head(w: u32) -> u32
         & (fluents <= MAX_FLUENTS)
         & ((1 <= actions) & (actions <= MAX_ACTIONS))
         & (words::last_of(w) <= LAST_MOMENT);
-    grade_of(spare, range, true)
+    word_refusal_of(spare, range, true)
 }
 
 // The words that list a fluent: whether it is the job's.
@@ -90,7 +90,7 @@ pub fn known(head: u32, listed: bool, w: u32) -> u32
 {
     let spare = words::known_spare(head, w);
     let range = words::fluent_of(head, w) < words::fluents_of(head);
-    grade_of(spare, range, !listed)
+    word_refusal_of(spare, range, !listed)
 }
 
 pub fn law(head: u32, listed: bool, w: u32) -> u32
@@ -98,7 +98,7 @@ pub fn law(head: u32, listed: bool, w: u32) -> u32
 {
     let spare = words::law_spare(head, w);
     let range = words::fluent_of(head, w) < words::fluents_of(head);
-    grade_of(spare, range, !listed)
+    word_refusal_of(spare, range, !listed)
 }
 
 pub fn same_fluent(head: u32, w: u32, v: u32) -> bool
@@ -114,14 +114,14 @@ pub fn action(actions: usize, w: u32) -> u32
 {
     let spare = words::action_spare(w);
     let range = (words::action_number(w) == actions) & (1 <= words::duration_of(w));
-    grade_of(spare, range, true)
+    word_refusal_of(spare, range, true)
 }
 
 // A word of a kind of which there are at most `most`.
 fn limited_to(most: usize, count: usize, shape: bool, range: bool) -> u32
     ensures { λ r. ⌜ r ≡ limited most count shape range ⌝ }
 {
-    grade_of(shape, (count < most) & range, true)
+    word_refusal_of(shape, (count < most) & range, true)
 }
 
 fn formula_shape(head: u32, w: u32) -> bool

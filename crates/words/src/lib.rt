@@ -314,7 +314,7 @@ pub fn fact_word(head: u32, t: usize, f: usize, value: u8) -> u32
     requires { ⌜ (t < 64) × (f < 64) ⌝ }
     ensures { λ r. ⌜ r ≡ factWord head t f value ⌝ }
 {
-    let base = 2684354560 + (t as u32) * 128 + (f as u32) * 2;
+    let base = (FACT << 28) + (t as u32) * 128 + (f as u32) * 2;
     if value == HOLDS { base + 0 } else { base + 1 }
 }
 
@@ -323,5 +323,5 @@ pub fn reading_word(p: usize, b: usize, e: usize) -> u32
     requires { ⌜ (p < 64) × (b < 64) × (e < 64) ⌝ }
     ensures { λ r. ⌜ r ≡ readingWord p b e ⌝ }
 {
-    (2952790016 + p * 4096 + b * 64 + e) as u32
+    (READING << 28) + ((p as u32) << 12) + ((b as u32) << 6) + (e as u32)
 }

@@ -10,14 +10,24 @@ use Rattle.job.proofs.Refusal.{clear, few, limits-actions, limits-formu
 use Rattle.job.proofs.check_job.Statement.{statement}
 use Rattle.job.proofs.check_job.Tie as tie
 
+-- the places of the code that the proof speaks of
+abbrev entry : tie.Else1 → tie.Start
+entry c = c .before .before .before .before
+
 index-words-requires : tie.Need-index-words-requires
 index-words-requires c κs =
     let none = clear _ (sym (ap (λ (r : Refusal). r .number) (c .before .before .job-refusal .ensures)) ∙ c .if1 .taken) .words in
-    (search needs, few _ none 3 (limits-actions _ none), few _ none 5 (limits-formulas _ none), few _ none 6 (limits-nodes _ none))
+    record {
+      inside = search needs;
+      actions = few _ none 3 (limits-actions _ none);
+      formulas = few _ none 5 (limits-formulas _ none);
+      nodes = few _ none 6 (limits-nodes _ none);
+    }
 
 index-words-requires-2 : tie.Need-index-words-requires-2
 index-words-requires-2 c κs =
-    (search needs, omega (arith, count-none (c .before .before .before .before .args .job .now) 3), omega (arith, count-none (c .before .before .before .before .args .job .now) 5), omega (arith, count-none (c .before .before .before .before .args .job .now) 6))
+    let none = count-none (entry c .args .job .now) in
+    record { inside = search needs; actions = omega (arith, none 3); formulas = omega (arith, none 5); nodes = omega (arith, none 6) }
 
 returns : tie.Need-returns
 unfolding checkedOf

@@ -8,23 +8,30 @@ use Rattle.job.proofs.Refusal.{by-length, by-words, by-end}
 use Rattle.job.proofs.job_refusal.Statement.{statement}
 use Rattle.job.proofs.job_refusal.Tie as tie
 
+-- the places of the code that the proof speaks of
+abbrev else1 : tie.After-struct-known → tie.Else1
+else1 c = c .before .before .before
+
+abbrev after-scan-words : tie.After-end-refusal → tie.After-scan-words
+after-scan-words c = c .before .before .before .before
+
 returns : tie.Need-returns
 returns c = c .refuse .ensures ∙ sym (by-length _ (c .before .if1 .taken))
 
 returns-2 : tie.Need-returns-2
 returns-2 c =
     let e = c .before .before .before .scan-words .ensures .0 in
-    e ∙ sym (by-words _ (c .before .before .before .before .if1 .left) (λ z. c .if2 .taken (ap (λ (r : Refusal). r .number) e ∙ z)))
+    e ∙ sym (by-words _ (else1 (c .before) .if1 .left) (λ z. c .if2 .taken (ap (λ (r : Refusal). r .number) e ∙ z)))
 
 end-refusal-requires : tie.Need-end-refusal-requires
 end-refusal-requires c κs =
-    (leb-true _ _ (both-true _ _ (not-false _ (c .before .before .before .before .if1 .left)) .0), c .before .before .before .scan-words .ensures .1 (c .if2 .left))
+    (leb-true _ _ (both-true _ _ (not-false _ (else1 (c .before) .if1 .left)) .0), c .before .before .before .scan-words .ensures .1 (c .if2 .left))
 
 returns-3 : tie.Need-returns-3
 returns-3 c =
-    let e = c .before .before .before .before .scan-words .ensures .0 in
+    let e = after-scan-words c .scan-words .ensures .0 in
     c .end-refusal .ensures
-    ∙ sym (by-end _ (c .before .before .before .before .before .if1 .left) (sym (ap (λ (r : Refusal). r .number) e) ∙ c .before .if2 .left))
+    ∙ sym (by-end _ (else1 (c .before .before) .if1 .left) (sym (ap (λ (r : Refusal). r .number) e) ∙ c .before .if2 .left))
 
 pub job-refusal-spec : {M : Type 1} → statement M
 job-refusal-spec =

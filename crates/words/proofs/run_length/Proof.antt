@@ -18,18 +18,27 @@ Inv-loop ws at k i₀ i =
 abbrev μ-loop : tie.MeasureT-loop
 μ-loop ws at k i₀ i = length ws - i
 
+-- the places of the code that the proof speaks of
+abbrev entry : tie.After-kind-of Inv-loop μ-loop → tie.Start Inv-loop μ-loop
+entry c = c .before .before .before .before .before
+
+abbrev turn : tie.After-kind-of Inv-loop μ-loop → tie.At-loop Inv-loop μ-loop
+turn c = c .before .before .before
+
 loop-holds : tie.Need-loop-holds Inv-loop μ-loop
 loop-holds c = (omega arith, omega arith, refl)
 
 returns : tie.Need-returns Inv-loop μ-loop
 returns c =
-    let l = lead-miss (ofKind (c .before .before .before .before .before .before .args .k)) (c .before .before .before .before .before .before .args .ws .now) (c .before .before .before .before .loop .i) (c .before .before .before .loop-test .taken)
+    let start = entry (c .before) in
+    let l = lead-miss (ofKind (start .args .k)) (start .args .ws .now) (turn (c .before) .loop .i) (c .before .before .before .loop-test .taken)
     (ne-eqb _ _ (λ e. c .if1 .taken (c .before .kind-of .ensures .0 ∙ e))) in
     omega (arith, l)
 
 loop-again : tie.Need-loop-again Inv-loop μ-loop
 loop-again c =
-    let l = lead-hit (ofKind (c .before .before .before .before .before .before .args .k)) (c .before .before .before .before .before .before .args .ws .now) (c .before .before .before .before .loop .i) (c .before .before .before .loop-test .taken)
+    let start = entry (c .before) in
+    let l = lead-hit (ofKind (start .args .k)) (start .args .ws .now) (turn (c .before) .loop .i) (c .before .before .before .loop-test .taken)
     (eq-eqb _ _ (sym (c .before .kind-of .ensures .0) ∙ c .if1 .left)) in
     (omega arith, omega arith, omega (arith, l))
 

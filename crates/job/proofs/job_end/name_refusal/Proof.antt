@@ -21,6 +21,13 @@ Inv-loop job root v₀ v = (v ≤ root) × (firstOf (nameRefusal (before job (le
 abbrev μ-loop : tie.MeasureT-loop
 μ-loop job root v₀ v = root - v
 
+-- the places of the code that the proof speaks of
+abbrev entry : tie.After-none Inv-loop μ-loop → tie.Start Inv-loop μ-loop
+entry c = c .before .before .before .before
+
+abbrev turn : tie.After-refuse Inv-loop μ-loop → tie.At-loop Inv-loop μ-loop
+turn c = c .before .before .before .before
+
 loop-holds : tie.Need-loop-holds Inv-loop μ-loop
 loop-holds c = (omega arith, first-start _)
 
@@ -30,7 +37,7 @@ returns c =
     c .refuse .ensures
     ∙ sym
     (rw five at
-    (first-found _ _ _ (c .before .before .before .before .loop .inv .1) (λ z. five-ne (sym five ∙ z)) (c .before .before .before .loop-test .taken)))
+    (first-found _ _ _ (turn c .loop .inv .1) (λ z. five-ne (sym five ∙ z)) (c .before .before .before .loop-test .taken)))
 
 loop-again : tie.Need-loop-again Inv-loop μ-loop
 loop-again c =
@@ -38,7 +45,7 @@ loop-again c =
 
 returns-2 : tie.Need-returns-2 Inv-loop μ-loop
 returns-2 c =
-    let e : c .before .before .loop .v ≡ c .before .before .before .before .args .root = omega arith in
+    let e : c .before .before .loop .v ≡ entry c .args .root = omega arith in
     rw (← e) (c .none .ensures ∙ sym (c .before .before .loop .inv .1))
 
 pub name-refusal-spec : {M : Type 1} → statement M

@@ -9,4 +9,8 @@ returns c = rw (c .place-words3 .ensures, c .before .place-words2 .ensures, c .b
 pub index-words-spec : {M : Type 1} → statement M
 index-words-spec =
     tie.close
-    (tie.spec (λ c κs. search needs) (λ c κs. search needs) (λ c κs. search needs) returns)
+    (tie.spec
+    (λ c κs. (c .before .pre .inside, c .before .pre .actions))
+    (λ c κs. (c .before .before .pre .inside, c .before .before .pre .formulas))
+    (λ c κs. (c .before .before .before .pre .inside, c .before .before .before .pre .nodes))
+    returns)

@@ -16,26 +16,34 @@ Inv-loop job k n position₀ total₀ i₀ position total i = (i ≤ n) × Marke
 abbrev μ-loop : tie.MeasureT-loop
 μ-loop job k n position₀ total₀ i₀ position total i = n - i
 
+-- the places of the code that the proof speaks of
+abbrev entry : tie.Then1 Inv-loop μ-loop → tie.Start Inv-loop μ-loop
+entry c = c .before .before .before .before .before .before
+
+abbrev turn : tie.After-kind-of Inv-loop μ-loop → tie.At-loop Inv-loop μ-loop
+turn c = c .before .before .before
+
 loop-holds : tie.Need-loop-holds Inv-loop μ-loop
 loop-holds c = (omega arith, marked-none _ _)
 
 mul-position : tie.Need-mul-position Inv-loop μ-loop
-mul-position c = omega (arith, room (c .before .before .before .before .loop .inv .1) _ (c .before .before .before .loop-test .taken) (sym (c .before .kind-of .ensures .0) ∙ c .if1 .taken) (c .before .before .before .before .before .before .pre .1))
+mul-position c = omega (arith, room (turn (c .before) .loop .inv .1) _ (c .before .before .before .loop-test .taken) (sym (c .before .kind-of .ensures .0) ∙ c .if1 .taken) (entry c .pre .1))
 
 array-write-position : tie.Need-array-write-position Inv-loop μ-loop
-array-write-position c = room (c .before .before .before .before .loop .inv .1) _ (c .before .before .before .loop-test .taken) (sym (c .before .kind-of .ensures .0) ∙ c .if1 .taken) (c .before .before .before .before .before .before .pre .1)
+array-write-position c = room (turn (c .before) .loop .inv .1) _ (c .before .before .before .loop-test .taken) (sym (c .before .kind-of .ensures .0) ∙ c .if1 .taken) (entry c .pre .1)
 
 add-total : tie.Need-add-total Inv-loop μ-loop
-add-total c = omega (arith, room (c .before .before .before .before .loop .inv .1) _ (c .before .before .before .loop-test .taken) (sym (c .before .kind-of .ensures .0) ∙ c .if1 .taken) (c .before .before .before .before .before .before .pre .1))
+add-total c = omega (arith, room (turn (c .before) .loop .inv .1) _ (c .before .before .before .loop-test .taken) (sym (c .before .kind-of .ensures .0) ∙ c .if1 .taken) (entry c .pre .1))
 
 loop-again : tie.Need-loop-again Inv-loop μ-loop
-loop-again c = (
-  omega arith,
-  ⊎-elim
-      (λ w. rw (w .1, w .2) (hit (c .before .before .before .before .loop .inv .1) (sym (c .before .kind-of .ensures .0) ∙ w .0 .taken)))
-      (λ w. rw (w .1, w .2) (miss (c .before .before .before .before .loop .inv .1) (λ e. w .0 .left (c .before .kind-of .ensures .0 ∙ e))))
-      (c .if1 .came),
-)
+loop-again c =
+    let head = turn (c .before) in (
+      omega arith,
+      ⊎-elim
+          (λ w. rw (w .1, w .2) (hit (head .loop .inv .1) (sym (c .before .kind-of .ensures .0) ∙ w .0 .taken)))
+          (λ w. rw (w .1, w .2) (miss (head .loop .inv .1) (λ e. w .0 .left (c .before .kind-of .ensures .0 ∙ e))))
+          (c .if1 .came),
+    )
 
 returns : tie.Need-returns Inv-loop μ-loop
 unfolding placesUpto

@@ -5,7 +5,7 @@ use Rattle.job.proofs.rules.action.Tie as tie
 
 returns : tie.Need-returns
 returns c =
-    rw (c .before .duration-of .ensures .0, c .before .before .action-number .ensures .0, c .before .before .before .action-spare .ensures) at (c .grade-of .ensures)
+    rw (c .before .duration-of .ensures .0, c .before .before .action-number .ensures .0, c .before .before .before .action-spare .ensures) at (c .word-refusal-of .ensures)
 
 pub action-spec : {M : Type 1} → statement M
 action-spec =

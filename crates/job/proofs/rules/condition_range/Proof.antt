@@ -5,7 +5,8 @@ use Rattle.job.proofs.rules.condition_range.Tie as tie
 
 returns : tie.Need-returns
 returns c =
-    rw (c .condition-n .ensures .0, c .before .condition-m .ensures .0, c .before .before .condition-j .ensures .0, c .before .before .before .condition-i .ensures .0, c .before .before .before .before .condition-formula .ensures .0, c .before .before .before .before .before .form-of .ensures .0)
+    let early = c .before .before .before in
+    rw (c .condition-n .ensures .0, c .before .condition-m .ensures .0, c .before .before .condition-j .ensures .0, early .condition-i .ensures .0, early .before .condition-formula .ensures .0, early .before .before .form-of .ensures .0)
 
 pub condition-range-spec : {M : Type 1} → statement M
 condition-range-spec =

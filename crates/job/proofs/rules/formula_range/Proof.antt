@@ -5,7 +5,8 @@ use Rattle.job.proofs.rules.formula_range.Tie as tie
 
 returns : tie.Need-returns
 returns c =
-    rw (c .fluents-of .ensures .0, c .before .atom-fluent .ensures .0, c .before .before .formula-y .ensures .0, c .before .before .before .formula-x .ensures .0, c .before .before .before .before .form-of .ensures .0)
+    let early = c .before .before .before in
+    rw (c .fluents-of .ensures .0, c .before .atom-fluent .ensures .0, c .before .before .formula-y .ensures .0, early .formula-x .ensures .0, early .before .form-of .ensures .0)
 
 pub formula-range-spec : {M : Type 1} → statement M
 formula-range-spec =

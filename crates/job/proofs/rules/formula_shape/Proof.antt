@@ -5,7 +5,8 @@ use Rattle.job.proofs.rules.formula_shape.Tie as tie
 
 returns : tie.Need-returns
 returns c =
-    rw (c .spare-5-0 .ensures, c .before .spare-23-12 .ensures, c .before .before .atom-spare .ensures, c .before .before .before .spare-23-0 .ensures, c .before .before .before .before .form-of .ensures .0)
+    let early = c .before .before .before in
+    rw (c .spare-5-0 .ensures, c .before .spare-23-12 .ensures, c .before .before .atom-spare .ensures, early .spare-23-0 .ensures, early .before .form-of .ensures .0)
 
 pub formula-shape-spec : {M : Type 1} → statement M
 formula-shape-spec =

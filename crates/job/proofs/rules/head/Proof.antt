@@ -5,7 +5,8 @@ use Rattle.job.proofs.rules.head.Tie as tie
 
 returns : tie.Need-returns
 returns c =
-    rw (c .before .last-of .ensures .0, c .before .before .actions-of .ensures .0, c .before .before .before .fluents-of .ensures .0, c .before .before .before .before .head-spare .ensures) at (c .grade-of .ensures)
+    let early = c .before .before .before in
+    rw (c .before .last-of .ensures .0, c .before .before .actions-of .ensures .0, early .fluents-of .ensures .0, early .before .head-spare .ensures) at (c .word-refusal-of .ensures)
 
 pub head-spec : {M : Type 1} → statement M
 head-spec =

@@ -5,7 +5,7 @@ use Rattle.job.proofs.rules.known.Tie as tie
 
 returns : tie.Need-returns
 returns c =
-    rw (c .before .fluents-of .ensures .0, c .before .before .fluent-of .ensures .0, c .before .before .before .known-spare .ensures) at (c .grade-of .ensures)
+    rw (c .before .fluents-of .ensures .0, c .before .before .fluent-of .ensures .0, c .before .before .before .known-spare .ensures) at (c .word-refusal-of .ensures)
 
 pub known-spec : {M : Type 1} → statement M
 known-spec =

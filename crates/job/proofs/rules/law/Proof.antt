@@ -5,7 +5,7 @@ use Rattle.job.proofs.rules.law.Tie as tie
 
 returns : tie.Need-returns
 returns c =
-    rw (c .before .fluents-of .ensures .0, c .before .before .fluent-of .ensures .0, c .before .before .before .law-spare .ensures) at (c .grade-of .ensures)
+    rw (c .before .fluents-of .ensures .0, c .before .before .fluent-of .ensures .0, c .before .before .before .law-spare .ensures) at (c .word-refusal-of .ensures)
 
 pub law-spec : {M : Type 1} → statement M
 law-spec =

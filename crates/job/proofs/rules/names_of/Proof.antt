@@ -6,10 +6,13 @@ use Rattle.job.proofs.rules.names_of.Statement.{statement}
 use Rattle.job.proofs.rules.names_of.Tie as tie
 
 returns : tie.Need-returns
-returns c = (
-  rw (c .one-if4 .ensures .0, c .before .one-if3 .ensures .0, c .before .before .one-if2 .ensures .0, c .before .before .before .one-if .ensures .0, c .before .before .before .before .member-node .ensures .0, c .before .before .before .before .before .node-m .ensures .0, c .before .before .before .before .before .before .node-y .ensures .0, c .before .before .before .before .before .before .before .node-x .ensures .0, c .before .before .before .before .before .before .before .before .form-of .ensures .0, c .before .before .before .before .before .before .before .before .before .kind-of .ensures .0, count-children),
-  omega (arith, c .one-if4 .ensures .1, c .before .one-if3 .ensures .1, c .before .before .one-if2 .ensures .1, c .before .before .before .one-if .ensures .1),
-)
+returns c =
+    let early = c .before .before .before in
+    let earlier = early .before .before .before in
+    let earliest = earlier .before .before .before in (
+      rw (c .one-if4 .ensures .0, c .before .one-if3 .ensures .0, c .before .before .one-if2 .ensures .0, early .one-if .ensures .0, early .before .member-node .ensures .0, early .before .before .node-m .ensures .0, earlier .node-y .ensures .0, earlier .before .node-x .ensures .0, earlier .before .before .form-of .ensures .0, earliest .kind-of .ensures .0, count-children),
+      omega (arith, c .one-if4 .ensures .1, c .before .one-if3 .ensures .1, c .before .before .one-if2 .ensures .1, early .one-if .ensures .1),
+    )
 
 pub names-of-spec : {M : Type 1} → statement M
 names-of-spec =

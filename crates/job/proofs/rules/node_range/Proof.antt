@@ -6,8 +6,9 @@ use Rattle.job.proofs.rules.node_range.Tie as tie
 
 returns : tie.Need-returns
 returns c =
-    let s = c .before .before .before .before .before in
-    rw (c .node-n .ensures .0, c .before .node-m .ensures .0, c .before .before .node-y .ensures .0, c .before .before .before .node-x .ensures .0, c .before .before .before .before .form-of .ensures .0, children-below (s .args .w) (s .args .nodes))
+    let early = c .before .before .before in
+    let s = early .before .before in
+    rw (c .node-n .ensures .0, c .before .node-m .ensures .0, c .before .before .node-y .ensures .0, early .node-x .ensures .0, early .before .form-of .ensures .0, children-below (s .args .w) (s .args .nodes))
 
 pub node-range-spec : {M : Type 1} → statement M
 node-range-spec =

@@ -5,7 +5,8 @@ use Rattle.job.proofs.rules.node_shape.Tie as tie
 
 returns : tie.Need-returns
 returns c =
-    rw (c .spare-5-0 .ensures, c .before .spare-11-0 .ensures, c .before .before .spare-17-0 .ensures, c .before .before .before .spare-23-0 .ensures, c .before .before .before .before .form-of .ensures .0)
+    let early = c .before .before .before in
+    rw (c .spare-5-0 .ensures, c .before .spare-11-0 .ensures, c .before .before .spare-17-0 .ensures, early .spare-23-0 .ensures, early .before .form-of .ensures .0)
 
 pub node-shape-spec : {M : Type 1} → statement M
 node-shape-spec =

@@ -5,7 +5,8 @@ use Rattle.job.proofs.rules.same_fluent.Tie as tie
 
 returns : tie.Need-returns
 returns c =
-    rw (c .fluent-of2 .ensures .0, c .before .fluent-of .ensures .0, c .before .before .role-of2 .ensures .0, c .before .before .before .role-of .ensures .0, c .before .before .before .before .kind-of2 .ensures .0, c .before .before .before .before .before .kind-of .ensures .0)
+    let early = c .before .before .before in
+    rw (c .fluent-of2 .ensures .0, c .before .fluent-of .ensures .0, c .before .before .role-of2 .ensures .0, early .role-of .ensures .0, early .before .kind-of2 .ensures .0, early .before .before .kind-of .ensures .0)
 
 pub same-fluent-spec : {M : Type 1} → statement M
 same-fluent-spec =

@@ -6,34 +6,37 @@ use Rattle.job.proofs.scan.advance.Statement.{statement}
 use Rattle.job.proofs.scan.advance.Tie as tie
 
 add-actions : tie.Need-add-actions
-add-actions c = omega (arith, count-before 3 (c .before .before .before .before .before .args .job .now) (c .before .before .before .before .before .args .i))
+add-actions c = let s = c .before .before .before .before .before in omega (arith, count-before 3 (s .args .job .now) (s .args .i))
 
 add-formulas : tie.Need-add-formulas
-add-formulas c = omega (arith, count-before 5 (c .before .before .before .before .before .before .before .args .job .now) (c .before .before .before .before .before .before .before .args .i))
+add-formulas c = let s = c .before .before .before .before .before .before .before in omega (arith, count-before 5 (s .args .job .now) (s .args .i))
 
 add-nodes : tie.Need-add-nodes
-add-nodes c = omega (arith, count-before 6 (c .before .before .before .before .before .before .before .before .before .args .job .now) (c .before .before .before .before .before .before .before .before .before .args .i))
+add-nodes c = let s = c .before .before .before .before .before .before .before .before .before in omega (arith, count-before 6 (s .args .job .now) (s .args .i))
 
 add-pick-count : tie.Need-add-pick-count
-add-pick-count c = omega (arith, count-since 7 6 (c .before .before .before .before .before .before .before .before .before .before .before .args .job .now) (c .before .before .before .before .before .before .before .before .before .before .before .args .i))
+add-pick-count c = let s = c .before .before .before .before .before .before .before .before .before .before .before in omega (arith, count-since 7 6 (s .args .job .now) (s .args .i))
 
 add-pick-count-2 : tie.Need-add-pick-count-2
-add-pick-count-2 c = omega (arith, count-since 8 6 (c .before .before .before .before .before .before .before .before .before .before .before .before .before .before .args .job .now) (c .before .before .before .before .before .before .before .before .before .before .before .before .before .before .args .i))
+add-pick-count-2 c = let s = c .before .before .before .before .before .before .before .before .before .before .before .before .before .before in omega (arith, count-since 8 6 (s .args .job .now) (s .args .i))
 
 returns : tie.Need-returns
 returns c =
-    let s = c .before .before .before .before .before .before .before .before .before .before .before .before .before .before .before .before in
-    let k = c .before .before .before .before .before .before .before .before .before .before .before .before .before .kind-of .ensures .0 in
+    let five = c .before .before .before in
+    let four = five .before .before .before in
+    let three = four .before .before in
+    let two = three .before .before in
+    let one = two .before .before in
+    let k = one .before .kind-of .ensures .0 in
+    let s = one .before .before .before .before in
     let job = s .args .job .now in
     let i = s .args .i in
     record {
-      actions = omega (arith, s .pre .1, rw k at (c .before .before .before .before .before .before .before .before .before .before .before .before .one-if .ensures .0), count-more job i 3);
-      formulas = omega (arith, s .pre .1, rw k at (c .before .before .before .before .before .before .before .before .before .before .one-if2 .ensures .0), count-more job i 5);
-      nodes = omega (arith, s .pre .1, rw k at (c .before .before .before .before .before .before .before .before .one-if3 .ensures .0), count-more job i 6);
-      members =
-          rw (count-since-more job i 7 6, ← k, ← (s .pre .1 .members), ← (c .before .before .before .before .before .before .one-if4 .ensures .0)) (c .before .before .before .before .pick-count .ensures);
-      conditions =
-          rw (count-since-more job i 8 6, ← k, ← (s .pre .1 .conditions), ← (c .before .before .before .one-if5 .ensures .0)) (c .before .pick-count2 .ensures);
+      actions = omega (arith, s .pre .1, rw k at (one .one-if .ensures .0), count-more job i 3);
+      formulas = omega (arith, s .pre .1, rw k at (two .one-if2 .ensures .0), count-more job i 5);
+      nodes = omega (arith, s .pre .1, rw k at (three .one-if3 .ensures .0), count-more job i 6);
+      members = rw (count-since-more job i 7 6, ← k, ← (s .pre .1 .members), ← (four .one-if4 .ensures .0)) (five .before .pick-count .ensures);
+      conditions = rw (count-since-more job i 8 6, ← k, ← (s .pre .1 .conditions), ← (five .one-if5 .ensures .0)) (c .before .pick-count2 .ensures);
       node = rw (latest-more job i 6, ← k, ← (s .pre .1 .node)) (c .pick-word .ensures);
     }
 

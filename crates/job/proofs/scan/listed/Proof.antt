@@ -19,20 +19,27 @@ Inv-loop job i k head w j₀ j =
 abbrev μ-loop : tie.MeasureT-loop
 μ-loop job i k head w j₀ j = j
 
+-- the places of the code that the proof speaks of
+abbrev turn : tie.After-kind-of Inv-loop μ-loop → tie.At-loop Inv-loop μ-loop
+turn c = c .before .before .before
+
+abbrev inside : tie.After-same-fluent Inv-loop μ-loop → tie.In-loop Inv-loop μ-loop
+inside c = c .before .before .before .before
+
 loop-holds : tie.Need-loop-holds Inv-loop μ-loop
 loop-holds c = (search needs, refl)
 
 returns : tie.Need-returns Inv-loop μ-loop
 returns c =
     rw
-    (c .before .before .before .before .loop .inv .1, since-any, c .before .before .before .loop-test .taken, eq-eqb _ _ (sym (c .before .kind-of .ensures .0) ∙ c .if1 .taken))
+    (turn (c .before) .loop .inv .1, since-any, c .before .before .before .loop-test .taken, eq-eqb _ _ (sym (c .before .kind-of .ensures .0) ∙ c .if1 .taken))
 
 returns-2 : tie.Need-returns-2 Inv-loop μ-loop
 returns-2 c =
     rw (
-      c .before .before .before .before .before .before .loop .inv .1,
+      turn (c .before .before .before) .loop .inv .1,
       since-any,
-      c .before .before .before .before .before .loop-test .taken,
+      inside (c .before) .loop-test .taken,
       ne-eqb _ _ (λ e. c .before .before .if1 .left (c .before .before .before .kind-of .ensures .0 ∙ e)),
       sym (c .before .same-fluent .ensures) ∙ c .if2 .taken,
     )
@@ -41,9 +48,9 @@ loop-again : tie.Need-loop-again Inv-loop μ-loop
 loop-again c = (
   omega arith,
   rw (
-    c .before .before .before .before .before .before .loop .inv .1,
+    turn (c .before .before .before) .loop .inv .1,
     since-any,
-    c .before .before .before .before .before .loop-test .taken,
+    inside (c .before) .loop-test .taken,
     ne-eqb _ _ (λ e. c .before .before .if1 .left (c .before .before .before .kind-of .ensures .0 ∙ e)),
     sym (c .before .same-fluent .ensures) ∙ c .if2 .left,
   ),

@@ -8,6 +8,10 @@ use Rattle.job.proofs.Before.{before-less}
 use Rattle.job.proofs.scan.predecessor.Statement.{statement}
 use Rattle.job.proofs.scan.predecessor.Tie as tie
 
+-- the places of the code that the proof speaks of
+abbrev entry : tie.After-pick-word → tie.Start
+entry c = c .before .before .before .before .before .before
+
 returns : tie.Need-returns
 unfolding before predecessor
 returns c = rw (c .if1 .taken)
@@ -15,7 +19,7 @@ returns c = rw (c .if1 .taken)
 returns-2 : tie.Need-returns-2
 unfolding predecessor
 returns-2 c =
-    let h : 0 < c .before .before .before .before .before .before .args .i = omega arith in
+    let h : 0 < entry c .args .i = omega arith in
     rw (before-less, ← (c .before .before .is-set .ensures), ← (c .before .kind-of .ensures .0)) (c .pick-word .ensures)
 
 pub predecessor-spec : {M : Type 1} → statement M

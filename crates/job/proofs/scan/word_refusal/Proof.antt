@@ -10,6 +10,10 @@ use Rattle.job.proofs.Refusal.{ruled, may, may-not}
 use Rattle.job.proofs.scan.word_refusal.Statement.{statement}
 use Rattle.job.proofs.scan.word_refusal.Tie as tie
 
+-- the places of the code that the proof speaks of
+abbrev entry-place : tie.Then1 → tie.Start
+entry-place c = c .before .before .before .before .before .before .before
+
 abbrev entry : tie.Else1 → tie.Start
 entry c = c .before .before .before .before .before .before .before
 
@@ -22,7 +26,7 @@ passed c k h =
 
 returns : tie.Need-returns
 returns c =
-    let s = c .before .before .before .before .before .before .before in
+    let s = entry-place c in
     sym
     (may-not (s .args .job .now) (s .args .i) _ (sym (c .before .before .before .kind-of .ensures .0))
     (rw (← (c .before .before .predecessor .ensures)) (sym (c .before .may-follow .ensures) ∙ not-true _ (c .if1 .taken))))

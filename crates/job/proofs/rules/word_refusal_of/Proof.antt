@@ -1,7 +1,7 @@
--- `job::rules::grade_of` meets its contract, by its tests. Assumes nothing.
+-- `job::rules::word_refusal_of` meets its contract, by its tests. Assumes nothing.
 use Rattle.job.specs.Rules.{wordRefusalOf}
-use Rattle.job.proofs.rules.grade_of.Statement.{statement}
-use Rattle.job.proofs.rules.grade_of.Tie as tie
+use Rattle.job.proofs.rules.word_refusal_of.Statement.{statement}
+use Rattle.job.proofs.rules.word_refusal_of.Tie as tie
 
 returns : tie.Need-returns
 unfolding wordRefusalOf
@@ -19,5 +19,5 @@ returns-4 : tie.Need-returns-4
 unfolding wordRefusalOf
 returns-4 c = rw (c .if1 .left)
 
-pub grade-of-spec : {M : Type 1} → statement M
-grade-of-spec = tie.close (tie.spec returns returns-2 returns-3 returns-4)
+pub word-refusal-of-spec : {M : Type 1} → statement M
+word-refusal-of-spec = tie.close (tie.spec returns returns-2 returns-3 returns-4)
