@@ -6,7 +6,8 @@ use native.Mathlib.Decide.{le-ind, decLt}
 use native.Mathlib.Numerals.{add-one}
 use native.Mathlib.Omega.{arith}
 use lib.Dec.{eqb}
-use borrow.Author.Tests.{ne-eqb, eqb-true, eqb-false}
+use borrow.Author.Tests.{eq-eqb, ne-eqb, eqb-true, eqb-false}
+use Rattle.answers.specs.Packed.{answerOf}
 use Rattle.answers.specs.Rows.{refusal, passed, row, firstRefusal, refusalAt, firstOf}
 use Rattle.answers.specs.declared.Refusal.{Refusal}
 
@@ -24,6 +25,25 @@ or-none a b = go (eqb (a .number) 0) refl
     go : (t : Bool) → eqb (a .number) 0 ≡ t → cond t b a .number ≡ 0 → (a .number ≡ 0) × (b .number ≡ 0)
     go true e h = (eqb-true (a .number) 0 e, h)
     go false e h = absurd (eqb-false (a .number) 0 e h)
+
+-- a row that gives a number is the answer, and one that gives none leaves it to the next
+pub or-refused : (a b : Refusal) → (a .number ≡ 0 → ⊥) → a ≡ firstRefusal a b
+or-refused a b h = rw (ne-eqb (a .number) 0 h)
+
+pub or-passed : (a b : Refusal) → a .number ≡ 0 → b ≡ firstRefusal a b
+or-passed a b h = rw (eq-eqb (a .number) 0 h)
+
+-- rows put together in either way
+pub or-assoc : (a b c : Refusal) → firstRefusal a (firstRefusal b c) ≡ firstRefusal (firstRefusal a b) c
+or-assoc a b c = cases (eqb (a .number) 0) refl
+  where
+    cases : (t : Bool) → eqb (a .number) 0 ≡ t → cond t (firstRefusal b c) a ≡ firstRefusal (cond t b a) c
+    cases true e = refl
+    cases false e = rw e
+
+-- a refusal has no length and no count
+pub answer-refused : (r : Refusal) (l c l' c' : ℕ) → (r .number ≡ 0 → ⊥) → answerOf r l c ≡ answerOf r l' c'
+answer-refused r l c l' c' h = rw (ne-eqb (r .number) 0 h)
 
 -- a row that gives no number does not fit
 pub row-none : (fits : Bool) (n position : ℕ) → 0 < n → row fits n position .number ≡ 0 → fits ≡ false

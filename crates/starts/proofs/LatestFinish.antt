@@ -17,7 +17,7 @@ use Rattle.starts.specs.Rows.{restarts, inHandAlready, together, clashin
 use Rattle.words.specs.Scan.{anyBelow}
 use Rattle.starts.specs.Latest.{Unfinished, Latest, clashesAfter}
 use Rattle.starts.specs.Given.{Timed}
-use Rattle.starts.proofs.AnyBelow.{some-none, some-hit, some-same}
+use Rattle.words.proofs.AnyBelow.{some-none, some-hit, some-same}
 use Rattle.starts.proofs.StartsFormed.{right-word, finish-is, moments-ordered}
 
 -- before the first start no entry is above 0

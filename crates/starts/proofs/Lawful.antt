@@ -10,8 +10,8 @@ use lib.ListN.{length}
 use Rattle.starts.specs.Rows.{ascends, wrongWord, endsLate, inHandAlready, clashes, needsUnmet, startRows, startsRefusal}
 use Rattle.starts.specs.Given.{StartsFormed}
 use Rattle.starts.specs.Lawful.{Lawful}
-use Rattle.starts.proofs.AnyBelow.{some-none, none-below}
-use Rattle.starts.proofs.Lists.{each-of, each-at, pairs-of, pairs-at}
+use Rattle.words.proofs.AnyBelow.{some-none, none-below}
+use Rattle.words.proofs.Lists.{each-of, each-at, pairs-of, pairs-at}
 use Rattle.starts.proofs.Rows.{NoneFits, no-row, and-row, rows-none, none-rows}
 use Rattle.starts.proofs.StartsFormed.{is-start-at, words-ascend}
 

@@ -1,12 +1,10 @@
--- Laws that belong to no one function: AnyBelow (whether some number below n passes a test), Rows (rows on the words of a list), StartsFormed
+-- Laws that belong to no one function: Rows (rows on the words of a list), StartsFormed
 -- (what row 6 shows), LatestFinish (rows 8 and 9 by the latest finishes), ClashTable (the table of pairs that clash), Needs (needs by the
--- history), RefusalFits (the refusal fits an answer's fields), Lists (each word and each two), Lawful (no row fits exactly lawful starts).
-pub mod AnyBelow
+-- history), RefusalFits (the refusal fits an answer's fields), Lawful (no row fits exactly lawful starts).
 pub mod Rows
 pub mod StartsFormed
 pub mod LatestFinish
 pub mod ClashTable
 pub mod Needs
 pub mod RefusalFits
-pub mod Lists
 pub mod Lawful

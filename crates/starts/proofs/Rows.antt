@@ -10,7 +10,7 @@ use lib.ListN.{length, take, drop}
 use Rattle.words.proofs.Choices.{both-true}
 use Rattle.answers.specs.declared.Refusal.{Refusal}
 use Rattle.answers.specs.Rows.{refusal, passed, firstRefusal, refusalAt, firstOf}
-use Rattle.answers.proofs.Rows.{or-none, first-start, first-more, first-found, first-none}
+use Rattle.answers.proofs.Rows.{or-none, first-start, first-more, first-found, first-none, or-assoc}
 use Rattle.starts.specs.Rows.{needsUnmet, startRows, numbered, rowsRefusal, startsRefusal}
 use Rattle.starts.specs.Given.{timeRows}
 
@@ -99,13 +99,6 @@ module _ (number : ℕ) (test : ℕ → Bool) (n : ℕ) where
           cases false e = rw e
 
 -- the first k rows, and then the others
-or-grouped : (a b c : Refusal) → firstRefusal a (firstRefusal b c) ≡ firstRefusal (firstRefusal a b) c
-or-grouped a b c = cases (eqb (a .number) 0) refl
-  where
-    cases : (t : Bool) → eqb (a .number) 0 ≡ t → cond t (firstRefusal b c) a ≡ firstRefusal (cond t b a) c
-    cases true e = refl
-    cases false e = rw e
-
 pub rows-split : (k : ℕ) (rows : List (ℕ × (ℕ → Bool))) (n : ℕ)
     → rowsRefusal rows n ≡ firstRefusal (rowsRefusal (take k rows) n) (rowsRefusal (drop k rows) n)
 unfolding rowsRefusal
@@ -113,7 +106,7 @@ rows-split zero rows n = refl
 rows-split (suc k) [] n = refl
 rows-split (suc k) (row ∷ rest) n =
     let first = firstOf (numbered (row .0) (row .1)) n in
-    ap (firstRefusal first) (rows-split k rest n) ∙ or-grouped first (rowsRefusal (take k rest) n) (rowsRefusal (drop k rest) n)
+    ap (firstRefusal first) (rows-split k rest n) ∙ or-assoc first (rowsRefusal (take k rest) n) (rowsRefusal (drop k rest) n)
 
 -- rows 6 to 9, and then row 10
 module _ (job starts : List ℕ) where

@@ -7,7 +7,7 @@ use Prim.Native.Nat.{ℕ, _≤_, _<_}
 use Rattle.words.specs.Fields.{startMoment, startAction}
 use Rattle.job.specs.Parts.{lastMoment}
 use Rattle.history.specs.Actions.{finish}
-use Rattle.starts.specs.Lists.{Each, Pairs}
+use Rattle.words.specs.Lists.{Each, Pairs}
 use Rattle.starts.specs.Rows.{isStart, restarts, clashing, unmetAt}
 
 pub record Lawful (job starts : List ℕ) : Type 0 where

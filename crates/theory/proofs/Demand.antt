@@ -16,7 +16,8 @@ use Rattle.answers.specs.Packed.{answerOf}
 use Rattle.answers.proofs.Rows.{or-none}
 use Rattle.facts.specs.Facts.{factsOf}
 use Rattle.theory.specs.Answers.{bufferRefusal, planRefusal, factsRefusal, Passes, checkRefusal, fillRefusal, checkAnswer, fillAnswer, written}
-use Rattle.theory.proofs.Laws.{or-passed, check-rows, equal-passes, passes-equal}
+use Rattle.answers.proofs.Rows.{or-passed}
+use Rattle.theory.proofs.Laws.{check-rows, equal-passes, passes-equal}
 
 pub passes-exactly : (job starts facts : List ℕ) → Passes job starts facts ↔ ((planRefusal job starts .number ≡ 0) × (facts ≡ factsOf job starts))
 passes-exactly job starts facts = (

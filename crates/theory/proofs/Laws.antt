@@ -11,38 +11,18 @@ use lib.Dec.{eqb}
 use lib.ListN.{length, getD, take, drop, drop-of-length-le}
 use lib.Seq.{sets, sets-eq, take-at, take-length}
 use Rattle.words.proofs.Scan.{drop-next}
-use Rattle.answers.specs.declared.Refusal.{Refusal}
+use Rattle.answers.proofs.Rows.{or-assoc}
 use Rattle.answers.specs.Rows.{refusal, passed, firstRefusal}
-use Rattle.answers.specs.Packed.{answerOf}
 use Rattle.job.specs.Refusal.{jobRefusal}
 use Rattle.starts.specs.Rows.{startsRefusal}
 use Rattle.facts.specs.Facts.{factsOf}
 use Rattle.facts.specs.Written.{Filled}
 use Rattle.theory.specs.Answers.{planRefusal, factsRefusal, checkRefusal}
 
--- a row that gives a number is the answer, and one that gives none leaves it to the next
-pub or-refused : (a b : Refusal) → (a .number ≡ 0 → ⊥) → a ≡ firstRefusal a b
-or-refused a b h = rw (ne-eqb (a .number) 0 h)
-
-pub or-passed : (a b : Refusal) → a .number ≡ 0 → b ≡ firstRefusal a b
-or-passed a b h = rw (eq-eqb (a .number) 0 h)
-
--- rows put together in either way
-pub or-assoc : (a b c : Refusal) → firstRefusal a (firstRefusal b c) ≡ firstRefusal (firstRefusal a b) c
-or-assoc a b c = cases (eqb (a .number) 0) refl
-  where
-    cases : (t : Bool) → eqb (a .number) 0 ≡ t → cond t (firstRefusal b c) a ≡ firstRefusal (cond t b a) c
-    cases true e = refl
-    cases false e = rw e
-
 -- check's rows are those of the plan, and row 11 after them
 pub check-rows : (job starts facts : List ℕ) → checkRefusal job starts facts ≡ firstRefusal (planRefusal job starts) (factsRefusal facts (factsOf job starts) 0)
 unfolding checkRefusal planRefusal
 check-rows job starts facts = or-assoc (jobRefusal job) (startsRefusal job starts) (factsRefusal facts (factsOf job starts) 0)
-
--- a refusal has no length and no count
-pub answer-refused : (r : Refusal) (l c l' c' : ℕ) → (r .number ≡ 0 → ⊥) → answerOf r l c ≡ answerOf r l' c'
-answer-refused r l c l' c' h = rw (ne-eqb (r .number) 0 h)
 
 -- the comparison at position i: both have a word there, or a list ends
 module _ (given wanted : List ℕ) (i : ℕ) where

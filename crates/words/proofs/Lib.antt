@@ -1,3 +1,6 @@
--- Laws that belong to no one function: Scan (what a list of words has, from a position on), Choices (what tests put together say).
-pub mod Scan
+-- Laws that belong to no one function: Choices (what tests put together say), Scan (what a list of words has, from a position on), AnyBelow
+-- (whether some number below n passes a test), Lists (each word and each two, by their positions).
 pub mod Choices
+pub mod Scan
+pub mod AnyBelow
+pub mod Lists

@@ -10,7 +10,8 @@ use Rattle.facts.specs.Facts.{factsOf}
 use Rattle.facts.specs.Written.{Filled}
 use Rattle.facts.proofs.Lists.{facts-fit}
 use Rattle.theory.specs.Answers.{planRefusal, fillRefusal, fillAnswer}
-use Rattle.theory.proofs.Laws.{answer-refused, filled-front}
+use Rattle.answers.proofs.Rows.{answer-refused}
+use Rattle.theory.proofs.Laws.{filled-front}
 use Rattle.theory.proofs.Passing.{plan-formed}
 use borrow.Author.Needs.{needs}
 use native.Mathlib.Omega.{arith}

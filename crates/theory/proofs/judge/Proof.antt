@@ -5,7 +5,7 @@ use Rattle.job.specs.declared.Checked.{Checked}
 use Rattle.job.specs.Refusal.{jobRefusal}
 use Rattle.starts.specs.Rows.{startsRefusal}
 use Rattle.theory.specs.Answers.{planRefusal}
-use Rattle.theory.proofs.Laws.{or-refused}
+use Rattle.answers.proofs.Rows.{or-refused}
 use Rattle.theory.proofs.Passing.{checked-refusal}
 use borrow.Author.Needs.{needs}
 use Rattle.theory.proofs.judge.Statement.{statement}

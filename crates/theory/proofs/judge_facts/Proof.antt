@@ -10,7 +10,8 @@ use Rattle.facts.specs.Written.{Filled}
 use Rattle.facts.proofs.Lists.{facts-fit}
 use Rattle.theory.specs.Answers.{planRefusal, factsRefusal}
 use Rattle.theory.specs.Judged.{Passed}
-use Rattle.theory.proofs.Laws.{or-refused, or-passed, check-rows, filled-front}
+use Rattle.answers.proofs.Rows.{or-refused, or-passed}
+use Rattle.theory.proofs.Laws.{check-rows, filled-front}
 use Rattle.theory.proofs.Passing.{plan-formed}
 use borrow.Author.Needs.{needs}
 use native.Mathlib.Omega.{arith}

@@ -7,7 +7,7 @@ use Rattle.starts.specs.Rows.{startsRefusal}
 use Rattle.starts.proofs.Rows.{starts-found, starts-next}
 use Rattle.starts.proofs.StartsFormed.{times-passed, named}
 use Rattle.theory.specs.Answers.{planRefusal}
-use Rattle.theory.proofs.Laws.{or-passed}
+use Rattle.answers.proofs.Rows.{or-passed}
 use Rattle.theory.proofs.Passing.{actions-indexed}
 use borrow.Author.Needs.{needs}
 use Rattle.theory.proofs.judge_starts.Statement.{statement}

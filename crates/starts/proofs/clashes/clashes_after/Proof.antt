@@ -2,7 +2,7 @@
 use Prim.Native.Nat.{_-_, _<_}
 use Rattle.job.specs.Parts.{actions}
 use Rattle.starts.specs.Latest.{clashesAfter}
-use Rattle.starts.proofs.AnyBelow.{Sought, sought-start, sought-more, sought-found, sought-end}
+use Rattle.words.proofs.AnyBelow.{Sought, sought-start, sought-more, sought-found, sought-end}
 use Rattle.starts.proofs.ClashTable.{clash-read}
 use borrow.Author.Needs.{needs}
 use native.Mathlib.Omega.{arith}

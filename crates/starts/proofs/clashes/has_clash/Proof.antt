@@ -3,7 +3,7 @@ use mathlib.Core.Path.{_∙_}
 use Prim.Native.Nat.{_-_, _<_}
 use Rattle.job.specs.Parts.{fluents}
 use Rattle.starts.specs.Rows.{opposed, clash}
-use Rattle.starts.proofs.AnyBelow.{Sought, sought-start, sought-more, sought-found, sought-end}
+use Rattle.words.proofs.AnyBelow.{Sought, sought-start, sought-more, sought-found, sought-end}
 use Rattle.starts.proofs.ClashTable.{opposed-read}
 use borrow.Author.Needs.{needs}
 use native.Mathlib.Omega.{arith}

@@ -3,7 +3,7 @@ use mathlib.Core.List.{List, [], _∷_}
 use Prim.Native.Nat.{ℕ, zero, suc, _<_}
 use native.Mathlib.Omega.{arith}
 use lib.ListN.{length, getD}
-use Rattle.starts.specs.Lists.{Each, each-none, each-more, Pairs, pairs-none, pairs-more}
+use Rattle.words.specs.Lists.{Each, each-none, each-more, Pairs, pairs-none, pairs-more}
 
 module _ {P : ℕ → Type 0} where
   pub each-of : (S : List ℕ) → ((i : ℕ) → i < length S → P (getD S i 0)) → Each P S
