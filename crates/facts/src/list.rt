@@ -7,7 +7,7 @@ ghost use Rattle.history.specs.Tables.{History};
 ghost use Rattle.facts.specs.Facts.{factOf, factsUpto, factsOf};
 ghost use Rattle.facts.specs.Written.{rowFacts, Written, Filled, Fillable};
 use history::FLUENTS;
-use history::OPEN;
+use words::OPEN;
 use words::fact_word;
 use words::fluents_of;
 use words::last_of;

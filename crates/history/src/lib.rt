@@ -7,12 +7,5 @@ pub use tables::durations;
 pub use tables::effects;
 pub use tables::laws_of;
 
-// The values of a fluent or a formula, in their order.
-pub const FAILS: u8 = 0;
-
-pub const OPEN: u8 = 1;
-
-pub const HOLDS: u8 = 2;
-
 // The entries of a row, one for each fluent: of the history a row is a moment, of the effects an action.
 pub const FLUENTS: usize = 64;

@@ -13,8 +13,8 @@ ghost use Rattle.history.specs.Tables.{Walkable, StateAt, Steppable, His
 ghost use Rattle.history.specs.Stores.{Overlaid, Mapped};
 ghost use Rattle.history.specs.Passes.{changed, changedBy, Passed};
 use crate::FLUENTS;
-use crate::OPEN;
 use crate::tables::store_row;
+use words::OPEN;
 use words::fluent_of;
 use words::fluents_of;
 use words::kind_of;

@@ -10,7 +10,7 @@ ghost use Rattle.history.specs.Actions.{makesFluent, lawValue};
 ghost use Rattle.history.specs.Tables.{Durations, Effects};
 ghost use Rattle.history.specs.Stores.{Overlaid, RowStored};
 use crate::FLUENTS;
-use crate::OPEN;
+use words::OPEN;
 use words::actions_of;
 use words::duration_of;
 use words::fluent_of;

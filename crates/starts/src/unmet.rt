@@ -19,7 +19,7 @@ fn is_unmet(head: u32, history: &[u8; 4096], t: usize, w: u32) -> bool
 {
     let role = role_of(head, w);
     let value = history[t * 64 + fluent_of(head, w)];
-    ((role == 0) & !(value == 2)) | ((role == 1) & !(value == 0))
+    ((role == 0) & !(value == HOLDS)) | ((role == 1) & !(value == FAILS))
 }
 
 fn has_unmet(head: u32, history: &[u8; 4096], t: usize, laws: &[u32]) -> bool
