@@ -14,6 +14,7 @@ ghost use Rattle.history.specs.Stores.{Overlaid, Mapped};
 ghost use Rattle.history.specs.Passes.{changed, changedBy, Passed};
 use crate::FLUENTS;
 use crate::tables::store_row;
+use words::KNOWN;
 use words::OPEN;
 use words::fluent_of;
 use words::fluents_of;
@@ -28,7 +29,7 @@ fn store_known(head: u32, w: u32, state: &mut [u8; 64])
     requires { ⌜ length (now state) ≡ 64 ⌝ }
     ensures { λ _. ⌜ Overlaid 64 (lists head) (λ f. knownValue head) (now (state .entry)) (w ∷ []) (now (state .exit)) ⌝ }
 {
-    if kind_of(w) == 2 {
+    if kind_of(w) == KNOWN {
         state[fluent_of(head, w)] = known_value(head, w);
     }
 }

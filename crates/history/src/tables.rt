@@ -10,6 +10,7 @@ ghost use Rattle.history.specs.Actions.{makesFluent, lawValue};
 ghost use Rattle.history.specs.Tables.{Durations, Effects};
 ghost use Rattle.history.specs.Stores.{Overlaid, RowStored};
 use crate::FLUENTS;
+use words::LAW;
 use words::OPEN;
 use words::actions_of;
 use words::duration_of;
@@ -40,7 +41,7 @@ pub fn laws_of<'a>(job: &'a [u32], places: &[usize; 64], a: usize) -> &'a [u32]
     ensures { λ r. ⌜ now r ≡ lawsOf (now (job .entry)) a ⌝ }
 {
     let from = places[a] + 1;
-    let end = from + run_length(job, from, 4);
+    let end = from + run_length(job, from, LAW);
     &job[from..end]
 }
 

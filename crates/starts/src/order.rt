@@ -16,7 +16,7 @@ fn is_start(job: &[u32], s: u32) -> bool
     ensures { λ r. ⌜ r ≡ isStart (now (job .entry)) s ⌝ }
 {
     let head = job[0];
-    (kind_of(s) == 9)
+    (kind_of(s) == START)
         & start_spare(s)
         & (start_moment(s) <= last_of(head))
         & (start_action(s) < actions_of(head))

@@ -21,10 +21,13 @@ pub checked-refusal : (job : List ℕ) (r : Checked) → r ≡ checkedOf job →
 unfolding checkedOf
 checked-refusal job r is = rw is
 
--- a plan that rows 1 to 10 pass: its job is well formed
-pub plan-formed : (job starts : List ℕ) → planRefusal job starts .number ≡ 0 → WellFormed job
+-- a plan that rows 1 to 10 pass: its job passes rows 1 to 5, and so is well formed
+pub job-clear : (job starts : List ℕ) → planRefusal job starts .number ≡ 0 → jobRefusal job .number ≡ 0
 unfolding planRefusal
-plan-formed job starts clear = well-formed job (or-none (jobRefusal job) (startsRefusal job starts) clear .0)
+job-clear job starts clear = or-none (jobRefusal job) (startsRefusal job starts) clear .0
+
+pub plan-formed : (job starts : List ℕ) → planRefusal job starts .number ≡ 0 → WellFormed job
+plan-formed job starts clear = well-formed job (job-clear job starts clear)
 
 module _ (job : List ℕ) {index : Index} (clear : jobRefusal job .number ≡ 0) (is : index ≡ checkedOf job .index) where
   formed : WellFormed job

@@ -19,6 +19,11 @@ use job::check_job;
 use starts::check_needs;
 use starts::check_times;
 
+pub mod arrays;
+pub mod moments;
+
+pub use arrays::arrays_of;
+
 // The refusal of the rows that were run, and of a plan that passes them the index of the job's words, the durations of its actions and its
 // history.
 pub struct Plan {

@@ -1,0 +1,40 @@
+-- `theory::arrays::arrays_of` meets its contract: each array is what its function promises. Assumes nothing.
+use native.Mathlib.Omega.{arith}
+use Rattle.formulas.proofs.Laws.{grounds}
+use Rattle.theory.proofs.Passing.{job-clear, plan-formed, formulas-indexed, formulas-counted, nodes-indexed, nodes-counted}
+use Rattle.theory.proofs.Represented.{represents}
+use borrow.Author.Needs.{needs}
+use Rattle.theory.proofs.arrays.arrays_of.Statement.{statement}
+use Rattle.theory.proofs.arrays.arrays_of.Tie as tie
+
+-- the places of the code that the proof speaks of
+abbrev entry : tie.After-last-of → tie.Start
+entry c = c .before .before .before .before .before .before .before .before .before .before .before
+
+shared-slice-read-last-of : tie.Need-shared-slice-read-last-of
+shared-slice-read-last-of c = plan-formed _ _ (c .before .before .before .before .before .before .before .before .before .before .pre .clear) .some
+
+standard-values-requires : tie.Need-standard-values-requires
+standard-values-requires c κs =
+    let p = entry (c .before .before) .pre in
+    let clear = job-clear _ _ (p .clear) in
+    grounds (plan-formed _ _ (p .clear)) (formulas-indexed _ clear (p .index)) (formulas-counted _ clear (p .index)) (p .history)
+
+returns : tie.Need-returns
+returns c =
+    let l = c .before .before .before .before in
+    let s = entry l in
+    let p = s .pre in
+    let clear = job-clear _ _ (p .clear) in
+    represents _ (s .args .starts .now) _ (plan-formed _ _ (p .clear)) (record {
+      count = nodes-counted _ clear (p .index);
+      last = l .last-of .ensures .0;
+      places = nodes-indexed _ clear (p .index);
+      moments = c .start-moments .ensures;
+      durations = p .durations;
+      values = c .before .standard-values .ensures _ (p .history) .entry;
+    })
+
+pub arrays-of-spec : {M : Type 1} → statement M
+arrays-of-spec =
+    tie.close (tie.spec shared-slice-read-last-of (λ c κs. search needs) standard-values-requires (λ c κs. search needs) returns)

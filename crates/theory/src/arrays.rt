@@ -1,0 +1,35 @@
+// What a plan that passed hands to the reading layer: its procedure and its trajectory as arrays.
+ghost use Rattle.job.specs.Procedure.{procedureOf};
+ghost use Rattle.formulas.specs.Values.{andTable, orTable};
+ghost use Rattle.model.specs.Represents.{Represents};
+ghost use Rattle.theory.specs.Trajectory.{trajectoryOf};
+ghost use Rattle.theory.specs.Judged.{Passed};
+use crate::Plan;
+use crate::moments::start_moments;
+use formulas::standard_values;
+use model::Arrays;
+use words::last_of;
+
+pub fn arrays_of(job: &[u32], starts: &[u32], plan: Plan) -> Arrays
+    requires { ⌜ Passed (now job) (now starts) plan ⌝ }
+    ensures { λ r. ⌜ Represents (now (job .entry)) r (procedureOf (now (job .entry))) (trajectoryOf andTable orTable (now (job .entry)) (now (starts .entry))) ⌝ }
+{
+    let index = plan.index;
+    let formulas = index.formulas;
+    let nodes = index.nodes;
+    let sources = formulas.position;
+    let places = nodes.position;
+    let durations = plan.durations;
+    let history = plan.history;
+    let last = last_of(job[0]);
+    let values = standard_values(job, &sources, formulas.total, &history);
+    let moments = start_moments(starts);
+    Arrays {
+        count: nodes.total,
+        last,
+        places,
+        starts: moments,
+        durations,
+        values,
+    }
+}
