@@ -25,78 +25,62 @@ namesY f = within 2 7 f
 abbrev namesM : ℕ → Bool
 namesM f = eqb f 4
 
+two : (a b : Bool) → (a && (b && true)) ≡ ((a && b) && true)
+two true b = refl
+two false b = refl
+
+last : (a b : Bool) → (a && (b && true)) ≡ (a && b)
+last true true = refl
+last true false = refl
+last false b = refl
+
+-- a form's children are below n, and how often v is among them
+below : (w n f : ℕ) → every (λ q. ltb q n) (namedByForm (formNumber f) w)
+    ≡ (implies (namesX f) (ltb (nodeX w) n) && implies (namesY f) (ltb (nodeY w) n) && implies (namesM f) (ltb (nodeM w) n))
+unfolding every
+below w n zero = refl
+below w n (suc zero) = refl
+below w n (suc (suc zero)) = two (ltb (nodeX w) n) (ltb (nodeY w) n)
+below w n (suc (suc (suc zero))) = two (ltb (nodeX w) n) (ltb (nodeY w) n)
+below w n (suc (suc (suc (suc zero)))) = last (ltb (nodeY w) n) (ltb (nodeM w) n)
+below w n (suc (suc (suc (suc (suc zero))))) = refl
+below w n (suc (suc (suc (suc (suc (suc zero)))))) = two (ltb (nodeX w) n) (ltb (nodeY w) n)
+below w n (suc (suc (suc (suc (suc (suc (suc zero))))))) = two (ltb (nodeX w) n) (ltb (nodeY w) n)
+below w n (suc (suc (suc (suc (suc (suc (suc (suc zero)))))))) = refl
+below w n (suc (suc (suc (suc (suc (suc (suc (suc (suc k))))))))) = rw (le-leb 2 (suc (suc (suc (suc (suc (suc (suc (suc (suc k))))))))) (omega arith), le-leb 6 (suc (suc (suc (suc (suc (suc (suc (suc (suc k))))))))) (omega arith), lt-leb (suc (suc (suc (suc (suc (suc (suc (suc (suc k))))))))) 3 (omega arith), lt-leb (suc (suc (suc (suc (suc (suc (suc (suc (suc k))))))))) 7 (omega arith), ne-eqb (suc (suc (suc (suc (suc (suc (suc (suc (suc k))))))))) 4 (λ z. omega arith))
+
+counted : (w v f : ℕ) → count v (namedByForm (formNumber f) w)
+    ≡ indicator (namesX f && eqb v (nodeX w)) + indicator (namesY f && eqb v (nodeY w)) + indicator (namesM f && eqb v (nodeM w))
+unfolding count
+counted w v zero = refl
+counted w v (suc zero) = refl
+counted w v (suc (suc zero)) = omega arith
+counted w v (suc (suc (suc zero))) = omega arith
+counted w v (suc (suc (suc (suc zero)))) = omega arith
+counted w v (suc (suc (suc (suc (suc zero))))) = omega arith
+counted w v (suc (suc (suc (suc (suc (suc zero)))))) = omega arith
+counted w v (suc (suc (suc (suc (suc (suc (suc zero))))))) = omega arith
+counted w v (suc (suc (suc (suc (suc (suc (suc (suc zero)))))))) = refl
+counted w v (suc (suc (suc (suc (suc (suc (suc (suc (suc k))))))))) = rw (le-leb 2 (suc (suc (suc (suc (suc (suc (suc (suc (suc k))))))))) (omega arith), le-leb 6 (suc (suc (suc (suc (suc (suc (suc (suc (suc k))))))))) (omega arith), lt-leb (suc (suc (suc (suc (suc (suc (suc (suc (suc k))))))))) 3 (omega arith), lt-leb (suc (suc (suc (suc (suc (suc (suc (suc (suc k))))))))) 7 (omega arith), ne-eqb (suc (suc (suc (suc (suc (suc (suc (suc (suc k))))))))) 4 (λ z. omega arith))
+
 module _ (w : ℕ) where
-  module _ (n : ℕ) where
-    abbrev x : Bool
-    x = ltb (nodeX w) n
+  pub children-below : (n : ℕ) → every (λ q. ltb q n) (nodeChildren w)
+      ≡ (implies (namesX (form w)) (ltb (nodeX w) n) && implies (namesY (form w)) (ltb (nodeY w) n) && implies (namesM (form w)) (ltb (nodeM w) n))
+  children-below n = below w n (form w)
 
-    abbrev y : Bool
-    y = ltb (nodeY w) n
-
-    abbrev m : Bool
-    m = ltb (nodeM w) n
-
-    two : (a b : Bool) → (a && (b && true)) ≡ ((a && b) && true)
-    two true b = refl
-    two false b = refl
-
-    last : (a b : Bool) → (a && (b && true)) ≡ (a && b)
-    last true true = refl
-    last true false = refl
-    last false b = refl
-
-    below : (f : ℕ) → every (λ q. ltb q n) (namedByForm (formNumber f) w) ≡ (implies (namesX f) x && implies (namesY f) y && implies (namesM f) m)
-    unfolding every
-    below zero = refl
-    below (suc zero) = refl
-    below (suc (suc zero)) = two x y
-    below (suc (suc (suc zero))) = two x y
-    below (suc (suc (suc (suc zero)))) = last y m
-    below (suc (suc (suc (suc (suc zero))))) = refl
-    below (suc (suc (suc (suc (suc (suc zero)))))) = two x y
-    below (suc (suc (suc (suc (suc (suc (suc zero))))))) = two x y
-    below (suc (suc (suc (suc (suc (suc (suc (suc zero)))))))) = refl
-    below (suc (suc (suc (suc (suc (suc (suc (suc (suc k))))))))) = rw (le-leb 2 (suc (suc (suc (suc (suc (suc (suc (suc (suc k))))))))) (omega arith), le-leb 6 (suc (suc (suc (suc (suc (suc (suc (suc (suc k))))))))) (omega arith), lt-leb (suc (suc (suc (suc (suc (suc (suc (suc (suc k))))))))) 3 (omega arith), lt-leb (suc (suc (suc (suc (suc (suc (suc (suc (suc k))))))))) 7 (omega arith), ne-eqb (suc (suc (suc (suc (suc (suc (suc (suc (suc k))))))))) 4 (λ z. omega arith))
-
-    pub children-below : every (λ q. ltb q n) (nodeChildren w) ≡ (implies (namesX (form w)) x && implies (namesY (form w)) y && implies (namesM (form w)) m)
-    children-below = below (form w)
-
-  module _ (v : ℕ) where
-    abbrev byX : ℕ → ℕ
-    byX f = indicator (namesX f && eqb v (nodeX w))
-
-    abbrev byY : ℕ → ℕ
-    byY f = indicator (namesY f && eqb v (nodeY w))
-
-    abbrev byM : ℕ → ℕ
-    byM f = indicator (namesM f && eqb v (nodeM w))
-
-    counted : (f : ℕ) → count v (namedByForm (formNumber f) w) ≡ byX f + byY f + byM f
-    unfolding count
-    counted zero = refl
-    counted (suc zero) = refl
-    counted (suc (suc zero)) = omega arith
-    counted (suc (suc (suc zero))) = omega arith
-    counted (suc (suc (suc (suc zero)))) = omega arith
-    counted (suc (suc (suc (suc (suc zero))))) = omega arith
-    counted (suc (suc (suc (suc (suc (suc zero)))))) = omega arith
-    counted (suc (suc (suc (suc (suc (suc (suc zero))))))) = omega arith
-    counted (suc (suc (suc (suc (suc (suc (suc (suc zero)))))))) = refl
-    counted (suc (suc (suc (suc (suc (suc (suc (suc (suc k))))))))) = rw (le-leb 2 (suc (suc (suc (suc (suc (suc (suc (suc (suc k))))))))) (omega arith), le-leb 6 (suc (suc (suc (suc (suc (suc (suc (suc (suc k))))))))) (omega arith), lt-leb (suc (suc (suc (suc (suc (suc (suc (suc (suc k))))))))) 3 (omega arith), lt-leb (suc (suc (suc (suc (suc (suc (suc (suc (suc k))))))))) 7 (omega arith), ne-eqb (suc (suc (suc (suc (suc (suc (suc (suc (suc k))))))))) 4 (λ z. omega arith))
-
-    pub count-children : count v (wordChildren w)
-        ≡ indicator (eqb (kind w) 6 && namesX (form w) && eqb v (nodeX w)) + indicator (eqb (kind w) 6 && namesY (form w) && eqb v (nodeY w))
-        + indicator (eqb (kind w) 6 && namesM (form w) && eqb v (nodeM w)) + indicator (eqb (kind w) 7 && eqb v (memberNode w))
-    unfolding count
-    count-children = cases (eqb (kind w) 6) (eqb (kind w) 7) refl refl
-      where
-        cases : (a b : Bool) → eqb (kind w) 6 ≡ a → eqb (kind w) 7 ≡ b → count v (cond a (nodeChildren w) (cond b (memberNode w ∷ []) []))
-            ≡ indicator (a && namesX (form w) && eqb v (nodeX w)) + indicator (a && namesY (form w) && eqb v (nodeY w))
-            + indicator (a && namesM (form w) && eqb v (nodeM w)) + indicator (b && eqb v (memberNode w))
-        cases true true e f = absurd (let k = eqb-true (kind w) 6 e in let l = eqb-true (kind w) 7 f in omega arith)
-        cases true false e f = omega (arith, counted (form w))
-        cases false true e f = omega arith
-        cases false false e f = refl
+  pub count-children : (v : ℕ) → count v (wordChildren w)
+      ≡ indicator (eqb (kind w) 6 && namesX (form w) && eqb v (nodeX w)) + indicator (eqb (kind w) 6 && namesY (form w) && eqb v (nodeY w))
+      + indicator (eqb (kind w) 6 && namesM (form w) && eqb v (nodeM w)) + indicator (eqb (kind w) 7 && eqb v (memberNode w))
+  unfolding count
+  count-children v = cases (eqb (kind w) 6) (eqb (kind w) 7) refl refl
+    where
+      cases : (a b : Bool) → eqb (kind w) 6 ≡ a → eqb (kind w) 7 ≡ b → count v (cond a (nodeChildren w) (cond b (memberNode w ∷ []) []))
+          ≡ indicator (a && namesX (form w) && eqb v (nodeX w)) + indicator (a && namesY (form w) && eqb v (nodeY w))
+          + indicator (a && namesM (form w) && eqb v (nodeM w)) + indicator (b && eqb v (memberNode w))
+      cases true true e f = absurd (let k = eqb-true (kind w) 6 e in let l = eqb-true (kind w) 7 f in omega arith)
+      cases true false e f = omega (arith, counted w v (form w))
+      cases false true e f = omega arith
+      cases false false e f = refl
 
 -- what the children of a well-formed node being lower says, form by form
 pub lower-by : {job : List ℕ} {p : ℕ} → NodeFormed job p → (n : ℕ) → form (nodeWord job p) ≡ n

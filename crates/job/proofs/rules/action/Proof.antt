@@ -3,10 +3,6 @@ use borrow.Author.Needs.{needs}
 use Rattle.job.proofs.rules.action.Statement.{statement}
 use Rattle.job.proofs.rules.action.Tie as tie
 
-returns : tie.Need-returns
-returns c =
-    rw (c .before .duration-of .ensures .0, c .before .before .action-number .ensures .0, c .before .before .before .action-spare .ensures) at (c .word-refusal-of .ensures)
-
 pub action-spec : {M : Type 1} → statement M
 action-spec =
     tie.close
@@ -15,4 +11,4 @@ action-spec =
     (λ c κs. search needs)
     (λ c κs. search needs)
     (λ c κs. search needs)
-    returns)
+    (λ c. rw (c .before .duration-of .ensures .0, c .before .before .action-number .ensures .0, c .before .before .before .action-spare .ensures) at (c .word-refusal-of .ensures)))

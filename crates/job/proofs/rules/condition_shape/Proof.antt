@@ -3,10 +3,6 @@ use borrow.Author.Needs.{needs}
 use Rattle.job.proofs.rules.condition_shape.Statement.{statement}
 use Rattle.job.proofs.rules.condition_shape.Tie as tie
 
-returns : tie.Need-returns
-returns c =
-    rw (c .condition-j .ensures .0, c .before .condition-formula .ensures .0, c .before .before .form-of .ensures .0)
-
 pub condition-shape-spec : {M : Type 1} → statement M
 condition-shape-spec =
-    tie.close (tie.spec (λ c κs. search needs) (λ c κs. search needs) (λ c κs. search needs) returns)
+    tie.close (tie.spec (λ c κs. search needs) (λ c κs. search needs) (λ c κs. search needs) (λ c. rw (c .condition-j .ensures .0, c .before .condition-formula .ensures .0, c .before .before .form-of .ensures .0)))

@@ -3,11 +3,6 @@ use borrow.Author.Needs.{needs}
 use Rattle.job.proofs.rules.head.Statement.{statement}
 use Rattle.job.proofs.rules.head.Tie as tie
 
-returns : tie.Need-returns
-returns c =
-    let early = c .before .before .before in
-    rw (c .before .last-of .ensures .0, c .before .before .actions-of .ensures .0, early .fluents-of .ensures .0, early .before .head-spare .ensures) at (c .word-refusal-of .ensures)
-
 pub head-spec : {M : Type 1} → statement M
 head-spec =
     tie.close
@@ -17,4 +12,4 @@ head-spec =
     (λ c κs. search needs)
     (λ c κs. search needs)
     (λ c κs. search needs)
-    returns)
+    (λ c. let early = c .before .before .before in rw (c .before .last-of .ensures .0, c .before .before .actions-of .ensures .0, early .fluents-of .ensures .0, early .before .head-spare .ensures) at (c .word-refusal-of .ensures)))

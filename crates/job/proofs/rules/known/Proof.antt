@@ -3,10 +3,6 @@ use borrow.Author.Needs.{needs}
 use Rattle.job.proofs.rules.known.Statement.{statement}
 use Rattle.job.proofs.rules.known.Tie as tie
 
-returns : tie.Need-returns
-returns c =
-    rw (c .before .fluents-of .ensures .0, c .before .before .fluent-of .ensures .0, c .before .before .before .known-spare .ensures) at (c .word-refusal-of .ensures)
-
 pub known-spec : {M : Type 1} → statement M
 known-spec =
     tie.close
@@ -15,4 +11,4 @@ known-spec =
     (λ c κs. search needs)
     (λ c κs. search needs)
     (λ c κs. search needs)
-    returns)
+    (λ c. rw (c .before .fluents-of .ensures .0, c .before .before .fluent-of .ensures .0, c .before .before .before .known-spare .ensures) at (c .word-refusal-of .ensures)))

@@ -3,11 +3,7 @@ use borrow.Author.Needs.{needs}
 use Rattle.job.proofs.rules.law.Statement.{statement}
 use Rattle.job.proofs.rules.law.Tie as tie
 
-returns : tie.Need-returns
-returns c =
-    rw (c .before .fluents-of .ensures .0, c .before .before .fluent-of .ensures .0, c .before .before .before .law-spare .ensures) at (c .word-refusal-of .ensures)
-
 pub law-spec : {M : Type 1} → statement M
 law-spec =
     tie.close
-    (tie.spec (λ c κs. search needs) (λ c κs. search needs) (λ c κs. search needs) (λ c κs. search needs) returns)
+    (tie.spec (λ c κs. search needs) (λ c κs. search needs) (λ c κs. search needs) (λ c κs. search needs) (λ c. rw (c .before .fluents-of .ensures .0, c .before .before .fluent-of .ensures .0, c .before .before .before .law-spare .ensures) at (c .word-refusal-of .ensures)))

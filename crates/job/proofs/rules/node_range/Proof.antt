@@ -4,12 +4,6 @@ use borrow.Author.Needs.{needs}
 use Rattle.job.proofs.rules.node_range.Statement.{statement}
 use Rattle.job.proofs.rules.node_range.Tie as tie
 
-returns : tie.Need-returns
-returns c =
-    let early = c .before .before .before in
-    let s = early .before .before in
-    rw (c .node-n .ensures .0, c .before .node-m .ensures .0, c .before .before .node-y .ensures .0, early .node-x .ensures .0, early .before .form-of .ensures .0, children-below (s .args .w) (s .args .nodes))
-
 pub node-range-spec : {M : Type 1} → statement M
 node-range-spec =
     tie.close
@@ -19,4 +13,4 @@ node-range-spec =
     (λ c κs. search needs)
     (λ c κs. search needs)
     (λ c κs. search needs)
-    returns)
+    (λ c. let early = c .before .before .before in let s = early .before .before in rw (c .node-n .ensures .0, c .before .node-m .ensures .0, c .before .before .node-y .ensures .0, early .node-x .ensures .0, early .before .form-of .ensures .0, children-below (s .args .w) (s .args .nodes))))

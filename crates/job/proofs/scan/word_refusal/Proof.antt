@@ -10,10 +10,6 @@ use Rattle.job.proofs.Refusal.{ruled, may, may-not}
 use Rattle.job.proofs.scan.word_refusal.Statement.{statement}
 use Rattle.job.proofs.scan.word_refusal.Tie as tie
 
--- the places of the code that the proof speaks of
-abbrev entry-place : tie.Then1 → tie.Start
-entry-place c = c .before .before .before .before .before .before .before
-
 abbrev entry : tie.Else1 → tie.Start
 entry c = c .before .before .before .before .before .before .before
 
@@ -26,34 +22,10 @@ passed c k h =
 
 returns : tie.Need-returns
 returns c =
-    let s = entry-place c in
+    let s = c .before .before .before .before .before .before .before in
     sym
     (may-not (s .args .job .now) (s .args .i) _ (sym (c .before .before .before .kind-of .ensures .0))
     (rw (← (c .before .before .predecessor .ensures)) (sym (c .before .may-follow .ensures) ∙ not-true _ (c .if1 .taken))))
-
-returns-2 : tie.Need-returns-2
-returns-2 c = rw (passed (c .before .before) 1 (c .before .match .keys1)) (c .head .ensures)
-
-returns-3 : tie.Need-returns-3
-returns-3 c = rw (passed (c .before .before .before) 2 (c .before .before .match .keys2), ← (c .before .listed .ensures)) (c .known .ensures)
-
-returns-4 : tie.Need-returns-4
-returns-4 c = rw (passed (c .before .before) 3 (c .before .match .keys3), ← (entry (c .before .before) .pre .1 .actions)) (c .action .ensures)
-
-returns-5 : tie.Need-returns-5
-returns-5 c = rw (passed (c .before .before .before) 4 (c .before .before .match .keys4), ← (c .before .listed2 .ensures)) (c .law .ensures)
-
-returns-6 : tie.Need-returns-6
-returns-6 c = rw (passed (c .before .before) 5 (c .before .match .keys5), ← (entry (c .before .before) .pre .1 .formulas)) (c .formula .ensures)
-
-returns-7 : tie.Need-returns-7
-returns-7 c = rw (passed (c .before .before) 6 (c .before .match .keys6), ← (entry (c .before .before) .pre .1 .actions), ← (entry (c .before .before) .pre .1 .formulas), ← (entry (c .before .before) .pre .1 .nodes)) (c .node .ensures)
-
-returns-8 : tie.Need-returns-8
-returns-8 c = rw (passed (c .before .before) 7 (c .before .match .keys7), ← (entry (c .before .before) .pre .1 .nodes), ← (entry (c .before .before) .pre .1 .members)) (c .member .ensures)
-
-returns-9 : tie.Need-returns-9
-returns-9 c = rw (passed (c .before .before) 8 (c .before .match .keys8), ← (entry (c .before .before) .pre .1 .formulas), ← (entry (c .before .before) .pre .1 .members), ← (entry (c .before .before) .pre .1 .conditions)) (c .condition .ensures)
 
 returns-10 : tie.Need-returns-10
 returns-10 c =
@@ -83,12 +55,12 @@ word-refusal-spec =
     (λ c κs. search needs)
     (λ c κs. search needs)
     (λ c κs. search needs)
-    returns-2
-    returns-3
-    returns-4
-    returns-5
-    returns-6
-    returns-7
-    returns-8
-    returns-9
+    (λ c. rw (passed (c .before .before) 1 (c .before .match .keys1)) (c .head .ensures))
+    (λ c. rw (passed (c .before .before .before) 2 (c .before .before .match .keys2), ← (c .before .listed .ensures)) (c .known .ensures))
+    (λ c. rw (passed (c .before .before) 3 (c .before .match .keys3), ← (entry (c .before .before) .pre .1 .actions)) (c .action .ensures))
+    (λ c. rw (passed (c .before .before .before) 4 (c .before .before .match .keys4), ← (c .before .listed2 .ensures)) (c .law .ensures))
+    (λ c. rw (passed (c .before .before) 5 (c .before .match .keys5), ← (entry (c .before .before) .pre .1 .formulas)) (c .formula .ensures))
+    (λ c. rw (passed (c .before .before) 6 (c .before .match .keys6), ← (entry (c .before .before) .pre .1 .actions), ← (entry (c .before .before) .pre .1 .formulas), ← (entry (c .before .before) .pre .1 .nodes)) (c .node .ensures))
+    (λ c. rw (passed (c .before .before) 7 (c .before .match .keys7), ← (entry (c .before .before) .pre .1 .nodes), ← (entry (c .before .before) .pre .1 .members)) (c .member .ensures))
+    (λ c. rw (passed (c .before .before) 8 (c .before .match .keys8), ← (entry (c .before .before) .pre .1 .formulas), ← (entry (c .before .before) .pre .1 .members), ← (entry (c .before .before) .pre .1 .conditions)) (c .condition .ensures))
     returns-10)
