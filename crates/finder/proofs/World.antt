@@ -30,7 +30,7 @@ use Rattle.reading.proofs.Agreement.{Agrees, agrees-back, formed-there}
 use Rattle.model.specs.Forms.{children}
 use Rattle.lengths.specs.Children.{NamedOnce}
 use Rattle.lengths.proofs.Sums.{sum-cong}
-use Rattle.naming.proofs.Naming.{once-by-nodes}
+use Rattle.theory.proofs.Naming.{once-by-nodes}
 use Rattle.trajectory.specs.declared.World.{World}
 use Rattle.trajectory.specs.Carried.{Represents}
 
