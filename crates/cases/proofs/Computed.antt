@@ -15,7 +15,7 @@ use Rattle.starts.specs.Rows.{wrongWord, endsLate, inHandAlready, clash, togeth
 use Rattle.theory.specs.Answers.{planRefusal, factsRefusal, checkRefusal}
 use Rattle.theory.specs.Trajectory.{trajectoryOf}
 use Rattle.theory.specs.Procedure.{procedureOf}
-use Rattle.reading.specs.Decision.{some, each, placingb, tried, setb, ruleb, reads}
+use Rattle.cases.specs.Decision.{some, each, placingb, tried, setb, ruleb, reads}
 use Rattle.cases.specs.Cases.{table, decided, listed, distinct, sound, complete, exactly, fits, rooted, wordsAs, wordsFor, worded, answers, passes, all}
 
 pub computed : all table ≡ true

@@ -1,5 +1,6 @@
--- The forms of a node, its fields, and the nodes that it names as children.
-use Prim.Native.Nat.{ℕ, zero, suc}
+-- The forms of a node and of a condition, a node's fields, and the nodes that it names as children.
+use Prim.Native.Nat.{ℕ, zero, suc, _<_}
+use mathlib.Core.Bool.{Bool, true, false}
 use mathlib.Core.List.{List, [], _∷_}
 use Rattle.words.specs.Fields.{form, nodeX, nodeY, nodeM, nodeN}
 use Rattle.model.specs.Procedure.{Procedure}
@@ -65,3 +66,34 @@ childrenAs P Reserved p = []
 
 abbrev pub children : Procedure → ℕ → List ℕ
 children P p = childrenAs P (formAt P p) p
+
+-- every number of the list is below n
+abbrev pub Below : ℕ → List ℕ → Type 0
+Below n [] = Unit {0}
+Below n (x ∷ xs) = (x < n) × Below n xs
+
+-- the forms of a condition by their numbers, 0 to 4: member j begins in a window after member i's begin or end; a formula holds through a
+-- window before i's begin, after i's end, or between i's end and j's begin. Any other number is reserved, and no such condition is met.
+pub data ConditionForm : Type 0 where
+  BeginAfterBegin BeginAfterEnd HoldsBefore HoldsAfter HoldsBetween ReservedCondition : ConditionForm
+
+abbrev pub conditionNumber : ℕ → ConditionForm
+conditionNumber zero = BeginAfterBegin
+conditionNumber (suc zero) = BeginAfterEnd
+conditionNumber (suc (suc zero)) = HoldsBefore
+conditionNumber (suc (suc (suc zero))) = HoldsAfter
+conditionNumber (suc (suc (suc (suc zero)))) = HoldsBetween
+conditionNumber (suc (suc (suc (suc (suc k))))) = ReservedCondition
+
+-- the form of a condition word
+abbrev pub conditionForm : ℕ → ConditionForm
+conditionForm w = conditionNumber (form w)
+
+-- it asks for its formula's value
+abbrev pub asksFormula : ConditionForm → Bool
+asksFormula BeginAfterBegin = false
+asksFormula BeginAfterEnd = false
+asksFormula HoldsBefore = true
+asksFormula HoldsAfter = true
+asksFormula HoldsBetween = true
+asksFormula ReservedCondition = false

@@ -1,1 +1,43 @@
-// What the theory promises to the reading layer: two records, and no code.
+// What passes from the theory to the reading layer: a procedure and a trajectory as arrays, a triple of a node and two moments, and how
+// many words of a task set follow its node's own.
+ghost use Prim.Native.Nat.{_<_};
+ghost use lib.ListN.{length};
+ghost use Rattle.model.specs.Arrays.{SetWords};
+
+// Node p's word stands at places[p] of the job, and after it those of its members and conditions; starts[a] is the set of the moments at
+// which action a starts; values has the value of formula k at moment t at k * 64 + t.
+pub struct Arrays {
+    pub count: usize,
+    pub last: usize,
+    pub places: [usize; 64],
+    pub starts: [u64; 64],
+    pub durations: [usize; 64],
+    pub values: [u8; 4096],
+}
+
+// A node, read from the moment `begin` to the moment `end`.
+pub struct Triple {
+    pub node: usize,
+    pub begin: usize,
+    pub end: usize,
+}
+
+// How many members and conditions a task set has.
+pub struct SetCounts {
+    pub members: usize,
+    pub conditions: usize,
+}
+
+// Of the task set whose node's word stands at `place`.
+pub fn set_counts(words: &[u32], place: usize) -> SetCounts
+    requires { ⌜ place < length (now words) ⌝ }
+    ensures { λ r. ⌜ SetWords (now (words .entry)) place r ⌝ }
+{
+    let first = place + 1;
+    let members = words::run_length(words, first, 7);
+    let conditions = words::run_length(words, first + members, 8);
+    SetCounts {
+        members,
+        conditions,
+    }
+}

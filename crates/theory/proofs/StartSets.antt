@@ -3,11 +3,11 @@ use mathlib.Core.Bool.{Bool, true, false, _||_, _&&_}
 use mathlib.Core.List.{List}
 use mathlib.Core.Logic.{_⊎_, inl, inr}
 use mathlib.Core.Path.{_≡_, refl, sym, ap, _∙_}
-use Prim.Native.Nat.{ℕ, _+_, _<_, _≤_}
+use Prim.Native.Nat.{ℕ, zero, suc, _+_, _<_}
 use native.Mathlib.Omega.{arith}
 use borrow.Author.Tests.{eq-eqb, ne-eqb}
 use lib.Dec.{eqb}
-use lib.ListN.{length, getD, drop, set, replicate, length-set, getD-replicate}
+use lib.ListN.{length, getD, drop, set, replicate, length-set}
 use lib.Seq.{getD-set-same, getD-set-other}
 use Rattle.bitset.specs.Members.{has, Holds}
 use Rattle.bitset.proofs.Laws.{has-zero}
@@ -20,12 +20,17 @@ use Rattle.theory.specs.Trajectory.{isStartOf}
 -- the sets are those of the starts from position i on
 pub record Started (starts : List ℕ) (i : ℕ) (sets : List ℕ) : Type 0 where
   pub long : length sets ≡ 64
-  pub start : (a t : ℕ) → a < 64 → has (getD sets a 0) t ≡ any (isStartOf a t) (drop i starts)
+  pub start : (a t : ℕ) → has (getD sets a 0) t ≡ any (isStartOf a t) (drop i starts)
+
+empty-entry : (k a : ℕ) → getD (replicate k zero) a 0 ≡ 0
+empty-entry zero a = refl
+empty-entry (suc k) zero = refl
+empty-entry (suc k) (suc a) = empty-entry k a
 
 pub started-none : (starts : List ℕ) → Started starts (length starts) (replicate 64 0)
 started-none starts = record {
   long = refl;
-  start = λ a t h. rw (getD-replicate {A = ℕ} 64 a 0 0 h, has-zero t, any-end starts (length starts) (isStartOf a t) (omega arith));
+  start = λ a t. rw (empty-entry 64 a, has-zero t, any-end starts (length starts) (isStartOf a t) (omega arith));
 }
 
 -- one more start in front, of action x at moment u: the set of its action gains its moment
@@ -36,7 +41,7 @@ pub started-more : {starts : List ℕ} {i j : ℕ} {sets : List ℕ} {x u : ℕ}
 unfolding any
 started-more {starts} {i} {j} {sets} {x} {u} single sum m next l ex eu one joined small = record {
   long = rw length-set (m .long);
-  start = λ a t h. rw (drop-next starts i l, ← next, ← (m .start a t h), ← ex, ← eu) (cases a t (same-or-not x a));
+  start = λ a t. rw (drop-next starts i l, ← next, ← (m .start a t), ← ex, ← eu) (cases a t (same-or-not x a));
 }
   where
     cases : (a t : ℕ) → (x ≡ a) ⊎ (x ≡ a → ⊥) → has (getD (set sets x sum) a 0) t ≡ ((eqb x a && eqb u t) || has (getD sets a 0) t)

@@ -14,7 +14,6 @@ use job::check_job;
 use starts::check_starts;
 
 pub mod moments;
-pub mod runs;
 
 // The refusal of rows 1 to 10, and the tables of the actions of a plan that passes them.
 pub struct Plan {

@@ -1,6 +1,6 @@
 // The moments at which each action starts.
 ghost use mathlib.Core.Path.{_≡_};
-ghost use Prim.Native.Nat.{ℕ, _<_};
+ghost use Prim.Native.Nat.{ℕ};
 ghost use lib.ListN.{getD};
 ghost use Rattle.bitset.specs.Members.{has};
 ghost use Rattle.words.specs.Scan.{any};
@@ -9,7 +9,7 @@ use words::start_action;
 use words::start_moment;
 
 pub fn start_moments(starts: &[u32]) -> [u64; 64]
-    ensures { λ r. ⌜ ((a t : ℕ) → a < 64 → has (getD r a 0) t ≡ any (isStartOf a t) (now (starts .entry))) ⌝ }
+    ensures { λ r. ⌜ ((a t : ℕ) → has (getD r a 0) t ≡ any (isStartOf a t) (now (starts .entry))) ⌝ }
 {
     let mut moments = [0u64; 64];
     let mut i = starts.len();

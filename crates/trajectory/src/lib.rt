@@ -4,30 +4,18 @@ ghost use Rattle.job.specs.WellFormed.{WellFormed, Indexed};
 ghost use Rattle.job.specs.Parts.{nodeCount};
 ghost use Rattle.history.specs.Tables.{Durations, Effects, Named};
 ghost use Rattle.theory.specs.Answers.{planRefusal};
-ghost use Rattle.trajectory.specs.Carried.{Represents};
+ghost use Rattle.theory.specs.Procedure.{procedureOf};
+ghost use Rattle.theory.specs.Trajectory.{trajectoryOf};
+ghost use Rattle.model.specs.Represents.{Represents};
 use formulas::standard_values;
 use history::durations;
 use history::effects;
 use job::check_job;
+use model::Arrays;
 use theory::moments::start_moments;
-use theory::runs::condition_counts;
-use theory::runs::member_counts;
-
-// Node p's word stands at places[p] of the job, and after it those of its sizes[p] members and its limits[p] conditions; starts[a] is the
-// set of the moments at which action a starts; values has the value of formula k at moment t at k * 64 + t.
-pub struct World {
-    pub count: usize,
-    pub last: usize,
-    pub places: [usize; 64],
-    pub sizes: [usize; 64],
-    pub limits: [usize; 64],
-    pub starts: [u64; 64],
-    pub durations: [usize; 64],
-    pub values: [u8; 4096],
-}
 
 // By the places of a job's formulas and nodes, and the tables of its actions.
-fn world_by(
+fn arrays_by(
     job: &[u32],
     formulas: [usize; 64],
     nodes: [usize; 64],
@@ -35,22 +23,18 @@ fn world_by(
     starts: &[u32],
     durations: [usize; 64],
     effects: &[u8; 4096],
-) -> World
+) -> Arrays
     requires { ⌜ WellFormed (now job) × Indexed (now job) 5 formulas × Indexed (now job) 6 nodes × (count ≡ nodeCount (now job)) ⌝ }
     requires { ⌜ Durations (now job) durations × Effects (now job) (now effects) × Named (now job) (now starts) ⌝ }
-    ensures { λ r. ⌜ Represents (now (job .entry)) (now (starts .entry)) r ⌝ }
+    ensures { λ r. ⌜ Represents (now (job .entry)) r (procedureOf (now (job .entry))) (trajectoryOf (now (job .entry)) (now (starts .entry))) ⌝ }
 {
     let last = words::last_of(job[0]);
     let values = standard_values(job, &formulas, &durations, effects, starts);
     let moments = start_moments(starts);
-    let sizes = member_counts(job, &nodes, count);
-    let limits = condition_counts(job, &nodes, &sizes, count);
-    World {
+    Arrays {
         count,
         last,
         places: nodes,
-        sizes,
-        limits,
         starts: moments,
         durations,
         values,
@@ -58,9 +42,9 @@ fn world_by(
 }
 
 // Of a plan that no row on jobs and starts refuses.
-pub fn world_of(job: &[u32], starts: &[u32]) -> World
+pub fn arrays_of(job: &[u32], starts: &[u32]) -> Arrays
     requires { ⌜ planRefusal (now job) (now starts) .number ≡ 0 ⌝ }
-    ensures { λ r. ⌜ Represents (now (job .entry)) (now (starts .entry)) r ⌝ }
+    ensures { λ r. ⌜ Represents (now (job .entry)) r (procedureOf (now (job .entry))) (trajectoryOf (now (job .entry)) (now (starts .entry))) ⌝ }
 {
     let checked = check_job(job);
     let index = checked.index;
@@ -73,7 +57,7 @@ pub fn world_of(job: &[u32], starts: &[u32]) -> World
     let formula_places = formulas.position;
     let node_places = nodes.position;
     let count = nodes.total;
-    world_by(
+    arrays_by(
         job,
         formula_places,
         node_places,

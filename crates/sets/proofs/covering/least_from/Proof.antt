@@ -6,7 +6,7 @@ use native.Mathlib.Omega.{arith}
 use Rattle.bitset.specs.Members.{has, In}
 use Rattle.bitset.proofs.Laws.{not-both, has-zero}
 use Rattle.bitset.proofs.Ends.{lowest-le}
-use Rattle.sets.proofs.Laws.{in-both, in-from, in-below}
+use Rattle.bitset.proofs.In.{in-both, in-from, in-below}
 use borrow.Author.Needs.{needs}
 use Rattle.sets.proofs.covering.least_from.Statement.{statement}
 use Rattle.sets.proofs.covering.least_from.Tie as tie

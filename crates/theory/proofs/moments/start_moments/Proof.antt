@@ -32,7 +32,7 @@ loop-again c =
 returns : tie.Need-returns Inv-loop μ-loop
 returns c =
     let e : c .before .loop .i ≡ 0 = omega arith in
-    λ a t h. rw e at (c .before .loop .inv .1 .start a t h)
+    λ a t. rw e at (c .before .loop .inv .1 .start a t)
 
 pub start-moments-spec : {M : Type 1} → statement M
 start-moments-spec =

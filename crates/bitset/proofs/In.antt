@@ -1,0 +1,66 @@
+-- The members of the sets that the operations make, by the relation `In`. Assumes nothing.
+use Prim.Native.Nat.{ℕ, _+_, _^_, _≤_, _<_, max}
+use mathlib.Core.Path.{_≡_, sym, _∙_}
+use mathlib.Core.Bool.{true, _&&_, _||_}
+use mathlib.Core.Logic.{_↔_, _⊎_, inl, inr, ⊎-elim}
+use mathlib.Core.List.{List}
+use lib.Dec.{leb, ltb, eqb}
+use lib.ListN.{getD}
+use borrow.Author.Tests.{leb-true, ltb-true, eqb-true, le-leb, lt-ltb, eq-eqb}
+use Rattle.bitset.specs.Members.{has, Holds, In, Max, Joined}
+use Rattle.bitset.proofs.Laws.{not-both, or-cases, or-left, or-right, and-both, both, has-zero, has-below}
+
+pub in-union : {r x y : ℕ} → Holds r (λ k. has x k || has y k) → (e : ℕ) → In r e ↔ (In x e ⊎ In y e)
+in-union {x = x} {y = y} h e = (
+  λ t. ⊎-elim (λ u. inl (record { yes = u })) (λ u. inr (record { yes = u })) (or-cases (has x e) (has y e) (sym (h e) ∙ t .yes)),
+  ⊎-elim (λ t. record { yes = h e ∙ or-left (has y e) (t .yes) }) (λ t. record { yes = h e ∙ or-right (has x e) (t .yes) }),
+)
+
+pub in-both : {r x y : ℕ} → Holds r (λ k. has x k && has y k) → (e : ℕ) → In r e ↔ (In x e × In y e)
+in-both {x = x} {y = y} h e = (
+  λ t. let u = and-both (has x e) (has y e) (sym (h e) ∙ t .yes) in (record { yes = u .0 }, record { yes = u .1 }),
+  λ t. record { yes = h e ∙ both (t .0 .yes) (t .1 .yes) },
+)
+
+pub in-from : {r a : ℕ} → Holds r (λ k. leb a k && ltb k 64) → (e : ℕ) → In r e ↔ ((a ≤ e) × (e < 64))
+in-from {a = a} h e = (
+  λ t. let u = and-both (leb a e) (ltb e 64) (sym (h e) ∙ t .yes) in (leb-true a e (u .0), ltb-true e 64 (u .1)),
+  λ t. record { yes = h e ∙ both (le-leb a e (t .0)) (lt-ltb e 64 (t .1)) },
+)
+
+pub in-between : {r a b : ℕ} → Holds r (λ k. leb a k && leb k b) → (e : ℕ) → In r e ↔ ((a ≤ e) × (e ≤ b))
+in-between {a = a} {b = b} h e = (
+  λ t. let u = and-both (leb a e) (leb e b) (sym (h e) ∙ t .yes) in (leb-true a e (u .0), leb-true e b (u .1)),
+  λ t. record { yes = h e ∙ both (le-leb a e (t .0)) (le-leb e b (t .1)) },
+)
+
+pub in-single : {r a : ℕ} → Holds r (λ k. eqb k a) → (e : ℕ) → In r e ↔ (e ≡ a)
+in-single {a = a} h e = (λ t. eqb-true e a (sym (h e) ∙ t .yes), λ q. record { yes = h e ∙ eq-eqb e a q })
+
+pub in-below : {x e : ℕ} → x < 2 ^ 64 → In x e → e < 64
+in-below {x} {e} f t = has-below 64 x e f (t .yes)
+
+-- the empty mask is that of what nothing is
+pub in-none : {P : ℕ → Type 0} → ((e : ℕ) → P e → ⊥) → (e : ℕ) → In 0 e ↔ P e
+in-none f e = (λ t. not-both (t .yes) (has-zero e), λ p. absurd (f e p))
+
+-- where the mask x of P gains what is Q, P' being either
+pub in-more : {r x : ℕ} {P P′ Q : ℕ → Type 0} → ((e : ℕ) → In r e ↔ ((In x e) ⊎ Q e)) → ((e : ℕ) → P′ e ↔ (P e ⊎ Q e))
+    → ((e : ℕ) → In x e ↔ P e) → (e : ℕ) → In r e ↔ P′ e
+in-more new turn old e = (
+  λ t. turn e .1 (⊎-elim (λ p. inl (old e .0 p)) inr (new e .0 t)),
+  λ p. new e .1 (⊎-elim (λ q. inl (old e .1 q)) inr (turn e .0 p)),
+)
+
+pub in-joined : {r x base : ℕ} {rows : List ℕ} → ((k : ℕ) → (has r k ≡ true) ↔ Joined x rows base k)
+    → (k : ℕ) → In r k ↔ ((m : ℕ) × In x m × In (getD rows (base + m) 0) k)
+in-joined h k = (
+  λ t. let j = h k .0 (t .yes) in (j .m, record { yes = j .in-x }, record { yes = j .in-row }),
+  λ j. record { yes = h k .1 (record { m = j .0; in-x = j .1 .yes; in-row = j .2 .yes }) },
+)
+
+pub in-max : {r a b : ℕ} → ((k : ℕ) → (has r k ≡ true) ↔ Max a b k) → (k : ℕ) → In r k ↔ ((i : ℕ) × (j : ℕ) × (k ≡ max i j) × In a i × In b j)
+in-max h k = (
+  λ t. let m = h k .0 (t .yes) in (m .i, m .j, m .is-max, record { yes = m .in-a }, record { yes = m .in-b }),
+  λ m. record { yes = h k .1 (record { i = m .0; j = m .1; in-a = m .3 .yes; in-b = m .4 .yes; is-max = m .2 }) },
+)

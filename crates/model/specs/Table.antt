@@ -1,0 +1,12 @@
+-- The table of ends: the set at p * 64 + b has the ends that node p reads to from b.
+use Prim.Native.Nat.{ℕ, _+_, _*_}
+use mathlib.Core.List.{List}
+use lib.ListN.{getD}
+use Rattle.bitset.specs.Members.{In}
+
+abbrev pub rowAt : List ℕ → ℕ → ℕ → ℕ
+rowAt t p b = getD t (p * 64 + b) 0
+
+-- the table says that node p has the end e from b
+abbrev pub InTable : List ℕ → ℕ → ℕ → ℕ → Type 0
+InTable t p b e = In (rowAt t p b) e
