@@ -21,12 +21,13 @@ use Rattle.theory.specs.Answers.{planRefusal, factsRefusal, checkRefusal}
 use Rattle.theory.specs.Trajectory.{trajectoryOf}
 use Rattle.job.specs.Procedure.{procedureOf}
 use Rattle.reading.specs.Reading.{HasReading}
-use Rattle.reading.specs.Count.{Triple, Distinct, none, more, Read}
-use Rattle.reading.specs.Decision.{each}
-use Rattle.reading.proofs.Decides.{Tells, and-law, or-law, eq-law, le-law, each-law, decides}
+use Rattle.model.specs.declared.Triple.{Triple}
+use Rattle.reading.specs.Count.{Distinct, none, more, Read}
+use Rattle.cases.specs.Decision.{each}
+use Rattle.cases.proofs.Decides.{Tells, and-law, or-law, eq-law, le-law, each-law, decides}
 use Rattle.finder.specs.Find.{findRefusal, RootReading, Triples, Outcome, refused, sought}
 use Rattle.finder.specs.Find.{unread as without-reading, read as with-reading}
-use Rattle.finder.proofs.World.{formed-job}
+use Rattle.finder.proofs.Job.{formed-job}
 use Rattle.finder.proofs.Refusals.{same-row}
 use Rattle.cases.specs.Cases.{Expected, refuses, unread, read, readIn, Case, triple, table, decided, same, listed, distinct, sound, complete, exactly, fits, rooted, rootWords, worded, answers, passes, all, Owed}
 use Rattle.cases.proofs.Counts.{counted-once}

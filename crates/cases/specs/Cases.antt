@@ -14,8 +14,8 @@ use Rattle.theory.specs.Trajectory.{trajectoryOf}
 use Rattle.model.specs.Procedure.{Procedure}
 use Rattle.job.specs.Procedure.{procedureOf}
 use Rattle.model.specs.Forms.{Form, Act, Test, Sequence, Choice, If, While, StartWindow, EndWindow, Set, Reserved, formAt, fieldX, fieldY}
-use Rattle.reading.specs.Count.{Triple}
-use Rattle.reading.specs.Decision.{each, reads}
+use Rattle.model.specs.declared.Triple.{Triple}
+use Rattle.cases.specs.Decision.{each, reads}
 
 -- a row refuses, with number and position; or the plan passes, these triples have a reading, and the root has none, or one, or only
 -- readings of so many words

@@ -11,20 +11,21 @@ use native.Mathlib.Omega.{arith}
 use lib.Dec.{eqb}
 use lib.ListN.{length, getD, length-append}
 use borrow.Author.Tests.{eq-eqb, ne-eqb}
-use Rattle.sets.specs.Ends.{InTable}
+use Rattle.model.specs.Table.{InTable}
 use Rattle.words.specs.Scan.{concatBelow}
 use Rattle.words.specs.Fields.{readingWord}
 use Rattle.words.proofs.Choices.{true-false}
 use Rattle.model.specs.Trajectory.{Trajectory}
 use Rattle.model.specs.Procedure.{Procedure}
 use Rattle.model.specs.Forms.{Form, While, formNumber, formAt, fieldY}
+use Rattle.model.specs.declared.Triple.{Triple}
 use Rattle.reading.specs.Reading.{whole, passes, Reading, act, test, sequence, first, second, taken, otherwise, loop, done, pass, startWindow, endWindow, set}
 use Rattle.reading.proofs.Step.{onward}
 use Rattle.lengths.specs.Bound.{isWhile}
-use Rattle.parts.specs.declared.Parts.{Parts}
-use Rattle.parts.specs.Parts.{Prepared, Chosen, nodeOf, beginOf, endOf}
-use Rattle.parts.specs.Search.{CutAt}
-use Rattle.parts.proofs.Choice.{end-last, moment}
+use Rattle.extract.specs.declared.parts.Parts.{Parts}
+use Rattle.extract.specs.Parts.{Prepared, Choosable, Chosen, nodeOf, beginOf, endOf, partOf}
+use Rattle.extract.specs.Search.{CutAt, CutReady}
+use Rattle.extract.proofs.Choice.{end-last, moment}
 use Rattle.extract.specs.Contract.{Room, Full, Rest, Writable, Written}
 use Rattle.extract.proofs.Written.{written-none, written-then, written-map}
 
@@ -104,65 +105,68 @@ module _ {P : Procedure} {T : Trajectory} {r : Parts} where
       }
 
 -- what the writer of a loop has done when it stands at m: what it wrote goes before any further passes, and the table says that there are such
-pub record Halfway (P : Procedure) (T : Trajectory) (table : List ℕ) (p b e : ℕ) (before : List ℕ) (at m : ℕ) (buf : List ℕ) (end : ℕ) : Type 0 where
-  pub written : Written (λ ws. (vs : List ℕ) → Reading P T passes p m e vs → Reading P T passes p b e (ws ++ vs)) before at buf end
+pub record Halfway (P : Procedure) (T : Trajectory) (table : List ℕ) (t : Triple) (before : List ℕ) (at m : ℕ) (buf : List ℕ) (end : ℕ) : Type 0 where
+  pub written : Written (λ ws. (vs : List ℕ) → Reading P T passes (t .node) m (t .end) vs → Reading P T passes (t .node) (t .begin) (t .end) (ws ++ vs)) before at buf end
   pub begin : m ≤ T .last
-  pub ahead : InTable table p m e
+  pub ahead : InTable table (t .node) m (t .end)
 
--- a longer buffer, or another name of its length
-pub resize : {P : Procedure} {T : Trajectory} {job : ℕ} {places sizes limits table : List ℕ} {p b e at size size′ : ℕ} {R : Procedure → Trajectory → ℕ → ℕ → ℕ → List ℕ → Type 0}
-    → size′ ≡ size → Writable R P T job places sizes limits table p b e at size → Writable R P T job places sizes limits table p b e at size′
-resize h s = rw h s
-
-module _ {P : Procedure} {T : Trajectory} {job : ℕ} {places sizes limits table : List ℕ} (s : Prepared P T job places sizes limits table) where
+module _ {P : Procedure} {T : Trajectory} {job : ℕ} {places table : List ℕ} (s : Prepared P T job places table) where
   -- what the table says is read
   read : {p b e : ℕ} → p < P .count → b ≤ T .last → InTable table p b e → (ws : List ℕ) × Reading P T whole p b e ws
   read {p} {b} {e} l h t = s .found .right p b e l h .0 t .1
 
-  -- a lower node, of the right moments
-  child : {q c d at size : ℕ} → q < P .count → c ≤ T .last → InTable table q c d → Room (Reading P T whole q c d) at size
-      → Writable Full P T job places sizes limits table q c d at size
-  child l h t r = record { prepared = s; node = l; begin = h; found = t; room = r }
+-- a longer buffer, or another name of its length
+pub resize : {P : Procedure} {T : Trajectory} {job : ℕ} {places table : List ℕ} {t : Triple} {at size size′ : ℕ} {R : Procedure → Trajectory → Triple → List ℕ → Type 0}
+    → size′ ≡ size → Writable R P T job places table t at size → Writable R P T job places table t at size′
+resize h s = rw h s
 
 -- nodes and moments are below 64, and the node's word is there
-module _ {P : Procedure} {T : Trajectory} {job : ℕ} {places sizes limits table : List ℕ} {p b e at size : ℕ} {R : Procedure → Trajectory → ℕ → ℕ → ℕ → List ℕ → Type 0}
-    (s : Writable R P T job places sizes limits table p b e at size) where
-  pub moments : (p < 64) × (b < 64) × (e < 64)
+module _ {P : Procedure} {T : Trajectory} {job : ℕ} {places table : List ℕ} {t : Triple} {at size : ℕ} {R : Procedure → Trajectory → Triple → List ℕ → Type 0}
+    (s : Writable R P T job places table t at size) where
+  pub moments : (t .node < 64) × (t .begin < 64) × (t .end < 64)
   moments =
       let few = s .prepared .ready .few in
       let last = s .prepared .ready .moments in
-      let node = s .node in
-      let begin = s .begin in
+      let node = s .known in
+      let begin = s .within in
       let end = end-last (s .prepared) node begin (s .found) in
       (omega arith, omega arith, omega arith)
 
-  pub place-inside : getD places p 0 < job
-  place-inside = let h = s .prepared .ready .inside p (s .node) in omega arith
+  pub place-inside : getD places (t .node) 0 < job
+  place-inside = s .prepared .ready .inside (t .node) (s .known)
+
+  -- its parts can be chosen, where it is no loop
+  pub choosable : (formAt P (t .node) ≡ While → ⊥) → Choosable P T job places table t
+  choosable other = record { prepared = s .prepared; known = s .known; within = s .within; found = s .found; other = other }
 
 -- ---- the node's own word
 
-module _ {P : Procedure} {T : Trajectory} {job : ℕ} {places sizes limits table : List ℕ} {p b e at size : ℕ}
-    (s : Writable Full P T job places sizes limits table p b e at size) where
+module _ {P : Procedure} {T : Trajectory} {job : ℕ} {places table : List ℕ} {t : Triple} {at size : ℕ} (s : Writable Full P T job places table t at size) where
   pub has-room : at + 1 ≤ size
   has-room =
-      let r = read (s .prepared) (s .node) (s .begin) (s .found) in
+      let r = read (s .prepared) (s .known) (s .within) (s .found) in
       omega (arith, s .room (r .0) (r .1), nonempty (r .1))
 
-  pub headed : Writable Rest P T job places sizes limits table p b e (at + 1) size
-  headed = record { prepared = s .prepared; node = s .node; begin = s .begin; found = s .found; room = λ ws r. omega (arith, s .room (readingWord p b e ∷ ws) r) }
+  pub headed : Writable Rest P T job places table t (at + 1) size
+  headed = record {
+    prepared = s .prepared;
+    known = s .known;
+    within = s .within;
+    found = s .found;
+    room = λ ws r. omega (arith, s .room (readingWord (t .node) (t .begin) (t .end) ∷ ws) r);
+  }
 
-module _ {P : Procedure} {T : Trajectory} {job : ℕ} {places sizes limits table : List ℕ} {p b e at size : ℕ}
-    (s : Writable Rest P T job places sizes limits table p b e at size) where
+module _ {P : Procedure} {T : Trajectory} {job : ℕ} {places table : List ℕ} {t : Triple} {at size : ℕ} (s : Writable Rest P T job places table t at size) where
   -- ---- parts
 
-  module _ {r : Parts} (c : Chosen P T table p b e r) where
-    whole-parts : {ws : List ℕ} → Done P T r (r .count) ws → Rest P T p b e ws
+  module _ {r : Parts} (c : Chosen P T table (t .node) (t .begin) (t .end) r) where
+    whole-parts : {ws : List ℕ} → Done P T r (r .count) ws → Rest P T t ws
     whole-parts d = rw (d .words) (c .reads (d .lists) (d .reads))
 
     pub part-moments : (i : ℕ) → i < r .count → (beginOf r i < 64) × (endOf r i < 64)
     part-moments i l =
         let n = c .lower i l in
-        let m = s .node in
+        let m = s .known in
         let last = s .prepared .ready .moments in
         let begin = c .begin i l in
         let end = end-last (s .prepared) {p = nodeOf r i} (omega arith) begin (c .found i l) in
@@ -174,52 +178,54 @@ module _ {P : Procedure} {T : Trajectory} {job : ℕ} {places sizes limits table
     complete (suc k) i {ws} h d =
         let l : i < r .count = omega arith in
         let n = c .lower i l in
-        let m = s .node in
+        let m = s .known in
         let (us, x) = read (s .prepared) {p = nodeOf r i} (omega arith) (c .begin i l) (c .found i l) in
         let (vs, y) = complete k (i + 1) (omega arith) (done-more d x) in
         (us ++ vs, rw append-assoc at y)
 
     module _ {before buf : List ℕ} {i end : ℕ} (l : i < r .count) (w : Written (Done P T r i) before at buf end) where
-      pub part-child : Writable Full P T job places sizes limits table (nodeOf r i) (beginOf r i) (endOf r i) end size
-      part-child =
-          let n = c .lower i l in
-          let m = s .node in
-          child (s .prepared) (omega arith) (c .begin i l) (c .found i l)
-          (λ us x. let (k, q) = left in
-          let (vs, y) = complete k (i + 1) (omega arith) (done-more (w .allowed) x) in
-          omega (arith, s .room _ (whole-parts y), w .ended, length-append (w .words ++ us) vs, length-append (w .words) us))
+      pub part-child : Writable Full P T job places table (partOf r i) end size
+      part-child = record {
+        prepared = s .prepared;
+        known = let n = c .lower i l in let m = s .known in omega arith;
+        within = c .begin i l;
+        found = c .found i l;
+        room = λ us x.
+            let (k, q) = left in
+            let (vs, y) = complete k (i + 1) (omega arith) (done-more (w .allowed) x) in
+            omega (arith, s .room _ (whole-parts y), w .ended, length-append (w .words ++ us) vs, length-append (w .words) us);
+      }
         where
           left : (k : ℕ) × (i + 1 + k ≡ r .count)
           left = (r .count - (i + 1), omega arith)
 
-      pub part-more : {buf′ : List ℕ} {end′ : ℕ} → Written (Reading P T whole (nodeOf r i) (beginOf r i) (endOf r i)) buf end buf′ end′
-          → Written (Done P T r (i + 1)) before at buf′ end′
+      pub part-more : {buf′ : List ℕ} {end′ : ℕ} → Written (Full P T (partOf r i)) buf end buf′ end′ → Written (Done P T r (i + 1)) before at buf′ end′
       part-more x = written-then (λ ws us d y. done-more d y) w x
 
-    pub part-end : {before buf : List ℕ} {i end : ℕ} → i ≡ r .count → Written (Done P T r i) before at buf end → Written (Rest P T p b e) before at buf end
+    pub part-end : {before buf : List ℕ} {i end : ℕ} → i ≡ r .count → Written (Done P T r i) before at buf end → Written (Rest P T t) before at buf end
     part-end {i = i} h w = written-map (λ ws d. whole-parts (rw h at d)) w
 
   -- ---- passes
 
-  module _ (f : formAt P p ≡ While) where
-    pub body-lower : fieldY P p < p
-    body-lower = rw f at (s .prepared .ready .formed p (s .node))
+  module _ (f : formAt P (t .node) ≡ While) where
+    pub body-lower : fieldY P (t .node) < t .node
+    body-lower = (rw f at (s .prepared .ready .formed (t .node) (s .known) .lower)) .0
 
-    body-node : fieldY P p < P .count
-    body-node = let l = body-lower in let m = s .node in omega arith
+    body-node : fieldY P (t .node) < P .count
+    body-node = let l = body-lower in let m = s .known in omega arith
 
-    end : e ≤ T .last
-    end = end-last (s .prepared) (s .node) (s .begin) (s .found)
+    end : t .end ≤ T .last
+    end = end-last (s .prepared) (s .known) (s .within) (s .found)
 
     -- the passes from a moment on
-    from : {m : ℕ} → m ≤ T .last → InTable table p m e → (us : List ℕ) × Reading P T passes p m e us
-    from l t = loop-of f (read (s .prepared) (s .node) l t .1)
+    from : {m : ℕ} → m ≤ T .last → InTable table (t .node) m (t .end) → (us : List ℕ) × Reading P T passes (t .node) m (t .end) us
+    from l h = loop-of f (read (s .prepared) (s .known) l h .1)
 
-    pub pass-start : (l : List ℕ) → Halfway P T table p b e l at b l at
-    pass-start l = record { written = written-none l at (λ vs r. r); begin = s .begin; ahead = s .found }
+    pub pass-start : (l : List ℕ) → Halfway P T table t l at (t .begin) l at
+    pass-start l = record { written = written-none l at (λ vs r. r); begin = s .within; ahead = s .found }
 
-    module _ {before buf : List ℕ} {m here : ℕ} (h : Halfway P T table p b e before at m buf here) where
-      pub pass-some : {y : ℕ} → y ≡ fieldY P p → m < e → (k : ℕ) × (i : ℕ) × CutAt table y p m e 0 0 (m + 1) k i
+    module _ {before buf : List ℕ} {m here : ℕ} (h : Halfway P T table t before at m buf here) where
+      pub pass-some : {y : ℕ} → y ≡ fieldY P (t .node) → m < t .end → (k : ℕ) × (i : ℕ) × CutAt table y (t .node) m (t .end) 0 0 (m + 1) k i
       pass-some {y} q l =
           let (us, r) = from (h .begin) (h .ahead) in
           let (k, xs, vs, g, x, rest) = first-pass l r in
@@ -235,35 +241,52 @@ module _ {P : Procedure} {T : Trajectory} {job : ℕ} {places sizes limits table
               early = omega arith;
               late = omega arith;
               begin = omega arith;
-              ends = rw q (right (fieldY P p) m k body-node (h .begin) .1 (omega arith, (xs, x)));
-              begins = right p k e (s .node) (omega arith) .1 (n, (_, loop f rest));
+              ends = rw q (right (fieldY P (t .node)) m k body-node (h .begin) .1 (omega arith, (xs, x)));
+              begins = right (t .node) k (t .end) (s .known) (omega arith) .1 (n, (_, loop f rest));
             },
           )
 
-      module _ {y k i : ℕ} (q : y ≡ fieldY P p) (l : m < e) (c : CutAt table y p m e 0 0 (m + 1) k i) where
+      pub pass-ready : {y : ℕ} → y ≡ fieldY P (t .node) → m < t .end → CutReady table y (t .node) m (t .end) 0 0 (m + 1)
+      pass-ready q l =
+          let (node, begin, finish) = moments s in
+          let lower = body-lower in
+          record {
+            within = record { left = omega arith; right = node; begin = omega arith; finish = finish; size = s .prepared .found .size };
+            early = omega arith;
+            late = omega arith;
+            some = pass-some q l;
+          }
+
+      module _ {y k i : ℕ} (q : y ≡ fieldY P (t .node)) (l : m < t .end) (c : CutAt table y (t .node) m (t .end) 0 0 (m + 1) k i) where
         same : i ≡ k
         same = let a = c .early in let z = c .late in omega arith
 
         rest-begin : k ≤ T .last
-        rest-begin = moment (s .prepared) (s .node) (s .begin) (s .found) p k e (c .end) (rw same at (c .begins))
+        rest-begin = moment (s .prepared) (s .known) (s .within) (s .found) (t .node) k (t .end) (c .end) (rw same at (c .begins))
 
-        longer : (ws us : List ℕ) → ((vs : List ℕ) → Reading P T passes p m e vs → Reading P T passes p b e (ws ++ vs)) → Reading P T whole y m k us
-            → (vs : List ℕ) → Reading P T passes p k e vs → Reading P T passes p b e ((ws ++ us) ++ vs)
+        longer : (ws us : List ℕ) → ((vs : List ℕ) → Reading P T passes (t .node) m (t .end) vs → Reading P T passes (t .node) (t .begin) (t .end) (ws ++ vs))
+            → Reading P T whole y m k us → (vs : List ℕ) → Reading P T passes (t .node) k (t .end) vs → Reading P T passes (t .node) (t .begin) (t .end) ((ws ++ us) ++ vs)
         longer ws us w x vs r =
             let g = c .after in
             rw append-assoc (w (us ++ vs) (holds-at l (from (h .begin) (h .ahead) .1) k us vs (omega arith) (rw q at x) r))
 
-        pub pass-child : Writable Full P T job places sizes limits table y m k here size
-        pass-child =
-            child (s .prepared) (rw q body-node) (h .begin) (c .ends)
-            (λ us x. let w = h .written in
-            let (vs, r) = from rest-begin (rw same at (c .begins)) in
-            omega (arith, s .room _ (loop f (longer (w .words) us (w .allowed) x vs r)), w .ended, length-append (w .words ++ us) vs, length-append (w .words) us))
+        pub pass-child : Writable Full P T job places table (record { node = y; begin = m; end = k }) here size
+        pass-child = record {
+          prepared = s .prepared;
+          known = rw q body-node;
+          within = h .begin;
+          found = c .ends;
+          room = λ us x.
+              let w = h .written in
+              let (vs, r) = from rest-begin (rw same at (c .begins)) in
+              omega (arith, s .room _ (loop f (longer (w .words) us (w .allowed) x vs r)), w .ended, length-append (w .words ++ us) vs, length-append (w .words) us);
+        }
 
-        pub pass-more : {buf′ : List ℕ} {here′ : ℕ} → Written (Reading P T whole y m k) buf here buf′ here′ → Halfway P T table p b e before at k buf′ here′
+        pub pass-more : {buf′ : List ℕ} {here′ : ℕ} → Written (Full P T (record { node = y; begin = m; end = k })) buf here buf′ here′
+            → Halfway P T table t before at k buf′ here′
         pass-more w = record { written = written-then longer (h .written) w; begin = rest-begin; ahead = rw same at (c .begins) }
 
-      pub pass-end : e ≤ m → Written (Rest P T p b e) before at buf here
+      pub pass-end : t .end ≤ m → Written (Rest P T t) before at buf here
       pass-end l =
           let (us, r) = from (h .begin) (h .ahead) in
           let none = no-pass l r in

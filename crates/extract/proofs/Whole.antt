@@ -5,7 +5,7 @@ use mathlib.Core.List.{List}
 use native.Mathlib.Nat.{le-refl, le-trans}
 use native.Mathlib.Omega.{arith}
 use lib.ListN.{length}
-use Rattle.sets.specs.Ends.{InTable}
+use Rattle.model.specs.Table.{InTable}
 use Rattle.model.specs.Trajectory.{Trajectory}
 use Rattle.model.specs.Procedure.{Procedure}
 use Rattle.reading.specs.Reading.{whole, Reading}
@@ -13,18 +13,18 @@ use Rattle.lengths.specs.Children.{NamedOnce}
 use Rattle.lengths.specs.Bound.{lengthBound}
 use Rattle.lengths.proofs.Words.{lower}
 use Rattle.lengths.proofs.Length.{length-le, bound-4032}
-use Rattle.parts.specs.Parts.{Prepared}
+use Rattle.extract.specs.Parts.{Prepared}
 use Rattle.extract.specs.Contract.{Full, Writable, Written, Emittable, Emitted}
 use Rattle.extract.proofs.Written.{written-parts}
 
-module _ {P : Procedure} {T : Trajectory} {job : ℕ} {places sizes limits table : List ℕ} {size : ℕ} (s : Emittable P T job places sizes limits table size) where
+module _ {P : Procedure} {T : Trajectory} {job : ℕ} {places table : List ℕ} {size : ℕ} (s : Emittable P T job places table size) where
   root-le : {ws : List ℕ} → Reading P T whole (P .count - 1) 0 (T .last) ws → length ws ≤ lengthBound P (T .last)
-  root-le r = let some = s .some in length-le (lower P T (s .prepared .ready .formed)) (s .once) (T .last) (omega arith) r (le-refl (T .last))
+  root-le r = let some = s .some in length-le (lower (s .prepared .ready .formed)) (s .once) (T .last) (omega arith) r (le-refl (T .last))
 
-  pub emit-writable : Writable Full P T job places sizes limits table (P .count - 1) 0 (T .last) 0 size
+  pub emit-writable : Writable Full P T job places table (record { node = P .count - 1; begin = 0; end = T .last }) 0 size
   emit-writable =
       let some = s .some in
-      record { prepared = s .prepared; node = omega arith; begin = omega arith; found = s .found; room = λ ws r. omega (arith, root-le r, s .room) }
+      record { prepared = s .prepared; known = omega arith; within = omega arith; found = s .found; room = λ ws r. omega (arith, root-le r, s .room) }
 
   pub emit-emitted : {l l′ : List ℕ} {end : ℕ} → length l ≡ size → Written (Reading P T whole (P .count - 1) 0 (T .last)) l 0 l′ end → Emitted P T l l′ end
   emit-emitted {end = end} e w =
@@ -39,8 +39,8 @@ module _ {P : Procedure} {T : Trajectory} {job : ℕ} {places sizes limits table
       }
 
 -- 4,032 words are room enough
-pub emittable : {P : Procedure} {T : Trajectory} {job : ℕ} {places sizes limits table : List ℕ} {size : ℕ} → Prepared P T job places sizes limits table
-    → NamedOnce P → 0 < P .count → InTable table (P .count - 1) 0 (T .last) → 4032 ≤ size → Emittable P T job places sizes limits table size
+pub emittable : {P : Procedure} {T : Trajectory} {job : ℕ} {places table : List ℕ} {size : ℕ} → Prepared P T job places table
+    → NamedOnce P → 0 < P .count → InTable table (P .count - 1) 0 (T .last) → 4032 ≤ size → Emittable P T job places table size
 emittable {P} {T} s once some found room =
     record {
       prepared = s;

@@ -4,35 +4,36 @@ use mathlib.Core.Path.{_≡_}
 use mathlib.Core.List.{List, _∷_, _++_}
 use lib.ListN.{length, drop}
 use lib.Seq.{sets}
-use Rattle.sets.specs.Ends.{InTable}
 use Rattle.words.specs.Fields.{readingWord}
 use Rattle.model.specs.Trajectory.{Trajectory}
 use Rattle.model.specs.Procedure.{Procedure}
+use Rattle.model.specs.Table.{InTable}
+use Rattle.model.specs.declared.Triple.{Triple}
 use Rattle.reading.specs.Reading.{whole, Reading}
 use Rattle.lengths.specs.Children.{NamedOnce}
 use Rattle.lengths.specs.Bound.{lengthBound}
-use Rattle.parts.specs.Parts.{Prepared}
+use Rattle.extract.specs.Parts.{Prepared}
 
 -- there is room from `at` on for every list of words that R allows
 abbrev pub Room : (List ℕ → Type 0) → ℕ → ℕ → Type 0
 Room R at size = (ws : List ℕ) → R ws → at + length ws ≤ size
 
--- the words of a reading of p from b to e
-abbrev pub Full : Procedure → Trajectory → ℕ → ℕ → ℕ → List ℕ → Type 0
-Full P T p b e ws = Reading P T whole p b e ws
+-- the words of a reading of the triple
+abbrev pub Full : Procedure → Trajectory → Triple → List ℕ → Type 0
+Full P T t ws = Reading P T whole (t .node) (t .begin) (t .end) ws
 
--- the words after the node's own word, which with it are a reading of p from b to e
-abbrev pub Rest : Procedure → Trajectory → ℕ → ℕ → ℕ → List ℕ → Type 0
-Rest P T p b e ws = Reading P T whole p b e (readingWord p b e ∷ ws)
+-- the words after the node's own word, which with it are a reading of the triple
+abbrev pub Rest : Procedure → Trajectory → Triple → List ℕ → Type 0
+Rest P T t ws = Full P T t (readingWord (t .node) (t .begin) (t .end) ∷ ws)
 
--- what a writer of node p from b to e asks: the table says that p reads so, and from `at` on there is room for whatever R allows, Full or Rest
-pub record Writable (R : Procedure → Trajectory → ℕ → ℕ → ℕ → List ℕ → Type 0)
-    (P : Procedure) (T : Trajectory) (job : ℕ) (places sizes limits table : List ℕ) (p b e at size : ℕ) : Type 0 where
-  pub prepared : Prepared P T job places sizes limits table
-  pub node : p < P .count
-  pub begin : b ≤ T .last
-  pub found : InTable table p b e
-  pub room : Room (R P T p b e) at size
+-- what a writer of a triple asks: the table says that it can be read, and from `at` on there is room for whatever R allows, Full or Rest
+pub record Writable (R : Procedure → Trajectory → Triple → List ℕ → Type 0)
+    (P : Procedure) (T : Trajectory) (job : ℕ) (places table : List ℕ) (t : Triple) (at size : ℕ) : Type 0 where
+  pub prepared : Prepared P T job places table
+  pub known : t .node < P .count
+  pub within : t .begin ≤ T .last
+  pub found : InTable table (t .node) (t .begin) (t .end)
+  pub room : Room (R P T t) at size
 
 -- words that R allows stand in the buffer from `at` up to `end`, and all else is as it was
 -- (`sets` stores a list's elements one after the other; `lib.Seq.sets-eq` gives it as take at .. ++ words ++ drop end ..)
@@ -43,8 +44,8 @@ pub record Written (R : List ℕ → Type 0) (before : List ℕ) (at : ℕ) (aft
   pub buffer : after ≡ sets before at words
 
 -- what `emit` asks: the root, the last node, can be read from moment 0 to the last, and the buffer holds any reading of it
-pub record Emittable (P : Procedure) (T : Trajectory) (job : ℕ) (places sizes limits table : List ℕ) (size : ℕ) : Type 0 where
-  pub prepared : Prepared P T job places sizes limits table
+pub record Emittable (P : Procedure) (T : Trajectory) (job : ℕ) (places table : List ℕ) (size : ℕ) : Type 0 where
+  pub prepared : Prepared P T job places table
   pub once : NamedOnce P
   pub some : 0 < P .count
   pub found : InTable table (P .count - 1) 0 (T .last)

@@ -1,2 +1,3 @@
--- What find answers and leaves behind: Find.
+-- What find answers and leaves behind: Find. Seek is what its search asks.
 pub mod Find
+pub mod Seek

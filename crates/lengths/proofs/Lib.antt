@@ -5,3 +5,4 @@ pub mod Tree
 pub mod Words
 pub mod Loops
 pub mod Length
+pub mod Named

@@ -12,29 +12,12 @@ use lib.Dec.{eqb}
 use Rattle.words.specs.Tests.{indicator}
 use Rattle.words.specs.Scan.{count, concatBelow}
 use Rattle.bitset.specs.Members.{sumBelow}
+use Rattle.model.specs.Forms.{Below}
 
 -- the sum of f over a list
 unfoldable pub total : (ℕ → ℕ) → List ℕ → ℕ
 total f [] = 0
 total f (x ∷ xs) = f x + total f xs
-
--- every number of the list is below n
-abbrev pub Below : ℕ → List ℕ → Type 0
-Below n [] = Unit {0}
-Below n (x ∷ xs) = (x < n) × Below n xs
-
-pub below-at : {n : ℕ} (xs : List ℕ) → ((i : ℕ) → i < length xs → getD xs i 0 < n) → Below n xs
-below-at [] h = tt
-below-at (x ∷ xs) h = (h 0 (omega arith), below-at xs (λ i l. h (suc i) (omega arith)))
-
-pub at-below : {n : ℕ} (xs : List ℕ) → Below n xs → (i : ℕ) → i < length xs → getD xs i 0 < n
-at-below [] h i l = absurd (omega arith)
-at-below (x ∷ xs) h zero l = h .0
-at-below (x ∷ xs) h (suc i) l = at-below xs (h .1) i (omega arith)
-
-pub below-le : {n m : ℕ} (xs : List ℕ) → n ≤ m → Below n xs → Below m xs
-below-le [] l h = tt
-below-le (x ∷ xs) l h = let g = h .0 in (omega arith, below-le xs l (h .1))
 
 -- what stands in a list of numbers below n is below n
 pub below-times : {n : ℕ} (q : ℕ) (xs : List ℕ) → Below n xs → 0 < count q xs → q < n

@@ -9,29 +9,17 @@ use lib.ListN.{length, getD, length-append}
 use Rattle.words.specs.Scan.{concatBelow}
 use Rattle.model.specs.Trajectory.{Trajectory}
 use Rattle.model.specs.Procedure.{Procedure}
-use Rattle.model.specs.Forms.{Form, Act, Test, Sequence, Choice, If, While, StartWindow, EndWindow, Set, Reserved, formAt, fieldY}
-use Rattle.reading.specs.Forms.{FormedAs}
+use Rattle.model.specs.Forms.{Form, Act, Test, Sequence, Choice, If, While, StartWindow, EndWindow, Set, formAt, fieldY, childrenAs, children, Below}
+use Rattle.reading.specs.Forms.{NodeFormed}
 use Rattle.reading.specs.Reading.{Mode, whole, passes, Reading, act, test, sequence, first, second, taken, otherwise, loop, done, pass, startWindow, endWindow, set}
 use Rattle.reading.proofs.Step.{onward}
-use Rattle.model.specs.Forms.{childrenAs, children}
-use Rattle.lengths.proofs.Sums.{total, Below, below-at, at-below, below-le, total-mul, joined-le}
+use Rattle.model.proofs.Forms.{at-below, below-le}
+use Rattle.lengths.proofs.Sums.{total, total-mul, joined-le}
 use Rattle.lengths.proofs.Tree.{Lower, branch, branch-is}
 
 -- a procedure whose nodes are formed has children with lower numbers
-lower-as : (P : Procedure) (T : Trajectory) (k : Form) (p : ℕ) → FormedAs P T k p → Below p (childrenAs P k p)
-lower-as P T Act p h = tt
-lower-as P T Test p h = tt
-lower-as P T Sequence p h = (h .0, (h .1, tt))
-lower-as P T Choice p h = (h .0, (h .1, tt))
-lower-as P T If p h = (h .0, (h .1, tt))
-lower-as P T While p h = (h, tt)
-lower-as P T StartWindow p h = (h .0, (h .1, tt))
-lower-as P T EndWindow p h = (h .0, (h .1, tt))
-lower-as P T Set p h = below-at (P .members p) (h .1)
-lower-as P T Reserved p h = tt
-
-pub lower : (P : Procedure) (T : Trajectory) → ((p : ℕ) → p < P .count → FormedAs P T (formAt P p) p) → Lower P
-lower P T h = record { at = λ p l. lower-as P T (formAt P p) p (h p l) }
+pub lower : {P : Procedure} {T : Trajectory} → ((p : ℕ) → p < P .count → NodeFormed P T p) → Lower P
+lower h = record { at = λ p l. h p l .lower }
 
 -- the words of two parts, of the sizes u and v, and the node's own
 two : (s u v d d₁ d₂ i j : ℕ) → s ≡ 1 + (u + (v + 0)) → 1 ≤ d → d₁ ≤ d → d₂ ≤ d → i ≤ u * d₁ → j ≤ v * d₂ → suc (i + j) ≤ s * d

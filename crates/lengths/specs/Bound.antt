@@ -5,8 +5,7 @@ use lib.Dec.{ltb}
 use Rattle.words.specs.Scan.{anyBelow, count}
 use Rattle.bitset.specs.Members.{sumBelow}
 use Rattle.model.specs.Procedure.{Procedure}
-use Rattle.model.specs.Forms.{Form, Act, Test, Sequence, Choice, If, While, StartWindow, EndWindow, Set, Reserved, formAt}
-use Rattle.model.specs.Forms.{children}
+use Rattle.model.specs.Forms.{Form, Act, Test, Sequence, Choice, If, While, StartWindow, EndWindow, Set, Reserved, formAt, children}
 
 abbrev pub isWhile : Form → Bool
 isWhile Act = false

@@ -1,32 +1,22 @@
 -- Two procedures and trajectories that agree where a reading looks have the same readings, so the same table and the same count: the way
 -- from the arrays of the code to the job's own definitions. Assumes nothing.
 use Prim.Native.Nat.{ℕ, _≤_, _<_}
-use mathlib.Core.Path.{_≡_, refl, sym, ap, _∙_, subst}
+use mathlib.Core.Path.{_≡_, sym, _∙_, subst}
 use mathlib.Core.Logic.{_↔_, inr, Iff·trans}
 use mathlib.Core.List.{List}
 use native.Mathlib.Omega.{arith}
-use lib.ListN.{length, getD}
-use Rattle.words.specs.Fields.{form}
 use Rattle.model.specs.Trajectory.{Trajectory}
 use Rattle.model.specs.Procedure.{Procedure}
-use Rattle.sets.specs.Set.{TaskSet, memberCount, Formed}
-use Rattle.model.specs.Forms.{Form, Act, Test, Sequence, Choice, If, While, StartWindow, EndWindow, Set, Reserved, formNumber, formAt, fieldX}
-use Rattle.reading.specs.Forms.{taskSet, FormedAs}
+use Rattle.sets.specs.Set.{TaskSet, Formed}
+use Rattle.model.specs.Forms.{Form, Act, Test, Sequence, Choice, If, While, StartWindow, EndWindow, Set, Reserved, formAt}
+use Rattle.model.specs.Represents.{Asks, Agrees}
+use Rattle.model.specs.declared.Triple.{Triple}
+use Rattle.model.proofs.Forms.{same-form, same-children}
+use Rattle.reading.specs.Forms.{NodeFormed}
 use Rattle.reading.specs.Reading.{HasReading}
 use Rattle.reading.specs.Table.{Found, Tabulated}
-use Rattle.reading.specs.Count.{Triple, Read, Counted}
-use Rattle.reading.proofs.Transfer.{Asks, Extends, ends-transfer}
-
--- they agree on each node, and on the starts, durations and values that the nodes ask for, up to the last moment
-pub record Agrees (P : Procedure) (T : Trajectory) (P′ : Procedure) (T′ : Trajectory) : Type 0 where
-  pub count : P′ .count ≡ P .count
-  pub last : T′ .last ≡ T .last
-  pub node : (p : ℕ) → p < P .count → P′ .node p ≡ P .node p
-  pub members : (p : ℕ) → p < P .count → P′ .members p ≡ P .members p
-  pub conditions : (p : ℕ) → p < P .count → P′ .conditions p ≡ P .conditions p
-  pub starts : (p t : ℕ) → p < P .count → formAt P p ≡ Act → t ≤ T .last → T′ .starts (fieldX P p) t ≡ T .starts (fieldX P p) t
-  pub durations : (p : ℕ) → p < P .count → formAt P p ≡ Act → T′ .duration (fieldX P p) ≡ T .duration (fieldX P p)
-  pub values : (p k t : ℕ) → p < P .count → Asks P (formAt P p) p k → t ≤ T .last → T′ .value k t ≡ T .value k t
+use Rattle.reading.specs.Count.{Read, Counted}
+use Rattle.reading.proofs.Transfer.{Extends, ends-transfer}
 
 formed-same : {s s′ : TaskSet} → s′ .members ≡ s .members → s′ .conditions ≡ s .conditions → s′ .last ≡ s .last → Formed s → Formed s′
 formed-same ms cs q g = record {
@@ -44,15 +34,15 @@ module _ {P : Procedure} {T : Trajectory} {P′ : Procedure} {T′ : Trajectory}
     node = x .node;
     members = x .members;
     conditions = x .conditions;
-    starts = λ p t h f l s. x .starts p t h f l ∙ s;
+    starts = x .starts;
     durations = x .durations;
     values = λ p k t h a l. inr (x .values p k t h a l);
   }
 
   form-same : (p : ℕ) → p < P .count → formAt P′ p ≡ formAt P p
-  form-same p h = ap (λ (w : ℕ). formNumber (form w)) (x .node p h)
+  form-same p h = same-form P P′ p (x .node p h)
 
-  -- what a node of P′ asks for, and what it needs
+  -- what a node of P′ asks for
   asks-as : (p k : ℕ) → p < P .count → (f : Form) → Asks P′ f p k → Asks P f p k
   asks-as p k h Act a = a
   asks-as p k h Test a = rw (x .node p h) at a
@@ -65,18 +55,6 @@ module _ {P : Procedure} {T : Trajectory} {P′ : Procedure} {T′ : Trajectory}
   asks-as p k h Set a = rw (x .conditions p h) at a
   asks-as p k h Reserved a = a
 
-  formed-as : (p : ℕ) → p < P .count → (f : Form) → FormedAs P T f p → FormedAs P′ T′ f p
-  formed-as p h Act g = g
-  formed-as p h Test g = g
-  formed-as p h Sequence g = rw (x .node p h) g
-  formed-as p h Choice g = rw (x .node p h) g
-  formed-as p h If g = rw (x .node p h) g
-  formed-as p h While g = rw (x .node p h) g
-  formed-as p h StartWindow g = rw (x .node p h) g
-  formed-as p h EndWindow g = rw (x .node p h) g
-  formed-as p h Set g = (formed-same (x .members p h) (x .conditions p h) (x .last) (g .0), rw (x .members p h) (g .1))
-  formed-as p h Reserved g = g
-
   pub agrees-back : Agrees P′ T′ P T
   agrees-back = record {
     count = sym (x .count);
@@ -84,7 +62,7 @@ module _ {P : Procedure} {T : Trajectory} {P′ : Procedure} {T′ : Trajectory}
     node = λ p h. sym (x .node p (here h));
     members = λ p h. sym (x .members p (here h));
     conditions = λ p h. sym (x .conditions p (here h));
-    starts = λ p t h f l. rw (x .node p (here h)) (sym (x .starts p t (here h) (sym (form-same p (here h)) ∙ f) (let q = x .last in omega arith)));
+    starts = λ a t. sym (x .starts a t);
     durations = λ p h f. rw (x .node p (here h)) (sym (x .durations p (here h) (sym (form-same p (here h)) ∙ f)));
     values = λ p k t h a l.
         sym (x .values p k t (here h) (asks-as p k (here h) (formAt P p) (subst (λ (f : Form). Asks P′ f p k) (form-same p (here h)) a)) (let q = x .last in omega arith));
@@ -93,15 +71,17 @@ module _ {P : Procedure} {T : Trajectory} {P′ : Procedure} {T′ : Trajectory}
       here : {p : ℕ} → p < P′ .count → p < P .count
       here h = let q = x .count in omega arith
 
-  module _ (formed : (p : ℕ) → p < P .count → FormedAs P T (formAt P p) p) where
-    pub formed-there : (p : ℕ) → p < P′ .count → FormedAs P′ T′ (formAt P′ p) p
-    formed-there p h =
-        let q = x .count in
-        let l : p < P .count = omega arith in
-        subst (λ (f : Form). FormedAs P′ T′ f p) (sym (form-same p l)) (formed-as p l (formAt P p) (formed p l))
+  pub formed-there : ((p : ℕ) → p < P .count → NodeFormed P T p) → (p : ℕ) → p < P′ .count → NodeFormed P′ T′ p
+  formed-there formed p h =
+      let q = x .count in
+      let l : p < P .count = omega arith in
+      let g = formed p l in record {
+        lower = rw (same-children P P′ p (x .node p l) (λ f. x .members p l)) (g .lower);
+        set = λ f. formed-same (x .members p l) (x .conditions p l) (x .last) (g .set (sym (form-same p l) ∙ f));
+      }
 
 module _ {P : Procedure} {T : Trajectory} {P′ : Procedure} {T′ : Trajectory} (x : Agrees P T P′ T′)
-    (formed : (p : ℕ) → p < P .count → FormedAs P T (formAt P p) p) where
+    (formed : (p : ℕ) → p < P .count → NodeFormed P T p) where
   pub ends-same : {p b e : ℕ} → p < P .count → HasReading P T p b e ↔ HasReading P′ T′ p b e
   ends-same h = (
     ends-transfer (extends x) formed h,

@@ -8,8 +8,8 @@ use native.Mathlib.Omega.{arith}
 use Rattle.model.specs.Trajectory.{Trajectory}
 use Rattle.model.specs.Procedure.{Procedure}
 use Rattle.sets.specs.Set.{TaskSet, memberCount, member, SetRule}
-use Rattle.model.specs.Forms.{Form, Act, Test, Sequence, Choice, If, While, StartWindow, EndWindow, Set, Reserved, formAt}
-use Rattle.reading.specs.Forms.{FormedAs}
+use Rattle.model.specs.Forms.{Form, Act, Test, Sequence, Choice, If, While, StartWindow, EndWindow, Set, Reserved, formAt, childrenAs, Below}
+use Rattle.model.proofs.Forms.{at-below}
 use Rattle.reading.specs.Reading.{Mode, whole, passes, Reading, act, test, sequence, first, second, taken, otherwise, loop, done, pass, startWindow, endWindow, set, HasReading}
 use Rattle.reading.specs.Rule.{Rule}
 
@@ -115,26 +115,26 @@ abbrev pub Filled : ℕ → ℕ → ℕ → ℕ → Type 0
 Filled p k q c = (q < p) ⊎ ((q ≡ p) × (k ≤ c))
 
 -- The rule of row b of node p asks R of the rows before it only.
-pub carry : (P : Procedure) (T : Trajectory) {p b : ℕ} (e : ℕ) {R S : ℕ → ℕ → ℕ → Type 0} (k : Form) → FormedAs P T k p → b ≤ T .last
+pub carry : (P : Procedure) (T : Trajectory) {p b : ℕ} (e : ℕ) {R S : ℕ → ℕ → ℕ → Type 0} (k : Form) → Below p (childrenAs P k p) → b ≤ T .last
     → ((q c d : ℕ) → Filled p (b + 1) q c → c ≤ T .last → R q c d → S q c d) → Rule P T R k p b e → Rule P T S k p b e
 carry P T e Act g h f r = r
 carry P T e Test g h f r = r
-carry P T e Sequence g h f r = (r .0, r .1, r .2, f _ _ _ (inl (g .0)) h (r .3), f _ _ _ (inl (g .1)) (r .2) (r .4))
+carry P T e Sequence g h f r = (r .0, r .1, r .2, f _ _ _ (inl (g .0)) h (r .3), f _ _ _ (inl (g .1 .0)) (r .2) (r .4))
 carry P T e Choice g h f (inl r) = inl (f _ _ _ (inl (g .0)) h r)
-carry P T e Choice g h f (inr r) = inr (f _ _ _ (inl (g .1)) h r)
+carry P T e Choice g h f (inr r) = inr (f _ _ _ (inl (g .1 .0)) h r)
 carry P T e If g h f (inl r) = inl (r .0, f _ _ _ (inl (g .0)) h (r .1))
-carry P T e If g h f (inr r) = inr (r .0, f _ _ _ (inl (g .1)) h (r .1))
+carry P T e If g h f (inr r) = inr (r .0, f _ _ _ (inl (g .1 .0)) h (r .1))
 carry P T e While g h f (inl r) = inl r
 carry P T e While g h f (inr r) =
-    inr (r .0, (r .1 .0, r .1 .1, r .1 .2, f _ _ _ (inl g) h (r .1 .3), f _ _ _ (inr (refl, r .1 .1)) (r .1 .2) (r .1 .4)))
+    inr (r .0, (r .1 .0, r .1 .1, r .1 .2, f _ _ _ (inl (g .0)) h (r .1 .3), f _ _ _ (inr (refl, r .1 .1)) (r .1 .2) (r .1 .4)))
 carry P T e StartWindow g h f r =
-    (r .0, r .1, r .2, r .3, (r .4 .0, r .4 .1, r .4 .2, f _ _ _ (inl (g .0)) h (r .4 .3), f _ _ _ (inl (g .1)) (r .3) (r .4 .4)))
+    (r .0, r .1, r .2, r .3, (r .4 .0, r .4 .1, r .4 .2, f _ _ _ (inl (g .0)) h (r .4 .3), f _ _ _ (inl (g .1 .0)) (r .3) (r .4 .4)))
 carry P T e EndWindow g h f r =
-    (r .0, r .1, r .2, r .3, r .4, r .5, f _ _ _ (inl (g .0)) h (r .6), f _ _ _ (inl (g .1)) (r .5) (r .7))
-carry P T e Set g h f r = record {
+    (r .0, r .1, r .2, r .3, r .4, r .5, f _ _ _ (inl (g .0)) h (r .6), f _ _ _ (inl (g .1 .0)) (r .5) (r .7))
+carry P T {p = p} e Set g h f r = record {
   begins = r .begins;
   ends = r .ends;
-  reads = λ i l. let k = r .placing .inside i l in let m = r .placing .within in f _ _ _ (inl (g .1 i l)) (omega arith) (r .reads i l);
+  reads = λ i l. let k = r .placing .inside i l in let m = r .placing .within in f _ _ _ (inl (at-below (P .members p) g i l)) (omega arith) (r .reads i l);
   placing = r .placing;
 }
 carry P T e Reserved g h f r = r

@@ -7,18 +7,17 @@ use native.Mathlib.Decide.{decLt}
 use native.Mathlib.Omega.{arith}
 use lib.ListN.{length, getD, set, length-set, replicate, length-replicate}
 use lib.Seq.{getD-set-same, getD-set-other}
-use Rattle.sets.specs.Ends.{InTable}
+use Rattle.model.specs.Table.{InTable, rowAt}
 use Rattle.bitset.specs.Members.{In}
 use Rattle.bitset.proofs.Bools.{not-both}
 use Rattle.bitset.proofs.Digits.{has-zero}
 use Rattle.model.specs.Trajectory.{Trajectory}
 use Rattle.model.specs.Procedure.{Procedure}
-use Rattle.model.specs.Forms.{Set, formAt}
-use Rattle.reading.specs.Forms.{FormedAs}
+use Rattle.model.specs.Forms.{Set, formAt, children, Below}
+use Rattle.reading.specs.Forms.{NodeFormed, Readable}
 use Rattle.reading.specs.Reading.{HasReading}
 use Rattle.reading.specs.Rule.{Rule}
-use Rattle.reading.specs.World.{WorldReady}
-use Rattle.reading.specs.Table.{rowAt, Inside, RowReady, RowOf, NodeReady, NodeRows, Blank, Found}
+use Rattle.reading.specs.Table.{Inside, RowReady, RowOf, NodeReady, NodeRows, Blank, Found}
 use Rattle.reading.proofs.Step.{onward, step, Filled, carry}
 
 -- two tables with the same row
@@ -26,7 +25,7 @@ same-row : (t u : List ℕ) (q c d : ℕ) → rowAt t q c ≡ rowAt u q c → In
 same-row t u q c d s = subst (λ (x : ℕ). In x d) s
 
 -- the rule of row b of node p is the same by tables with the same rows before it
-rule-same : (P : Procedure) (T : Trajectory) {p b : ℕ} (t u : List ℕ) → FormedAs P T (formAt P p) p → b ≤ T .last
+rule-same : (P : Procedure) (T : Trajectory) {p b : ℕ} (t u : List ℕ) → Below p (children P p) → b ≤ T .last
     → ((q c : ℕ) → Filled p (b + 1) q c → c ≤ T .last → rowAt t q c ≡ rowAt u q c)
     → (e : ℕ) → Rule P T (InTable t) (formAt P p) p b e ↔ Rule P T (InTable u) (formAt P p) p b e
 rule-same P T {p} t u g l s e = (
@@ -52,7 +51,7 @@ module _ {P : Procedure} {T : Trajectory} {p : ℕ} {before : List ℕ} where
   module _ (g : NodeReady P T p before) {t : List ℕ} {b k : ℕ} (l : b ≤ T .last) (s : k ≡ b + 1) (h : RowsFrom P T p before t k) where
     pub row-ready : (formAt P p ≡ Set → ⊥) → RowReady P T t p b
     row-ready n = record {
-      formed = g .formed;
+      lower = g .formed .lower;
       single = n;
       begin = l;
       moments = g .moments;
@@ -81,7 +80,7 @@ module _ {P : Procedure} {T : Trajectory} {p : ℕ} {before : List ℕ} where
         later c q d k (inr f) = inr (f .0, omega (arith, f .1))
 
         rule : (c : ℕ) → b ≤ c → c ≤ T .last → (e : ℕ) → Rule P T (InTable t) (formAt P p) p c e ↔ Rule P T (InTable (set t (p * 64 + b) r)) (formAt P p) p c e
-        rule c k m = rule-same P T t (set t (p * 64 + b) r) (g .formed) m (λ q d f i. before-b q d (later c q d k f) i)
+        rule c k m = rule-same P T t (set t (p * 64 + b) r) (g .formed .lower) m (λ q d f i. before-b q d (later c q d k f) i)
 
         kept : (c : ℕ) → b < c → c ≤ T .last → RowOf P T (set t (p * 64 + b) r) p c (rowAt (set t (p * 64 + b) r) p c)
         kept c i m e = rw (getD-set-other t (p * 64 + b) (p * 64 + c) r 0 (omega arith)) (Iff·trans (h .rows c (omega arith) m e) (rule c (omega arith) m e))
@@ -113,10 +112,10 @@ module _ {P : Procedure} {T : Trajectory} where
   pub built-inside : {t : List ℕ} {p : ℕ} → Built P T t p → (q b : ℕ) → q < p → b ≤ T .last → Inside t q b (T .last)
   built-inside h q b k l e i = let r = h .right q b e k l .0 i in (onward (r .1 .1), r .0)
 
-  pub built-ready : {size : ℕ} {places sizes limits t : List ℕ} {p : ℕ} → WorldReady P T size places sizes limits → p < P .count → Built P T t p → NodeReady P T p t
+  pub built-ready : {size : ℕ} {places t : List ℕ} {p : ℕ} → Readable P T size places → p < P .count → Built P T t p → NodeReady P T p t
   built-ready g l h = record { formed = g .formed _ l; moments = g .moments; room = omega (arith, g .few, h .size); inside = built-inside h }
 
-  module _ {t u : List ℕ} {p : ℕ} (small : T .last < 64) (formed : FormedAs P T (formAt P p) p) (h : Built P T t p) (new : NodeRows P T p t u) where
+  module _ {t u : List ℕ} {p : ℕ} (small : T .last < 64) (lowers : Below p (children P p)) (h : Built P T t p) (new : NodeRows P T p t u) where
     lower : (q b e : ℕ) → q < p → b ≤ T .last → InTable u q b e ↔ HasReading P T q b e
     lower q b e k l = rw (new .others (q * 64 + b) (inl (omega arith))) (h .right q b e k l)
 
@@ -131,8 +130,8 @@ module _ {P : Procedure} {T : Trajectory} where
     right-rows zero b e l d = absurd (omega arith)
     right-rows (suc k) b e l d =
         let r = before {b = b} (λ c j i m. right-rows k c j m (omega arith)) in (
-          λ i. step l .1 (carry P T e (formAt P p) formed l (λ q c j f m. r q c j f m .0) (new .rows b l e .0 i)),
-          λ i. new .rows b l e .1 (carry P T e (formAt P p) formed l (λ q c j f m. r q c j f m .1) (step l .0 i)),
+          λ i. step l .1 (carry P T e (formAt P p) lowers l (λ q c j f m. r q c j f m .0) (new .rows b l e .0 i)),
+          λ i. new .rows b l e .1 (carry P T e (formAt P p) lowers l (λ q c j f m. r q c j f m .1) (step l .0 i)),
         )
 
     pub built-more : length u ≡ length t → Built P T u (p + 1)

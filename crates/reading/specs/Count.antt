@@ -6,12 +6,8 @@ use mathlib.Core.List.{List, [], _∷_, List·Memᴰ}
 use lib.ListN.{length}
 use Rattle.model.specs.Trajectory.{Trajectory}
 use Rattle.model.specs.Procedure.{Procedure}
+use Rattle.model.specs.declared.Triple.{Triple}
 use Rattle.reading.specs.Reading.{HasReading}
-
-pub record Triple : Type 0 where
-  pub node : ℕ
-  pub begin : ℕ
-  pub end : ℕ
 
 -- no element of the list stands in it twice
 pub data Distinct {A : Type 0} : List A → Type 0 where

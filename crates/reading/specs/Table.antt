@@ -1,37 +1,51 @@
--- The table of ends: the set at p * 64 + b has the ends that node p reads to from b.
+-- What filling the table of ends asks and leaves: the set at p * 64 + b has the ends that node p reads to from b.
 use Prim.Native.Nat.{ℕ, _+_, _*_, _^_, _<_, _≤_}
 use mathlib.Core.Path.{_≡_}
 use mathlib.Core.Logic.{_↔_, _⊎_}
 use mathlib.Core.List.{List}
 use lib.ListN.{length, getD}
-use Rattle.sets.specs.Ends.{InTable}
 use Rattle.bitset.specs.Members.{In}
 use Rattle.model.specs.Trajectory.{Trajectory}
 use Rattle.model.specs.Procedure.{Procedure}
-use Rattle.model.specs.Forms.{Set, formAt}
-use Rattle.reading.specs.Forms.{FormedAs}
+use Rattle.model.specs.Forms.{Set, formAt, children, Below}
+use Rattle.model.specs.Table.{rowAt, InTable}
+use Rattle.reading.specs.Forms.{NodeFormed}
 use Rattle.reading.specs.Reading.{HasReading}
 use Rattle.reading.specs.Rule.{Rule}
 use Rattle.reading.specs.Count.{Counted}
-
-abbrev pub rowAt : List ℕ → ℕ → ℕ → ℕ
-rowAt t p b = getD t (p * 64 + b) 0
 
 -- the ends of row b of node q lie from b to n
 abbrev pub Inside : List ℕ → ℕ → ℕ → ℕ → Type 0
 Inside t q b n = (e : ℕ) → InTable t q b e → (b ≤ e) × (e ≤ n)
 
--- m lies low to high after some member of the set ends, and not after n
-pub record After (ends low high n m : ℕ) : Type 0 where
+-- the table has the rows of nodes x and y
+pub record TwoRows (t : List ℕ) (x y b : ℕ) : Type 0 where
+  pub begin : b < 64
+  pub first : x * 64 + 64 ≤ length t
+  pub second : y * 64 + 64 ≤ length t
+
+-- and x's row b ends within the moments, up to n
+pub record RowsThrough (t : List ℕ) (x y b n : ℕ) : Type 0 where
+  pub rows : TwoRows t x y b
+  pub inside : Inside t x b n
+
+-- moments up to n, and a window from least to most
+pub record WindowReady (n least most : ℕ) : Type 0 where
+  pub moments : n < 64
+  pub from : least < 64
+  pub upto : most < 64
+
+-- m lies least to most after some member of the set ends, and not after n
+pub record After (ends least most n m : ℕ) : Type 0 where
   pub end : ℕ
   pub member : In ends end
-  pub early : end + low ≤ m
-  pub late : m ≤ end + high
+  pub early : end + least ≤ m
+  pub late : m ≤ end + most
   pub upto : m ≤ n
 
 -- what the row of node p at b needs, p being no task set, and what it is: its members are the ends that the rule of p's form allows, by the table
 pub record RowReady (P : Procedure) (T : Trajectory) (t : List ℕ) (p b : ℕ) : Type 0 where
-  pub formed : FormedAs P T (formAt P p) p
+  pub lower : Below p (children P p)
   pub single : formAt P p ≡ Set → ⊥
   pub begin : b ≤ T .last
   pub moments : T .last < 64
@@ -43,7 +57,7 @@ RowOf P T t p b r = (e : ℕ) → In r e ↔ Rule P T (InTable t) (formAt P p) p
 
 -- what filling the rows of node p needs: the rows of the lower nodes have ends within the moments alone
 pub record NodeReady (P : Procedure) (T : Trajectory) (p : ℕ) (t : List ℕ) : Type 0 where
-  pub formed : FormedAs P T (formAt P p) p
+  pub formed : NodeFormed P T p
   pub moments : T .last < 64
   pub room : p * 64 + 64 ≤ length t
   pub inside : (q b : ℕ) → q < p → b ≤ T .last → Inside t q b (T .last)

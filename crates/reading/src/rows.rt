@@ -7,45 +7,45 @@ ghost use Prim.Native.Nat.{ℕ, _+_, _*_, _<_, _≤_, max};
 ghost use lib.ListN.{length};
 ghost use Rattle.bitset.specs.Members.{has, In};
 ghost use Rattle.words.specs.Fields.{fails, holds};
-ghost use Rattle.reading.specs.World.{alone, trajectoryAt};
-ghost use Rattle.sets.specs.Ends.{InTable};
-ghost use Rattle.reading.specs.Table.{Inside, After, RowReady, RowOf};
+ghost use Rattle.model.specs.Arrays.{alone, trajectoryAt};
+ghost use Rattle.model.specs.Table.{InTable};
+ghost use Rattle.reading.specs.Table.{TwoRows, RowsThrough, WindowReady, After, RowReady, RowOf};
 
-// The moments from `first` to `end`, none after `n`.
-fn window(first: usize, end: usize, n: usize) -> u64
-    requires { ⌜ n < 64 ⌝ }
-    ensures { λ r. ⌜ ((m : ℕ) → In r m ↔ ((first ≤ m) × (m ≤ end) × (m ≤ n))) ⌝ }
+// The moments from `first` to `end`, none after `last`.
+fn window(first: usize, end: usize, last: usize) -> u64
+    requires { ⌜ last < 64 ⌝ }
+    ensures { λ r. ⌜ ((m : ℕ) → In r m ↔ ((first ≤ m) × (m ≤ end) × (m ≤ last))) ⌝ }
 {
-    if n < first {
+    if last < first {
         return 0;
     }
-    if n < end {
-        return bitset::between(first as u32, n as u32);
+    if last < end {
+        return bitset::between(first as u32, last as u32);
     }
     bitset::between(first as u32, end as u32)
 }
 
-// The moments that lie `low` to `high` after some member of `ends`, none after `n`.
-fn windows(ends: u64, low: usize, high: usize, n: usize) -> u64
-    requires { ⌜ (n < 64) × (low < 64) × (high < 64) ⌝ }
-    ensures { λ r. ⌜ ((m : ℕ) → In r m ↔ After ends low high n m) ⌝ }
+// The moments that lie `least` to `most` after some member of `ends`, none after `last`.
+fn windows(ends: u64, least: usize, most: usize, last: usize) -> u64
+    requires { ⌜ WindowReady last least most ⌝ }
+    ensures { λ r. ⌜ ((m : ℕ) → In r m ↔ After ends least most last m) ⌝ }
 {
     let mut found = 0;
     let mut left = ends;
     while left != 0 {
         let k = bitset::lowest(left) as usize;
-        found = bitset::union(found, window(k + low, k + high, n));
+        found = bitset::union(found, window(k + least, k + most, last));
         left = bitset::drop_lowest(left);
     }
     found
 }
 
 // 0, act: `starting` is the set of the action's starts.
-fn act_row(starting: u64, duration: usize, b: usize, n: usize) -> u64
-    requires { ⌜ (b ≤ n) × (n < 64) ⌝ }
-    ensures { λ r. ⌜ ((e : ℕ) → In r e ↔ ((has starting b ≡ true) × (e ≡ b + duration) × (e ≤ n))) ⌝ }
+fn act_row(starting: u64, duration: usize, last: usize, b: usize) -> u64
+    requires { ⌜ (b ≤ last) × (last < 64) ⌝ }
+    ensures { λ r. ⌜ ((e : ℕ) → In r e ↔ ((has starting b ≡ true) × (e ≡ b + duration) × (e ≤ last))) ⌝ }
 {
-    if n - b < duration {
+    if last - b < duration {
         return 0;
     }
     if bitset::has(starting, b as u32) {
@@ -66,24 +66,24 @@ fn test_row(value: u8, b: usize) -> u64
 }
 
 // 2, sequence.
-fn sequence_row(table: &[u64], x: usize, y: usize, b: usize, n: usize) -> u64
-    requires { ⌜ (b < 64) × (x * 64 + 64 ≤ length (now table)) × (y * 64 + 64 ≤ length (now table)) × Inside (now table) x b n ⌝ }
-    ensures { λ r. ⌜ ((e : ℕ) → In r e ↔ ((m : ℕ) × (b ≤ m) × (m ≤ n) × InTable (now (table .entry)) x b m × InTable (now (table .entry)) y m e)) ⌝ }
+fn sequence_row(last: usize, table: &[u64], x: usize, y: usize, b: usize) -> u64
+    requires { ⌜ RowsThrough (now table) x y b last ⌝ }
+    ensures { λ r. ⌜ ((e : ℕ) → In r e ↔ ((m : ℕ) × (b ≤ m) × (m ≤ last) × InTable (now (table .entry)) x b m × InTable (now (table .entry)) y m e)) ⌝ }
 {
     bitset::join_rows(table[x * 64 + b], table, y * 64)
 }
 
 // 3, choice.
 fn choice_row(table: &[u64], x: usize, y: usize, b: usize) -> u64
-    requires { ⌜ (b < 64) × (x * 64 + 64 ≤ length (now table)) × (y * 64 + 64 ≤ length (now table)) ⌝ }
+    requires { ⌜ TwoRows (now table) x y b ⌝ }
     ensures { λ r. ⌜ ((e : ℕ) → In r e ↔ (InTable (now (table .entry)) x b e ⊎ InTable (now (table .entry)) y b e)) ⌝ }
 {
     bitset::union(table[x * 64 + b], table[y * 64 + b])
 }
 
 // 4, if: an open formula takes neither.
-fn if_row(table: &[u64], value: u8, y: usize, m: usize, b: usize) -> u64
-    requires { ⌜ (b < 64) × (y * 64 + 64 ≤ length (now table)) × (m * 64 + 64 ≤ length (now table)) ⌝ }
+fn if_row(value: u8, table: &[u64], y: usize, m: usize, b: usize) -> u64
+    requires { ⌜ TwoRows (now table) y m b ⌝ }
     ensures { λ r. ⌜ ((e : ℕ) → In r e ↔ (((value ≡ holds) × InTable (now (table .entry)) y b e) ⊎ ((value ≡ fails) × InTable (now (table .entry)) m b e))) ⌝ }
 {
     if value == 2 {
@@ -96,15 +96,16 @@ fn if_row(table: &[u64], value: u8, y: usize, m: usize, b: usize) -> u64
 }
 
 // 5, while: a pass ends later than it began, and the rest is the loop's own row at that end.
-fn while_row(table: &[u64], guard: u8, p: usize, y: usize, b: usize, n: usize) -> u64
-    requires { ⌜ (b ≤ n) × (n < 64) × (p * 64 + 64 ≤ length (now table)) × (y * 64 + 64 ≤ length (now table)) ⌝ }
-    ensures { λ r. ⌜ ((e : ℕ) → In r e ↔ (((guard ≡ fails) × (e ≡ b)) ⊎ ((guard ≡ holds) × ((m : ℕ) × (b + 1 ≤ m) × (m ≤ n) × InTable (now (table .entry)) y b m × InTable (now (table .entry)) p m e)))) ⌝ }
+fn while_row(guard: u8, last: usize, table: &[u64], p: usize, y: usize, b: usize) -> u64
+    requires { ⌜ (b ≤ last) × (last < 64) ⌝ }
+    requires { ⌜ TwoRows (now table) p y b ⌝ }
+    ensures { λ r. ⌜ ((e : ℕ) → In r e ↔ (((guard ≡ fails) × (e ≡ b)) ⊎ ((guard ≡ holds) × ((m : ℕ) × (b + 1 ≤ m) × (m ≤ last) × InTable (now (table .entry)) y b m × InTable (now (table .entry)) p m e)))) ⌝ }
 {
     if guard == 0 {
         return bitset::single(b as u32);
     }
     if guard == 2 {
-        let passes = bitset::inter(table[y * 64 + b], window(b + 1, n, n));
+        let passes = bitset::inter(table[y * 64 + b], window(b + 1, last, last));
         return bitset::join_rows(passes, table, p * 64);
     }
     0
@@ -112,35 +113,37 @@ fn while_row(table: &[u64], guard: u8, p: usize, y: usize, b: usize, n: usize) -
 
 // 6, start window: each end is the greater of one of X's and one of Y's.
 fn start_window_row(
+    last: usize,
     table: &[u64],
     x: usize,
     y: usize,
-    low: usize,
-    high: usize,
+    least: usize,
+    most: usize,
     b: usize,
-    n: usize,
 ) -> u64
-    requires { ⌜ (b < 64) × (n < 64) × (low < 64) × (high < 64) × (x * 64 + 64 ≤ length (now table)) × (y * 64 + 64 ≤ length (now table)) ⌝ }
-    ensures { λ r. ⌜ ((e : ℕ) → In r e ↔ ((m : ℕ) × (b + low ≤ m) × (m ≤ b + high) × (m ≤ n) × ((k : ℕ) × (l : ℕ) × (e ≡ max k l) × InTable (now (table .entry)) x b k × InTable (now (table .entry)) y m l))) ⌝ }
+    requires { ⌜ TwoRows (now table) x y b ⌝ }
+    requires { ⌜ WindowReady last least most ⌝ }
+    ensures { λ r. ⌜ ((e : ℕ) → In r e ↔ ((m : ℕ) × (b + least ≤ m) × (m ≤ b + most) × (m ≤ last) × ((k : ℕ) × (l : ℕ) × (e ≡ max k l) × InTable (now (table .entry)) x b k × InTable (now (table .entry)) y m l))) ⌝ }
 {
-    let begins = window(b + low, b + high, n);
+    let begins = window(b + least, b + most, last);
     bitset::max_of(table[x * 64 + b], bitset::join_rows(begins, table, y * 64))
 }
 
 // 7, end window: Y begins in the window after one of X's ends.
 fn end_window_row(
+    last: usize,
     table: &[u64],
     x: usize,
     y: usize,
-    low: usize,
-    high: usize,
+    least: usize,
+    most: usize,
     b: usize,
-    n: usize,
 ) -> u64
-    requires { ⌜ (b < 64) × (n < 64) × (low < 64) × (high < 64) × (x * 64 + 64 ≤ length (now table)) × (y * 64 + 64 ≤ length (now table)) × Inside (now table) x b n ⌝ }
-    ensures { λ r. ⌜ ((e : ℕ) → In r e ↔ ((k : ℕ) × (m : ℕ) × (b ≤ k) × (k + low ≤ m) × (m ≤ k + high) × (m ≤ n) × InTable (now (table .entry)) x b k × InTable (now (table .entry)) y m e)) ⌝ }
+    requires { ⌜ RowsThrough (now table) x y b last ⌝ }
+    requires { ⌜ WindowReady last least most ⌝ }
+    ensures { λ r. ⌜ ((e : ℕ) → In r e ↔ ((k : ℕ) × (m : ℕ) × (b ≤ k) × (k + least ≤ m) × (m ≤ k + most) × (m ≤ last) × InTable (now (table .entry)) x b k × InTable (now (table .entry)) y m e)) ⌝ }
 {
-    let begins = windows(table[x * 64 + b], low, high, n);
+    let begins = windows(table[x * 64 + b], least, most, last);
     bitset::join_rows(begins, table, y * 64)
 }
 
@@ -150,47 +153,28 @@ pub fn row(
     starts: &[u64; 64],
     durations: &[usize; 64],
     values: &[u8; 4096],
+    last: usize,
     table: &[u64],
     p: usize,
     b: usize,
-    n: usize,
 ) -> u64
-    requires { ⌜ RowReady (alone word) (trajectoryAt n (now starts) (now durations) (now values)) (now table) p b ⌝ }
-    ensures { λ r. ⌜ RowOf (alone word) (trajectoryAt n (now (starts .entry)) (now (durations .entry)) (now (values .entry))) (now (table .entry)) p b r ⌝ }
+    requires { ⌜ RowReady (alone word) (trajectoryAt (now starts) (now durations) (now values) last) (now table) p b ⌝ }
+    ensures { λ r. ⌜ RowOf (alone word) (trajectoryAt (now (starts .entry)) (now (durations .entry)) (now (values .entry)) last) (now (table .entry)) p b r ⌝ }
 {
     let x = words::node_x(word);
+    let y = words::node_y(word);
+    let m = words::node_m(word);
+    let most = words::node_n(word);
     match words::form_of(word) {
-        0 => act_row(starts[x], durations[x], b, n),
+        0 => act_row(starts[x], durations[x], last, b),
         1 => test_row(values[x * 64 + b], b),
-        2 => sequence_row(table, x, words::node_y(word), b, n),
-        3 => choice_row(table, x, words::node_y(word), b),
-        4 => if_row(
-            table,
-            values[x * 64 + b],
-            words::node_y(word),
-            words::node_m(word),
-            b,
-        ),
-        5 => while_row(table, values[x * 64 + b], p, words::node_y(word), b, n),
-        6 => start_window_row(
-            table,
-            x,
-            words::node_y(word),
-            words::node_m(word),
-            words::node_n(word),
-            b,
-            n,
-        ),
-        7 => end_window_row(
-            table,
-            x,
-            words::node_y(word),
-            words::node_m(word),
-            words::node_n(word),
-            b,
-            n,
-        ),
-        // a task set's rows are filled together, by `sets::set_rows`
+        2 => sequence_row(last, table, x, y, b),
+        3 => choice_row(table, x, y, b),
+        4 => if_row(values[x * 64 + b], table, y, m, b),
+        5 => while_row(values[x * 64 + b], last, table, p, y, b),
+        6 => start_window_row(last, table, x, y, m, most, b),
+        7 => end_window_row(last, table, x, y, m, most, b),
+        // a task set's rows are filled together, by `fill_set`
         8 => 0,
         // reserved: refused in a job, and nothing reads such a node
         9..=15 => 0,

@@ -1,9 +1,11 @@
 // The table of ends, filled node by node, children before parents.
 ghost use mathlib.Core.Path.{_≡_};
-ghost use Prim.Native.Nat.{_+_, _<_, _≤_};
+ghost use Prim.Native.Nat.{_<_};
 ghost use lib.ListN.{length, getD};
 ghost use Rattle.model.specs.Forms.{Set, formAt};
-ghost use Rattle.reading.specs.World.{alone, procedureAt, trajectoryAt, WorldReady};
+ghost use Rattle.model.specs.Arrays.{alone, membersAt, conditionsAt, procedureAt, trajectoryAt};
+ghost use Rattle.sets.specs.Ends.{taskSetOf, SetReady, SetRows};
+ghost use Rattle.reading.specs.Forms.{Readable};
 ghost use Rattle.reading.specs.Table.{NodeReady, NodeRows, Blank, Found, Tabulated};
 
 // Fills the rows of node p, which is no task set, begins descending: a loop's row rests on its later rows.
@@ -12,53 +14,68 @@ fn fill_rows(
     starts: &[u64; 64],
     durations: &[usize; 64],
     values: &[u8; 4096],
+    last: usize,
     p: usize,
-    n: usize,
     table: &mut [u64],
 )
-    requires { ⌜ NodeReady (alone word) (trajectoryAt n (now starts) (now durations) (now values)) p (now table) × (formAt (alone word) p ≡ Set → ⊥) ⌝ }
-    ensures { λ _. ⌜ NodeRows (alone word) (trajectoryAt n (now (starts .entry)) (now (durations .entry)) (now (values .entry))) p (now (table .entry)) (now (table .exit)) ⌝ }
+    requires { ⌜ NodeReady (alone word) (trajectoryAt (now starts) (now durations) (now values) last) p (now table) × (formAt (alone word) p ≡ Set → ⊥) ⌝ }
+    ensures { λ _. ⌜ NodeRows (alone word) (trajectoryAt (now (starts .entry)) (now (durations .entry)) (now (values .entry)) last) p (now (table .entry)) (now (table .exit)) ⌝ }
 {
-    let mut b = n + 1;
+    let mut b = last + 1;
     while 0 < b {
         b -= 1;
-        let ends = crate::rows::row(word, starts, durations, values, table, p, b, n);
+        let ends = crate::rows::row(word, starts, durations, values, last, table, p, b);
         table[p * 64 + b] = ends;
     }
 }
 
-// Fills the rows of node p. Those of a task set are filled together; of any other form, one after the other.
+// Fills the rows of node p, a task set whose word stands at `place`: all together.
+fn fill_set(
+    words: &[u32],
+    place: usize,
+    values: &[u8; 4096],
+    last: usize,
+    p: usize,
+    table: &mut [u64],
+)
+    requires { ⌜ (place < length (now words)) × SetReady (taskSetOf (membersAt (now words) place) (conditionsAt (now words) place) (now values) last) p (length (now table)) ⌝ }
+    ensures { λ _. ⌜ SetRows (taskSetOf (membersAt (now (words .entry)) place) (conditionsAt (now (words .entry)) place) (now (values .entry)) last) p (now (table .entry)) (now (table .exit)) ⌝ }
+{
+    let counts = model::set_counts(words, place);
+    let first = place + 1;
+    let middle = first + counts.members;
+    let end = middle + counts.conditions;
+    sets::rows::set_rows(
+        &words[first..middle],
+        &words[middle..end],
+        values,
+        p,
+        last as u32,
+        table,
+    );
+}
+
+// Fills the rows of node p.
 fn fill_node(
     words: &[u32],
     places: &[usize; 64],
-    sizes: &[usize; 64],
-    limits: &[usize; 64],
     starts: &[u64; 64],
     durations: &[usize; 64],
     values: &[u8; 4096],
+    last: usize,
     p: usize,
-    n: usize,
     table: &mut [u64],
 )
-    requires { ⌜ (p < 64) × (getD (now places) p 0 + 1 + getD (now sizes) p 0 + getD (now limits) p 0 ≤ length (now words)) × NodeReady (procedureAt 64 (now words) (now places) (now sizes) (now limits)) (trajectoryAt n (now starts) (now durations) (now values)) p (now table) ⌝ }
-    ensures { λ _. ⌜ NodeRows (procedureAt 64 (now (words .entry)) (now (places .entry)) (now (sizes .entry)) (now (limits .entry))) (trajectoryAt n (now (starts .entry)) (now (durations .entry)) (now (values .entry))) p (now (table .entry)) (now (table .exit)) ⌝ }
+    requires { ⌜ (p < 64) × (getD (now places) p 0 < length (now words)) ⌝ }
+    requires { ⌜ NodeReady (procedureAt (now words) (now places) 64) (trajectoryAt (now starts) (now durations) (now values) last) p (now table) ⌝ }
+    ensures { λ _. ⌜ NodeRows (procedureAt (now (words .entry)) (now (places .entry)) 64) (trajectoryAt (now (starts .entry)) (now (durations .entry)) (now (values .entry)) last) p (now (table .entry)) (now (table .exit)) ⌝ }
 {
-    let at = places[p];
-    let word = words[at];
+    let place = places[p];
+    let word = words[place];
     if words::form_of(word) == 8 {
-        let first = at + 1;
-        let middle = first + sizes[p];
-        let end = middle + limits[p];
-        sets::rows::set_rows(
-            &words[first..middle],
-            &words[middle..end],
-            values,
-            p,
-            n as u32,
-            table,
-        );
+        fill_set(words, place, values, last, p, table);
     } else {
-        fill_rows(word, starts, durations, values, p, n, table);
+        fill_rows(word, starts, durations, values, last, p, table);
     }
 }
 
@@ -66,32 +83,19 @@ fn fill_node(
 pub fn fill_table(
     words: &[u32],
     places: &[usize; 64],
-    sizes: &[usize; 64],
-    limits: &[usize; 64],
     count: usize,
     starts: &[u64; 64],
     durations: &[usize; 64],
     values: &[u8; 4096],
-    n: usize,
+    last: usize,
     table: &mut [u64],
 )
-    requires { ⌜ WorldReady (procedureAt count (now words) (now places) (now sizes) (now limits)) (trajectoryAt n (now starts) (now durations) (now values)) (length (now words)) (now places) (now sizes) (now limits) × Blank (now table) ⌝ }
-    ensures { λ _. ⌜ Found (procedureAt count (now (words .entry)) (now (places .entry)) (now (sizes .entry)) (now (limits .entry))) (trajectoryAt n (now (starts .entry)) (now (durations .entry)) (now (values .entry))) (now (table .exit)) ⌝ }
+    requires { ⌜ Readable (procedureAt (now words) (now places) count) (trajectoryAt (now starts) (now durations) (now values) last) (length (now words)) (now places) × Blank (now table) ⌝ }
+    ensures { λ _. ⌜ Found (procedureAt (now (words .entry)) (now (places .entry)) count) (trajectoryAt (now (starts .entry)) (now (durations .entry)) (now (values .entry)) last) (now (table .exit)) ⌝ }
 {
     let mut p = 0;
     while p < count {
-        fill_node(
-            words,
-            places,
-            sizes,
-            limits,
-            starts,
-            durations,
-            values,
-            p,
-            n,
-            table,
-        );
+        fill_node(words, places, starts, durations, values, last, p, table);
         p += 1;
     }
 }
@@ -100,29 +104,16 @@ pub fn fill_table(
 pub fn tabulate(
     words: &[u32],
     places: &[usize; 64],
-    sizes: &[usize; 64],
-    limits: &[usize; 64],
     count: usize,
     starts: &[u64; 64],
     durations: &[usize; 64],
     values: &[u8; 4096],
-    n: usize,
+    last: usize,
     table: &mut [u64],
 ) -> u64
-    requires { ⌜ WorldReady (procedureAt count (now words) (now places) (now sizes) (now limits)) (trajectoryAt n (now starts) (now durations) (now values)) (length (now words)) (now places) (now sizes) (now limits) × Blank (now table) ⌝ }
-    ensures { λ r. ⌜ Tabulated (procedureAt count (now (words .entry)) (now (places .entry)) (now (sizes .entry)) (now (limits .entry))) (trajectoryAt n (now (starts .entry)) (now (durations .entry)) (now (values .entry))) (now (table .exit)) r ⌝ }
+    requires { ⌜ Readable (procedureAt (now words) (now places) count) (trajectoryAt (now starts) (now durations) (now values) last) (length (now words)) (now places) × Blank (now table) ⌝ }
+    ensures { λ r. ⌜ Tabulated (procedureAt (now (words .entry)) (now (places .entry)) count) (trajectoryAt (now (starts .entry)) (now (durations .entry)) (now (values .entry)) last) (now (table .exit)) r ⌝ }
 {
-    fill_table(
-        words,
-        places,
-        sizes,
-        limits,
-        count,
-        starts,
-        durations,
-        values,
-        n,
-        table,
-    );
+    fill_table(words, places, count, starts, durations, values, last, table);
     bitset::count_all(table)
 }

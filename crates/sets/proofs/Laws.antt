@@ -1,59 +1,15 @@
--- The members of a union and of an intersection, and `Some` over one number more. Assumes nothing.
-use Prim.Native.Nat.{ℕ, _+_, _^_, _≤_, _<_}
-use mathlib.Core.Path.{_≡_, sym, _∙_, subst}
-use mathlib.Core.Bool.{_&&_, _||_}
+-- `Some` over one number more, and what a loop gains. Assumes nothing.
+use Prim.Native.Nat.{ℕ, _+_, _<_}
+use mathlib.Core.Path.{_≡_, subst}
+use mathlib.Core.Bool.{_||_}
 use mathlib.Core.Logic.{_↔_, _⊎_, inl, inr, by-cases, ⊎-elim}
 use native.Mathlib.Decide.{decLt}
 use native.Mathlib.Omega.{arith}
-use lib.Dec.{leb, ltb, eqb}
-use borrow.Author.Tests.{leb-true, ltb-true, eqb-true, le-leb, lt-ltb, eq-eqb}
 use Rattle.bitset.specs.Members.{has, IsSetOf, In}
-use Rattle.words.proofs.Choices.{both-true}
-use Rattle.bitset.proofs.Bools.{not-both, or-cases, or-left, or-right, both}
-use Rattle.bitset.proofs.Digits.{has-zero, has-below}
+use Rattle.bitset.proofs.Bools.{not-both}
+use Rattle.bitset.proofs.Digits.{has-zero}
+use Rattle.bitset.proofs.In.{in-union}
 use Rattle.sets.specs.Cover.{Some}
-
-pub in-union : {r x y : ℕ} → IsSetOf r (λ k. has x k || has y k) → (e : ℕ) → In r e ↔ (In x e ⊎ In y e)
-in-union {x = x} {y = y} h e = (
-  λ t. ⊎-elim (λ u. inl (record { yes = u })) (λ u. inr (record { yes = u })) (or-cases (has x e) (has y e) (sym (h e) ∙ t .yes)),
-  ⊎-elim (λ t. record { yes = h e ∙ or-left (has y e) (t .yes) }) (λ t. record { yes = h e ∙ or-right (has x e) (t .yes) }),
-)
-
-pub in-both : {r x y : ℕ} → IsSetOf r (λ k. has x k && has y k) → (e : ℕ) → In r e ↔ (In x e × In y e)
-in-both {x = x} {y = y} h e = (
-  λ t. let u = both-true (has x e) (has y e) (sym (h e) ∙ t .yes) in (record { yes = u .0 }, record { yes = u .1 }),
-  λ t. record { yes = h e ∙ both (t .0 .yes) (t .1 .yes) },
-)
-
-pub in-from : {r a : ℕ} → IsSetOf r (λ k. leb a k && ltb k 64) → (e : ℕ) → In r e ↔ ((a ≤ e) × (e < 64))
-in-from {a = a} h e = (
-  λ t. let u = both-true (leb a e) (ltb e 64) (sym (h e) ∙ t .yes) in (leb-true a e (u .0), ltb-true e 64 (u .1)),
-  λ t. record { yes = h e ∙ both (le-leb a e (t .0)) (lt-ltb e 64 (t .1)) },
-)
-
-pub in-between : {r a b : ℕ} → IsSetOf r (λ k. leb a k && leb k b) → (e : ℕ) → In r e ↔ ((a ≤ e) × (e ≤ b))
-in-between {a = a} {b = b} h e = (
-  λ t. let u = both-true (leb a e) (leb e b) (sym (h e) ∙ t .yes) in (leb-true a e (u .0), leb-true e b (u .1)),
-  λ t. record { yes = h e ∙ both (le-leb a e (t .0)) (le-leb e b (t .1)) },
-)
-
-pub in-single : {r a : ℕ} → IsSetOf r (λ k. eqb k a) → (e : ℕ) → In r e ↔ (e ≡ a)
-in-single {a = a} h e = (λ t. eqb-true e a (sym (h e) ∙ t .yes), λ q. record { yes = h e ∙ eq-eqb e a q })
-
-pub in-below : {x e : ℕ} → x < 2 ^ 64 → In x e → e < 64
-in-below {x} {e} f t = has-below 64 x e f (t .yes)
-
--- the empty mask is that of what nothing is
-pub in-none : {P : ℕ → Type 0} → ((e : ℕ) → P e → ⊥) → (e : ℕ) → In 0 e ↔ P e
-in-none f e = (λ t. not-both (t .yes) (has-zero e), λ p. absurd (f e p))
-
--- where the mask x of P gains what is Q, P' being either
-pub in-more : {r x : ℕ} {P P′ Q : ℕ → Type 0} → ((e : ℕ) → In r e ↔ ((In x e) ⊎ Q e)) → ((e : ℕ) → P′ e ↔ (P e ⊎ Q e))
-    → ((e : ℕ) → In x e ↔ P e) → (e : ℕ) → In r e ↔ P′ e
-in-more new turn old e = (
-  λ t. turn e .1 (⊎-elim (λ p. inl (old e .0 p)) inr (new e .0 t)),
-  λ p. new e .1 (⊎-elim (λ q. inl (old e .1 q)) inr (turn e .0 p)),
-)
 
 pub some-none : {P : ℕ → Type 0} → Some 0 P → ⊥
 some-none s = let l = s .below in omega arith

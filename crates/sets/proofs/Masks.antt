@@ -1,5 +1,5 @@
 -- The masks of the members' ends as the conditions narrow them, and as one member more is placed. Assumes nothing.
-use Prim.Native.Nat.{ℕ, zero, suc, _+_, _*_, _/_, _%_, _≤_, _<_}
+use Prim.Native.Nat.{ℕ, _+_, _*_, _/_, _%_, _≤_, _<_}
 use mathlib.Core.Path.{_≡_, refl, sym, subst}
 use mathlib.Core.Logic.{_↔_, inl, inr, by-cases}
 use mathlib.Core.List.{List}
@@ -9,7 +9,8 @@ use borrow.Author.Count.{below-more}
 use lib.ListN.{length, getD, set}
 use lib.Seq.{getD-set-same, getD-set-other}
 use Rattle.bitset.specs.Members.{In}
-use Rattle.words.specs.Fields.{form, conditionFormula, conditionI, conditionJ, conditionM, conditionN}
+use Rattle.model.specs.Forms.{ConditionForm, BeginAfterBegin, BeginAfterEnd, HoldsBefore, HoldsAfter, HoldsBetween, ReservedCondition, conditionForm}
+use Rattle.words.specs.Fields.{conditionFormula, conditionI, conditionJ, conditionM, conditionN}
 use Rattle.sets.specs.Set.{TaskSet, member, MetAs, MetAt}
 use Rattle.sets.specs.Ends.{entryAt}
 use Rattle.sets.specs.Search.{asked, Later, Allowed, EndOf, EndSets, Asks, Narrowed}
@@ -29,7 +30,7 @@ module _ {cs allow begins old new : List ℕ} {k c : ℕ} where
   module _ (m v : ℕ) (long : length new ≡ 4) (named : conditionI (getD cs c 0) < 4) (small : (i e : ℕ) → In (entryAt old i) e → e < 64)
       (later : Later (conditionI (getD cs c 0)) (conditionJ (getD cs c 0)) k)
       (is : (e : ℕ) → e < 64 → let w = getD cs c 0 in
-      In m e ↔ In (getD allow (c * 64 + entryAt begins (conditionJ w)) 0) (asked (form w) (entryAt begins (conditionI w)) e))
+      In m e ↔ In (getD allow (c * 64 + entryAt begins (conditionJ w)) 0) (asked (conditionForm w) (entryAt begins (conditionI w)) e))
       (both : (e : ℕ) → In v e ↔ (In (entryAt new (conditionI (getD cs c 0))) e × In m e)) where
     pub narrow-more : Narrowed cs allow k begins old c new → Narrowed cs allow k begins old (c + 1) (set new (conditionI (getD cs c 0)) v)
     narrow-more h = record {
@@ -51,22 +52,24 @@ module _ {cs allow begins old new : List ℕ} {k c : ℕ} where
 -- ---- one member more
 
 -- what a condition asks of the begin or the end, whichever it asks, it asks of both
-asked-as : (f : ℕ) (value : ℕ → ℕ → ℕ) (n k M N x e y : ℕ) → MetAs f value n k M N (asked f x e) (asked f x e) y ↔ MetAs f value n k M N x e y
-asked-as zero value n k M N x e y = (λ h. h, λ h. h)
-asked-as (suc zero) value n k M N x e y = (λ h. h, λ h. h)
-asked-as (suc (suc zero)) value n k M N x e y = (λ h. h, λ h. h)
-asked-as (suc (suc (suc zero))) value n k M N x e y = (λ h. h, λ h. h)
-asked-as (suc (suc (suc (suc zero)))) value n k M N x e y = (λ h. h, λ h. h)
-asked-as (suc (suc (suc (suc (suc f))))) value n k M N x e y = (λ h. h, λ h. h)
+asked-as : (f : ConditionForm) (value : ℕ → ℕ → ℕ) (n k M N x e y : ℕ) → MetAs f value n k M N (asked f x e) (asked f x e) y ↔ MetAs f value n k M N x e y
+asked-as BeginAfterBegin value n k M N x e y = (λ h. h, λ h. h)
+asked-as BeginAfterEnd value n k M N x e y = (λ h. h, λ h. h)
+asked-as HoldsBefore value n k M N x e y = (λ h. h, λ h. h)
+asked-as HoldsAfter value n k M N x e y = (λ h. h, λ h. h)
+asked-as HoldsBetween value n k M N x e y = (λ h. h, λ h. h)
+asked-as ReservedCondition value n k M N x e y = (λ h. h, λ h. h)
 
-pub asked-at : (value : ℕ → ℕ → ℕ) (n w x e y : ℕ) → MetAt value n w (asked (form w) x e) (asked (form w) x e) y ↔ MetAt value n w x e y
-asked-at value n w = asked-as (form w) value n (conditionFormula w) (conditionM w) (conditionN w)
+pub asked-at : (value : ℕ → ℕ → ℕ) (n w x e y : ℕ) → MetAt value n w (asked (conditionForm w) x e) (asked (conditionForm w) x e) y ↔ MetAt value n w x e y
+asked-at value n w = asked-as (conditionForm w) value n (conditionFormula w) (conditionM w) (conditionN w)
 
-pub asked-le : (f : ℕ) {x e n : ℕ} → x ≤ n → e ≤ n → asked f x e ≤ n
-asked-le zero g h = g
-asked-le (suc zero) g h = h
-asked-le (suc (suc zero)) g h = g
-asked-le (suc (suc (suc f))) g h = h
+pub asked-le : (f : ConditionForm) {x e n : ℕ} → x ≤ n → e ≤ n → asked f x e ≤ n
+asked-le BeginAfterBegin g h = g
+asked-le BeginAfterEnd g h = h
+asked-le HoldsBefore g h = g
+asked-le HoldsAfter g h = h
+asked-le HoldsBetween g h = h
+asked-le ReservedCondition g h = h
 
 -- the mask of condition c where its member j begins at x
 pub allowed-at : {value : ℕ → ℕ → ℕ} {cs allow : List ℕ} {n : ℕ} → Allowed value cs n (length cs * 64) allow → (c x y : ℕ) → c < length cs → x < 64
@@ -117,7 +120,7 @@ module _ {s : TaskSet} {R : ℕ → ℕ → ℕ → Type 0} {allow begins r : Li
                 let y = entryAt begins (conditionJ w) in
                 let b = moments (conditionJ w) in
                 let new : Later (conditionI w) (conditionJ w) k → MetAt (s .value) (s .last) w (entryAt begins i) e y
-                = λ n. asked-at (s .value) (s .last) w (entryAt begins i) e y .0 (allowed-at allowed c y (asked (form w) (entryAt begins i) e) g (omega arith) .0 (o .1 c g f n) .1) in
+                = λ n. asked-at (s .value) (s .last) w (entryAt begins i) e y .0 (allowed-at allowed c y (asked (conditionForm w) (entryAt begins i) e) g (omega arith) .0 (o .1 c g f n) .1) in
                 by-cases (decLt i k)
                 (λ h. by-cases (decLt (conditionJ w) k)
                 (λ j. sets .mask i e h .0 (rw (getD-set-other ends k i m 0 (omega arith)) at (o .0)) .met c g f j)
@@ -133,7 +136,7 @@ module _ {s : TaskSet} {R : ℕ → ℕ → ℕ → Type 0} {allow begins r : Li
             let y = entryAt begins (conditionJ w) in
             let b = moments (conditionJ w) in
             let z = n .second in
-            allowed-at allowed c y (asked (form w) (entryAt begins i) e) g (omega arith) .1 (asked-le (form w) (moments i) (h .within), asked-at (s .value) (s .last) w (entryAt begins i) e y .1 (h .met c g f (omega arith))),
+            allowed-at allowed c y (asked (conditionForm w) (entryAt begins i) e) g (omega arith) .1 (asked-le (conditionForm w) (moments i) (h .within), asked-at (s .value) (s .last) w (entryAt begins i) e y .1 (h .met c g f (omega arith))),
       )
 
 -- a store of a mask of moments leaves masks of moments

@@ -9,19 +9,22 @@ use borrow.Author.Count.{below-more}
 use lib.ListN.{length, getD, set, take, length-map, List·getD-map}
 use lib.Seq.{getD-take, length-take-le, getD-set-same, getD-set-other}
 use Rattle.bitset.specs.Members.{In}
-use Rattle.words.specs.Fields.{memberNode, form, conditionI, conditionJ}
+use Rattle.words.specs.Fields.{memberNode, conditionI, conditionJ}
+use Rattle.model.specs.Forms.{ConditionForm, conditionForm}
 use Rattle.sets.specs.Set.{Placing, SetRule, Formed}
-use Rattle.sets.specs.Ends.{valueIn, taskSetOf, InTable, Placed}
+use Rattle.sets.specs.Ends.{taskSetOf, Placed}
+use Rattle.model.specs.Arrays.{valueIn}
+use Rattle.model.specs.Table.{InTable}
 use Rattle.sets.specs.Search.{asked, Allowed, SearchReady, SomeBegin, Allows, Possible, OwnRows}
 use Rattle.sets.proofs.Masks.{allowed-at, asked-at, asked-le}
 use Rattle.sets.proofs.Search.{met-same}
 
 -- ---- one begin more
 
-pub begin-none : {allow : List ℕ} {f d x e : ℕ} → SomeBegin allow 0 f d x e → ⊥
+pub begin-none : {allow : List ℕ} {f : ConditionForm} {d x e : ℕ} → SomeBegin allow 0 f d x e → ⊥
 begin-none h = let l = h .before in omega arith
 
-pub begin-more : {allow : List ℕ} {f d x e : ℕ} (y : ℕ) → SomeBegin allow (y + 1) f d x e ↔ (SomeBegin allow y f d x e ⊎ In (getD allow (d * 64 + y) 0) (asked f x e))
+pub begin-more : {allow : List ℕ} {f : ConditionForm} {d x e : ℕ} (y : ℕ) → SomeBegin allow (y + 1) f d x e ↔ (SomeBegin allow y f d x e ⊎ In (getD allow (d * 64 + y) 0) (asked f x e))
 begin-more {allow} {f} {d} {x} {e} y = (
   λ h. let l = h .before in by-cases (decLt (h .begin) y)
       (λ g. inl (record { begin = h .begin; before = g; member = h .member }))
@@ -121,13 +124,13 @@ module _ (vs : List ℕ) {ms cs : List ℕ} {n : ℕ} {allow table own : List �
       let o = h .placing .inside i (omega arith) in
       let p = h .placing .inside (conditionJ w) (formed .named d g .1) in
       let m = formed .moments in
-      let t = allowed-at allowed d (h .begins (conditionJ w)) (asked (form w) (h .begins i) (h .ends i)) g (omega arith) .1 (
-        asked-le (form w) (omega arith) (omega arith),
+      let t = allowed-at allowed d (h .begins (conditionJ w)) (asked (conditionForm w) (h .begins i) (h .ends i)) g (omega arith) .1 (
+        asked-le (conditionForm w) (omega arith) (omega arith),
         asked-at (valueIn vs) n w (h .begins i) (h .ends i) (h .begins (conditionJ w)) .1 (met-same (valueIn vs) n w (ap (h .begins) q) (ap (h .ends) q) refl (h .placing .met d g)),
       ) in
       record {
         some = record { begin = h .begins (conditionJ w); before = omega arith; member = t };
-        self = λ k. subst (λ (j : ℕ). In (getD allow (d * 64 + h .begins j) 0) (asked (form w) (h .begins i) (h .ends i))) k t;
+        self = λ k. subst (λ (j : ℕ). In (getD allow (d * 64 + h .begins j) 0) (asked (conditionForm w) (h .begins i) (h .ends i))) k t;
       }
 
   pub own-rule : {b e : ℕ} → SetRule (taskSetOf (places (length ms)) cs vs n) (InTable own) b e ↔ SetRule (taskSetOf ms cs vs n) (InTable table) b e

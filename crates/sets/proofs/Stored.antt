@@ -9,7 +9,8 @@ use lib.ListN.{length, getD, set, length-set}
 use lib.Seq.{getD-set-same, getD-set-other}
 use Rattle.bitset.specs.Members.{In}
 use Rattle.sets.specs.Set.{TaskSet, memberCount, member, SetRule}
-use Rattle.sets.specs.Ends.{InTable, SetRows}
+use Rattle.sets.specs.Ends.{SetRows}
+use Rattle.model.specs.Table.{InTable}
 
 -- the rule asks R of the members' rows alone
 pub rule-map : {s : TaskSet} {R S : ℕ → ℕ → ℕ → Type 0} {b e : ℕ} → ((i c d : ℕ) → i < memberCount s → c ≤ s .last → R (member s i) c d → S (member s i) c d)

@@ -4,21 +4,14 @@ use mathlib.Core.Path.{_≡_}
 use mathlib.Core.Logic.{_↔_, _⊎_}
 use mathlib.Core.List.{List, map}
 use lib.ListN.{length, getD}
-use Rattle.bitset.specs.Members.{In}
 use Rattle.words.specs.Fields.{memberNode}
+use Rattle.model.specs.Arrays.{valueIn}
+use Rattle.model.specs.Table.{InTable}
 use Rattle.sets.specs.Set.{TaskSet, memberCount, member, Placing, SetRule, Formed}
-
--- the value of formula k at moment t, out of the values of all formulas
-abbrev pub valueIn : List ℕ → ℕ → ℕ → ℕ
-valueIn vs k t = getD vs (k * 64 + t) 0
 
 -- the task set of member words, condition words, the values of all formulas, and the last moment
 abbrev pub taskSetOf : List ℕ → List ℕ → List ℕ → ℕ → TaskSet
 taskSetOf ms cs vs n = record { members = map memberNode ms; conditions = cs; value = valueIn vs; last = n }
-
--- the table says that node p has the end e from b
-abbrev pub InTable : List ℕ → ℕ → ℕ → ℕ → Type 0
-InTable t p b e = In (getD t (p * 64 + b) 0) e
 
 -- an array as a function of its places
 abbrev pub entryAt : List ℕ → ℕ → ℕ

@@ -1,20 +1,24 @@
 -- The search for begins: the masks of ends of a set's members while its begins are chosen one after the other.
-use Prim.Native.Nat.{ℕ, zero, suc, _+_, _*_, _/_, _%_, _≤_, _<_}
+use Prim.Native.Nat.{ℕ, _+_, _*_, _/_, _%_, _≤_, _<_}
 use mathlib.Core.Path.{_≡_}
 use mathlib.Core.Logic.{_↔_, _⊎_}
 use mathlib.Core.List.{List}
 use lib.ListN.{length, getD}
 use Rattle.bitset.specs.Members.{In}
-use Rattle.words.specs.Fields.{form, memberNode, conditionI, conditionJ}
+use Rattle.words.specs.Fields.{memberNode, conditionI, conditionJ}
+use Rattle.model.specs.Forms.{ConditionForm, BeginAfterBegin, BeginAfterEnd, HoldsBefore, HoldsAfter, HoldsBetween, ReservedCondition, conditionForm}
 use Rattle.sets.specs.Set.{TaskSet, memberCount, member, MetAt, SetRule, Formed}
-use Rattle.sets.specs.Ends.{InTable, entryAt}
+use Rattle.sets.specs.Ends.{entryAt}
+use Rattle.model.specs.Table.{InTable}
 
 -- a condition asks of member i either its begin or its end: the one that it asks
-abbrev pub asked : ℕ → ℕ → ℕ → ℕ
-asked zero x e = x
-asked (suc zero) x e = e
-asked (suc (suc zero)) x e = x
-asked (suc (suc (suc f))) x e = e
+abbrev pub asked : ConditionForm → ℕ → ℕ → ℕ
+asked BeginAfterBegin x e = x
+asked BeginAfterEnd x e = e
+asked HoldsBefore x e = x
+asked HoldsAfter x e = e
+asked HoldsBetween x e = e
+asked ReservedCondition x e = e
 
 -- the mask at c * 64 + x has the moments y at which member i may begin or end for condition c, where member j begins at x; so the first k
 pub record Allowed (value : ℕ → ℕ → ℕ) (cs : List ℕ) (n k : ℕ) (allow : List ℕ) : Type 0 where
@@ -90,22 +94,22 @@ pub record Later (i j k : ℕ) : Type 0 where
 -- what condition d, where its later member is k, asks of the end e of member i, by its mask
 abbrev pub Asks : List ℕ → List ℕ → ℕ → List ℕ → ℕ → ℕ → ℕ → Type 0
 Asks cs allow k begins i e d = let w = getD cs d 0 in
-    conditionI w ≡ i → Later (conditionI w) (conditionJ w) k → In (getD allow (d * 64 + entryAt begins (conditionJ w)) 0) (asked (form w) (entryAt begins i) e)
+    conditionI w ≡ i → Later (conditionI w) (conditionJ w) k → In (getD allow (d * 64 + entryAt begins (conditionJ w)) 0) (asked (conditionForm w) (entryAt begins i) e)
 
 -- the masks `new` are the masks `old` with the first c conditions
 pub record Narrowed (cs allow : List ℕ) (k : ℕ) (begins old : List ℕ) (c : ℕ) (new : List ℕ) : Type 0 where
   pub mask : (i e : ℕ) → In (entryAt new i) e ↔ (In (entryAt old i) e × ((d : ℕ) → d < c → Asks cs allow k begins i e d))
 
 -- condition d, of form f, allows the end e of its member i, begun at x, for some begin before z of its member j
-pub record SomeBegin (allow : List ℕ) (z f d x e : ℕ) : Type 0 where
+pub record SomeBegin (allow : List ℕ) (z : ℕ) (f : ConditionForm) (d x e : ℕ) : Type 0 where
   pub begin : ℕ
   pub before : begin < z
   pub member : In (getD allow (d * 64 + begin) 0) (asked f x e)
 
 -- the condition word w, which is condition d, allows the end e of member i, begun at x, for some begin up to n of its member j: for x where j is i
 pub record Allows (allow : List ℕ) (n w d i x e : ℕ) : Type 0 where
-  pub some : SomeBegin allow (n + 1) (form w) d x e
-  pub self : conditionJ w ≡ i → In (getD allow (d * 64 + x) 0) (asked (form w) x e)
+  pub some : SomeBegin allow (n + 1) (conditionForm w) d x e
+  pub self : conditionJ w ≡ i → In (getD allow (d * 64 + x) 0) (asked (conditionForm w) x e)
 
 -- each of the first k conditions does that, where it is on member i
 abbrev pub Possible : List ℕ → List ℕ → ℕ → ℕ → ℕ → ℕ → ℕ → Type 0

@@ -1,9 +1,10 @@
 -- The rule of a task set: its members, each read from some begin to some end within b..e, cover the moments of b..e, and the conditions are met.
-use Prim.Native.Nat.{ℕ, zero, suc, _+_, _≤_, _<_}
+use Prim.Native.Nat.{ℕ, _+_, _≤_, _<_}
 use mathlib.Core.Path.{_≡_}
 use mathlib.Core.List.{List}
 use lib.ListN.{length, getD}
-use Rattle.words.specs.Fields.{form, holds, conditionFormula, conditionI, conditionJ, conditionM, conditionN}
+use Rattle.words.specs.Fields.{holds, conditionFormula, conditionI, conditionJ, conditionM, conditionN}
+use Rattle.model.specs.Forms.{ConditionForm, BeginAfterBegin, BeginAfterEnd, HoldsBefore, HoldsAfter, HoldsBetween, ReservedCondition, conditionForm}
 
 -- the nodes of the members, the condition words, the value of formula k at moment t, and the last moment
 pub record TaskSet : Type 0 where
@@ -19,17 +20,17 @@ abbrev pub member : TaskSet → ℕ → ℕ
 member s i = getD (s .members) i 0
 
 -- a condition of each form, on formula k with M and N, where member i begins at bi and ends at ei and member j begins at bj
-abbrev pub MetAs : ℕ → (ℕ → ℕ → ℕ) → ℕ → ℕ → ℕ → ℕ → ℕ → ℕ → ℕ → Type 0
-MetAs zero value n k M N bi ei bj = (bi + M ≤ bj) × (bj ≤ bi + N)
-MetAs (suc zero) value n k M N bi ei bj = (ei + M ≤ bj) × (bj ≤ ei + N)
-MetAs (suc (suc zero)) value n k M N bi ei bj = (N ≤ bi) × ((t : ℕ) → bi ≤ t + N → t + M ≤ bi → value k t ≡ holds)
-MetAs (suc (suc (suc zero))) value n k M N bi ei bj = (ei + N ≤ n) × ((t : ℕ) → ei + M ≤ t → t ≤ ei + N → value k t ≡ holds)
-MetAs (suc (suc (suc (suc zero)))) value n k M N bi ei bj = (t : ℕ) → ei + M ≤ t → t + N ≤ bj → value k t ≡ holds
-MetAs (suc (suc (suc (suc (suc f))))) value n k M N bi ei bj = ⊥
+abbrev pub MetAs : ConditionForm → (ℕ → ℕ → ℕ) → ℕ → ℕ → ℕ → ℕ → ℕ → ℕ → ℕ → Type 0
+MetAs BeginAfterBegin value n k M N bi ei bj = (bi + M ≤ bj) × (bj ≤ bi + N)
+MetAs BeginAfterEnd value n k M N bi ei bj = (ei + M ≤ bj) × (bj ≤ ei + N)
+MetAs HoldsBefore value n k M N bi ei bj = (N ≤ bi) × ((t : ℕ) → bi ≤ t + N → t + M ≤ bi → value k t ≡ holds)
+MetAs HoldsAfter value n k M N bi ei bj = (ei + N ≤ n) × ((t : ℕ) → ei + M ≤ t → t ≤ ei + N → value k t ≡ holds)
+MetAs HoldsBetween value n k M N bi ei bj = (t : ℕ) → ei + M ≤ t → t + N ≤ bj → value k t ≡ holds
+MetAs ReservedCondition value n k M N bi ei bj = ⊥
 
 -- the condition word w is met
 abbrev pub MetAt : (ℕ → ℕ → ℕ) → ℕ → ℕ → ℕ → ℕ → ℕ → Type 0
-MetAt value n w bi ei bj = MetAs (form w) value n (conditionFormula w) (conditionM w) (conditionN w) bi ei bj
+MetAt value n w bi ei bj = MetAs (conditionForm w) value n (conditionFormula w) (conditionM w) (conditionN w) bi ei bj
 
 -- the same where member i begins at bs i and ends at es i
 abbrev pub Met : TaskSet → ℕ → (ℕ → ℕ) → (ℕ → ℕ) → Type 0

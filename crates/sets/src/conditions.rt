@@ -5,9 +5,10 @@ ghost use mathlib.Core.Logic.{_↔_};
 ghost use Prim.Native.Nat.{ℕ, _+_, _*_, _<_, _≤_};
 ghost use lib.ListN.{length};
 ghost use Rattle.bitset.specs.Members.{has, In};
-ghost use Rattle.words.specs.Fields.{holds, form};
+ghost use Rattle.words.specs.Fields.{holds};
+ghost use Rattle.model.specs.Forms.{conditionNumber};
 ghost use Rattle.sets.specs.Set.{MetAs, MetAt};
-ghost use Rattle.sets.specs.Ends.{valueIn};
+ghost use Rattle.model.specs.Arrays.{valueIn};
 ghost use Rattle.sets.specs.Search.{asked, Later, Allowed, Narrowable, Narrowed, SomeBegin, Allows, Possible};
 
 // Whether formula k holds at each moment t from `from` on with t + off ≤ upto.
@@ -44,7 +45,7 @@ fn met_as(
     n: usize,
 ) -> bool
     requires { ⌜ (k < 64) × (first < 64) × (last < 64) × (y ≤ n) × (x < 64) × (n < 64) ⌝ }
-    ensures { λ r. ⌜ (r ≡ true) ↔ MetAs form (valueIn (now (values .entry))) n k first last y y x ⌝ }
+    ensures { λ r. ⌜ (r ≡ true) ↔ MetAs (conditionNumber form) (valueIn (now (values .entry))) n k first last y y x ⌝ }
 {
     match form {
         0 => ordered(y + first, x, y + last),
@@ -118,7 +119,7 @@ fn whole(all: bool) -> u64
 // The ends of member i, begun at x, that a condition of this form allows, where mask a is that of `allowed`.
 fn end_mask(form: u32, a: u64, x: u32) -> u64
     requires { ⌜ x < 64 ⌝ }
-    ensures { λ r. ⌜ ((e : ℕ) → e < 64 → In r e ↔ In a (asked form x e)) ⌝ }
+    ensures { λ r. ⌜ ((e : ℕ) → e < 64 → In r e ↔ In a (asked (conditionNumber form) x e)) ⌝ }
 {
     match form {
         0 => whole(bitset::has(a, x)),
@@ -167,7 +168,7 @@ pub fn narrow(conds: &[u32], allow: &[u64], k: usize, begins: [u32; 4], ends: [u
 // The ends of member i, begun at x, that condition c allows for some begin of its member j.
 fn some_allowed(allow: &[u64], c: usize, form: u32, x: u32, n: u32) -> u64
     requires { ⌜ (c * 64 + 64 ≤ length (now allow)) × (x < 64) × (n < 64) ⌝ }
-    ensures { λ r. ⌜ ((e : ℕ) → e < 64 → In r e ↔ SomeBegin (now (allow .entry)) (n + 1) form c x e) ⌝ }
+    ensures { λ r. ⌜ ((e : ℕ) → e < 64 → In r e ↔ SomeBegin (now (allow .entry)) (n + 1) (conditionNumber form) c x e) ⌝ }
 {
     let mut r = 0;
     let mut y = 0;

@@ -1,15 +1,24 @@
 -- `extract::emit` meets its contract: the buffer has room for every reading of the root, by the length bound. Assumes nothing.
-use borrow.Author.Needs.{needs}
 use mathlib.Core.Path.{refl}
+use native.Mathlib.Omega.{arith}
 use Rattle.extract.proofs.Whole.{emit-writable, emit-emitted}
+use borrow.Author.Needs.{needs}
 use Rattle.extract.proofs.emit.Statement.{statement}
 use Rattle.extract.proofs.emit.Tie as tie
 
+sub-root : tie.Need-sub-t9
+sub-root c = let (starts, durations, s) = c .before .before .before .pre in omega (arith, s .some)
+
 write-reading-requires : tie.Need-write-reading-requires
-write-reading-requires c κs = emit-writable (c .before .before .before .before .pre)
+write-reading-requires c κs =
+    let a = c .before .before .before .before in
+    let (starts, durations, s) = a .pre in
+    (record { count = a .args .count; starts = starts; durations = durations }, emit-writable s)
 
 returns : tie.Need-returns
-returns c = emit-emitted (c .before .before .before .before .before .before .before .pre) refl (c .before .before .write-reading .ensures)
+returns c = λ starts durations s.
+    let a = c .before .before .before .before .before .before .before in
+    emit-emitted s refl (c .before .before .write-reading .ensures (record { count = a .args .count; starts = starts; durations = durations }) (emit-writable s))
 
 pub emit-spec : {M : Type 1} → statement M
-emit-spec = tie.close (tie.spec (λ c. search needs) write-reading-requires (λ c. search needs) returns)
+emit-spec = tie.close (tie.spec sub-root write-reading-requires (λ c. search needs) returns)

@@ -22,15 +22,15 @@ returns-2 c =
       ),
     )
 
-world-of-requires : tie.Need-world-of-requires
-world-of-requires c κs = plan-none _ _ _ (c .before .before .check-plan .ensures) (c .enum-told2 .given .1)
+arrays-of-requires : tie.Need-arrays-of-requires
+arrays-of-requires c κs = plan-none _ _ _ (c .before .before .check-plan .ensures) (c .enum-told2 .given .1)
 
 seek-requires : tie.Need-seek-requires
-seek-requires c κs = (
-  job-clear _ _ (plan-none _ _ _ (c .before .before .before .before .check-plan .ensures) (c .before .before .enum-told2 .given .1)),
-  c .before .world-of .ensures,
-  omega (arith, c .before .before .before .before .before .if1),
-)
+seek-requires c κs = record {
+  clear = job-clear _ _ (plan-none _ _ _ (c .before .before .before .before .check-plan .ensures) (c .before .before .enum-told2 .given .1));
+  represented = c .before .arrays-of .ensures;
+  room = omega (arith, c .before .before .before .before .before .if1);
+}
 
 returns-3 : tie.Need-returns-3
 returns-3 c =
@@ -45,7 +45,7 @@ find-reading-spec =
     (λ c. search needs)
     returns-2
     (λ c. search needs)
-    world-of-requires
+    arrays-of-requires
     seek-requires
     (λ c. search needs)
     returns-3)

@@ -2,7 +2,7 @@
 use Rattle.bitset.proofs.Bools.{not-both}
 use mathlib.Core.Path.{sym, _∙_}
 use native.Mathlib.Omega.{arith}
-use Rattle.sets.proofs.Laws.{in-none, in-single}
+use Rattle.bitset.proofs.In.{in-none, in-single}
 use borrow.Author.Needs.{needs}
 use Rattle.reading.proofs.rows.act_row.Statement.{statement}
 use Rattle.reading.proofs.rows.act_row.Tie as tie

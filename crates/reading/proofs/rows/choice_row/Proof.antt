@@ -1,5 +1,5 @@
 -- `reading::rows::choice_row` meets its contract. Assumes nothing.
-use Rattle.sets.proofs.Laws.{in-union}
+use Rattle.bitset.proofs.In.{in-union}
 use borrow.Author.Needs.{needs}
 use Rattle.reading.proofs.rows.choice_row.Statement.{statement}
 use Rattle.reading.proofs.rows.choice_row.Tie as tie

@@ -1,5 +1,5 @@
 -- `reading::rows::end_window_row` meets its contract. Assumes nothing.
-use Rattle.reading.proofs.Members.{in-joined}
+use Rattle.bitset.proofs.In.{in-joined}
 use borrow.Author.Needs.{needs}
 use Rattle.reading.proofs.rows.end_window_row.Statement.{statement}
 use Rattle.reading.proofs.rows.end_window_row.Tie as tie
@@ -8,7 +8,7 @@ returns : tie.Need-returns
 returns c = λ e.
     let j = in-joined (c .join-rows .ensures) e in
     let w = c .before .windows .ensures in
-    let inside = c .before .before .before .before .pre .6 in (
+    let inside = c .before .before .before .before .pre .0 .inside in (
       λ t.
           let r = j .0 t in
           let a = w (r .0) .0 (r .1) in

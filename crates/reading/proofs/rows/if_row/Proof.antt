@@ -1,7 +1,7 @@
 -- `reading::rows::if_row` meets its contract. Assumes nothing.
 use native.Mathlib.Omega.{arith}
 use mathlib.Core.Logic.{inl, inr, ⊎-elim}
-use Rattle.sets.proofs.Laws.{in-none}
+use Rattle.bitset.proofs.In.{in-none}
 use borrow.Author.Needs.{needs}
 use Rattle.reading.proofs.rows.if_row.Statement.{statement}
 use Rattle.reading.proofs.rows.if_row.Tie as tie

@@ -1,98 +1,134 @@
 -- `reading::rows::row` meets its contract: in each arm the rule of the form is what the row function ensures. Assumes nothing.
-use Rattle.reading.proofs.Forms.{no-form}
-use Rattle.model.specs.Forms.{formNumber}
-use mathlib.Core.Path.{sym, ap, _∙_}
+use Prim.Native.Nat.{ℕ, _<_}
+use mathlib.Core.Path.{_≡_, sym, ap, _∙_}
 use native.Mathlib.Omega.{arith}
-use Rattle.sets.proofs.Laws.{in-none}
+use Rattle.words.specs.Fields.{form, nodeX, nodeY, nodeM, nodeN}
+use Rattle.bitset.proofs.In.{in-none}
+use Rattle.model.specs.Forms.{formNumber, childrenAs, Below}
+use Rattle.model.specs.Arrays.{alone}
+use Rattle.model.proofs.Forms.{no-form}
 use borrow.Author.Needs.{needs}
 use Rattle.reading.proofs.rows.row.Statement.{statement}
 use Rattle.reading.proofs.rows.row.Tie as tie
 
+-- the function's entry, seen from the form, and the fields that were read
+abbrev entry : tie.After-form-of → tie.Start
+entry f = f .before .before .before .before .before .before
+
+x-is : (f : tie.After-form-of) → f .before .before .before .before .node-x .result ≡ nodeX (entry f .args .word)
+x-is f = f .before .before .before .before .node-x .ensures .0
+
+y-is : (f : tie.After-form-of) → f .before .before .before .node-y .result ≡ nodeY (entry f .args .word)
+y-is f = f .before .before .before .node-y .ensures .0
+
+m-is : (f : tie.After-form-of) → f .before .before .node-m .result ≡ nodeM (entry f .args .word)
+m-is f = f .before .before .node-m .ensures .0
+
+n-is : (f : tie.After-form-of) → f .before .node-n .result ≡ nodeN (entry f .args .word)
+n-is f = f .before .node-n .ensures .0
+
+-- the form, where it has this number, and the children that it has then
+module _ (f : tie.After-form-of) {k : ℕ} (e : f .form-of .result ≡ k) where
+  form-is : form (entry f .args .word) ≡ k
+  form-is = sym (f .form-of .ensures .0) ∙ e
+
+  lower : Below (entry f .args .p) (childrenAs (alone (entry f .args .word)) (formNumber k) (entry f .args .p))
+  lower = rw form-is at (entry f .pre .lower)
+
+-- ---- what each arm asks
+
 sequence-row-requires : tie.Need-sequence-row-requires
 sequence-row-requires c κs =
-    let s = c .before .before .before .before .before .pre in
-    let g = rw (sym (c .before .before .form-of .ensures .0) ∙ c .before .match .keys3) at (s .formed) in
-    let x = c .before .before .before .node-x .ensures .0 in
-    let y = c .node-y .ensures .0 in
-    (omega arith, omega arith, omega arith, s .inside _ (omega arith))
+    let f = c .before in
+    let s = entry f .pre in
+    let g = lower f (c .match .keys3) in
+    let x = x-is f in
+    let y = y-is f in
+    record { rows = record { begin = omega arith; first = omega arith; second = omega arith }; inside = s .inside _ (omega arith) }
 
 choice-row-requires : tie.Need-choice-row-requires
 choice-row-requires c κs =
-    let s = c .before .before .before .before .before .pre in
-    let g = rw (sym (c .before .before .form-of .ensures .0) ∙ c .before .match .keys4) at (s .formed) in
-    let x = c .before .before .before .node-x .ensures .0 in
-    let y = c .node-y2 .ensures .0 in
-    (omega arith, omega arith, omega arith)
+    let f = c .before in
+    let s = entry f .pre in
+    let g = lower f (c .match .keys4) in
+    let x = x-is f in
+    let y = y-is f in
+    record { begin = omega arith; first = omega arith; second = omega arith }
 
 if-row-requires : tie.Need-if-row-requires
 if-row-requires c κs =
-    let s = c .before .before .before .before .before .before .before .pre in
-    let g = rw (sym (c .before .before .before .before .form-of .ensures .0) ∙ c .before .before .before .match .keys5) at (s .formed) in
-    let x = c .before .before .before .before .before .node-x .ensures .0 in
-    let m = c .node-m .ensures .0 in
-    let y = c .before .node-y3 .ensures .0 in
-    (omega arith, omega arith, omega arith)
+    let f = c .before .before in
+    let s = entry f .pre in
+    let g = lower f (c .before .match .keys5) in
+    let m = m-is f in
+    let y = y-is f in
+    record { begin = omega arith; first = omega arith; second = omega arith }
 
 while-row-requires : tie.Need-while-row-requires
 while-row-requires c κs =
-    let s = c .before .before .before .before .before .before .pre in
-    let g = rw (sym (c .before .before .before .form-of .ensures .0) ∙ c .before .before .match .keys6) at (s .formed) in
-    let x = c .before .before .before .before .node-x .ensures .0 in
-    let y = c .node-y4 .ensures .0 in
-    (omega arith, omega arith, omega arith, omega arith)
+    let f = c .before .before in
+    let s = entry f .pre in
+    let g = lower f (c .before .match .keys6) in
+    let y = y-is f in
+    ((s .begin, s .moments), record { begin = omega arith; first = omega arith; second = omega arith })
 
 start-window-row-requires : tie.Need-start-window-row-requires
 start-window-row-requires c κs =
-    let s = c .before .before .before .before .before .before .before .pre in
-    let g = rw (sym (c .before .before .before .before .form-of .ensures .0) ∙ c .before .before .before .match .keys7) at (s .formed) in
-    let x = c .before .before .before .before .before .node-x .ensures .0 in
-    let k = c .node-n .ensures .0 in
-    let m = c .before .node-m2 .ensures .0 in
-    let y = c .before .before .node-y5 .ensures .0 in
-    (omega arith, omega arith, omega arith, omega arith, omega arith, omega arith)
+    let f = c .before in
+    let s = entry f .pre in
+    let g = lower f (c .match .keys7) in
+    let x = x-is f in
+    let y = y-is f in
+    (record { begin = omega arith; first = omega arith; second = omega arith }, search needs)
 
 end-window-row-requires : tie.Need-end-window-row-requires
 end-window-row-requires c κs =
-    let s = c .before .before .before .before .before .before .before .pre in
-    let g = rw (sym (c .before .before .before .before .form-of .ensures .0) ∙ c .before .before .before .match .keys8) at (s .formed) in
-    let x = c .before .before .before .before .before .node-x .ensures .0 in
-    let k = c .node-n2 .ensures .0 in
-    let m = c .before .node-m3 .ensures .0 in
-    let y = c .before .before .node-y6 .ensures .0 in
-    (omega arith, omega arith, omega arith, omega arith, omega arith, omega arith, s .inside _ (omega arith))
+    let f = c .before in
+    let s = entry f .pre in
+    let g = lower f (c .match .keys8) in
+    let x = x-is f in
+    let y = y-is f in (
+      record { rows = record { begin = omega arith; first = omega arith; second = omega arith }; inside = s .inside _ (omega arith) },
+      search needs,
+    )
+
+-- ---- what each arm gives
 
 returns : tie.Need-returns
-returns c = λ e. rw (sym (c .before .before .before .before .form-of .ensures .0) ∙ c .before .before .before .match .keys1, ← (c .before .before .before .before .before .node-x .ensures .0)) (c .act-row .ensures e)
+returns c = let a = c .before .before .before in λ e. rw (form-is (a .before) (a .match .keys1), ← x-is (a .before)) (c .act-row .ensures e)
 
 returns-2 : tie.Need-returns-2
-returns-2 c = λ e. rw (sym (c .before .before .before .form-of .ensures .0) ∙ c .before .before .match .keys2, ← (c .before .before .before .before .node-x .ensures .0)) (c .test-row .ensures e)
+returns-2 c = let a = c .before .before in λ e. rw (form-is (a .before) (a .match .keys2), ← x-is (a .before)) (c .test-row .ensures e)
 
 returns-3 : tie.Need-returns-3
-returns-3 c = λ e. rw (sym (c .before .before .before .form-of .ensures .0) ∙ c .before .before .match .keys3, ← (c .before .node-y .ensures .0), ← (c .before .before .before .before .node-x .ensures .0)) (c .sequence-row .ensures e)
+returns-3 c = let a = c .before in λ e. rw (form-is (a .before) (a .match .keys3), ← y-is (a .before), ← x-is (a .before)) (c .sequence-row .ensures e)
 
 returns-4 : tie.Need-returns-4
-returns-4 c = λ e. rw (sym (c .before .before .before .form-of .ensures .0) ∙ c .before .before .match .keys4, ← (c .before .node-y2 .ensures .0), ← (c .before .before .before .before .node-x .ensures .0)) (c .choice-row .ensures e)
+returns-4 c = let a = c .before in λ e. rw (form-is (a .before) (a .match .keys4), ← y-is (a .before), ← x-is (a .before)) (c .choice-row .ensures e)
 
 returns-5 : tie.Need-returns-5
-returns-5 c = λ e. rw (sym (c .before .before .before .before .before .form-of .ensures .0) ∙ c .before .before .before .before .match .keys5, ← (c .before .node-m .ensures .0), ← (c .before .before .node-y3 .ensures .0), ← (c .before .before .before .before .before .before .node-x .ensures .0)) (c .if-row .ensures e)
+returns-5 c = let a = c .before .before in λ e. rw (form-is (a .before) (a .match .keys5), ← m-is (a .before), ← y-is (a .before), ← x-is (a .before)) (c .if-row .ensures e)
 
 returns-6 : tie.Need-returns-6
-returns-6 c = λ e. rw (sym (c .before .before .before .before .form-of .ensures .0) ∙ c .before .before .before .match .keys6, ← (c .before .node-y4 .ensures .0), ← (c .before .before .before .before .before .node-x .ensures .0)) (c .while-row .ensures e)
+returns-6 c = let a = c .before .before in λ e. rw (form-is (a .before) (a .match .keys6), ← y-is (a .before), ← x-is (a .before)) (c .while-row .ensures e)
 
 returns-7 : tie.Need-returns-7
-returns-7 c = λ e. rw (sym (c .before .before .before .before .before .form-of .ensures .0) ∙ c .before .before .before .before .match .keys7, ← (c .before .node-n .ensures .0), ← (c .before .before .node-m2 .ensures .0), ← (c .before .before .before .node-y5 .ensures .0), ← (c .before .before .before .before .before .before .node-x .ensures .0)) (c .start-window-row .ensures e)
+returns-7 c = let a = c .before in λ e.
+    rw (form-is (a .before) (a .match .keys7), ← n-is (a .before), ← m-is (a .before), ← y-is (a .before), ← x-is (a .before)) (c .start-window-row .ensures e)
 
 returns-8 : tie.Need-returns-8
-returns-8 c = λ e. rw (sym (c .before .before .before .before .before .form-of .ensures .0) ∙ c .before .before .before .before .match .keys8, ← (c .before .node-n2 .ensures .0), ← (c .before .before .node-m3 .ensures .0), ← (c .before .before .before .node-y6 .ensures .0), ← (c .before .before .before .before .before .before .node-x .ensures .0)) (c .end-window-row .ensures e)
+returns-8 c = let a = c .before in λ e.
+    rw (form-is (a .before) (a .match .keys8), ← n-is (a .before), ← m-is (a .before), ← y-is (a .before), ← x-is (a .before)) (c .end-window-row .ensures e)
 
 returns-9 : tie.Need-returns-9
-returns-9 c = absurd (c .before .before .before .before .pre .single (ap formNumber (sym (c .before .form-of .ensures .0) ∙ c .match .keys9)))
+returns-9 c = absurd (entry (c .before) .pre .single (ap formNumber (form-is (c .before) (c .match .keys9))))
 
 returns-10 : tie.Need-returns-10
 returns-10 c =
+    let f = c .before .before in
     let r = c .before .match .rest in
-    let none = no-form (c .before .before .form-of .result) (r .0 .0 .0 .0 .0 .0 .0 .0 .1) (r .0 .0 .0 .0 .0 .0 .0 .1) (r .0 .0 .0 .0 .0 .0 .1) (r .0 .0 .0 .0 .0 .1) (r .0 .0 .0 .0 .1) (r .0 .0 .0 .1) (r .0 .0 .1) (r .0 .1) (r .1) in
-    λ e. rw (rw (c .before .before .form-of .ensures .0) at none) (in-none (λ e z. z) e)
+    let none = no-form (f .form-of .result) (r .0 .0 .0 .0 .0 .0 .0 .0 .1) (r .0 .0 .0 .0 .0 .0 .0 .1) (r .0 .0 .0 .0 .0 .0 .1) (r .0 .0 .0 .0 .0 .1) (r .0 .0 .0 .0 .1) (r .0 .0 .0 .1) (r .0 .0 .1) (r .0 .1) (r .1) in
+    λ e. rw (rw (f .form-of .ensures .0) at none) (in-none (λ e z. z) e)
 
 returns-11 : tie.Need-returns-11
 returns-11 c = absurd (omega (arith, c .before .before .form-of .ensures .1))
@@ -103,6 +139,9 @@ row-spec =
     (tie.spec
     (λ c κs. search needs)
     (λ c κs. search needs)
+    (λ c κs. search needs)
+    (λ c κs. search needs)
+    (λ c κs. search needs)
     (λ c. search needs)
     (λ c. search needs)
     (λ c. search needs)
@@ -111,29 +150,18 @@ row-spec =
     (λ c. search needs)
     (λ c. search needs)
     (λ c. search needs)
-    (λ c κs. search needs)
     (λ c κs. search needs)
     sequence-row-requires
-    (λ c κs. search needs)
     choice-row-requires
     (λ c. search needs)
     (λ c. search needs)
     (λ c. search needs)
-    (λ c κs. search needs)
-    (λ c κs. search needs)
     if-row-requires
     (λ c. search needs)
     (λ c. search needs)
     (λ c. search needs)
-    (λ c κs. search needs)
     while-row-requires
-    (λ c κs. search needs)
-    (λ c κs. search needs)
-    (λ c κs. search needs)
     start-window-row-requires
-    (λ c κs. search needs)
-    (λ c κs. search needs)
-    (λ c κs. search needs)
     end-window-row-requires
     returns
     returns-2

@@ -1,12 +1,12 @@
 -- `reading::rows::sequence_row` meets its contract. Assumes nothing.
-use Rattle.reading.proofs.Members.{in-joined}
+use Rattle.bitset.proofs.In.{in-joined}
 use borrow.Author.Needs.{needs}
 use Rattle.reading.proofs.rows.sequence_row.Statement.{statement}
 use Rattle.reading.proofs.rows.sequence_row.Tie as tie
 
 returns : tie.Need-returns
 returns c = λ e. let j = in-joined (c .join-rows .ensures) e in (
-  λ t. let r = j .0 t in let i = c .before .before .before .pre .3 (r .0) (r .1) in (r .0, i .0, i .1, r .1, r .2),
+  λ t. let r = j .0 t in let i = c .before .before .before .pre .inside (r .0) (r .1) in (r .0, i .0, i .1, r .1, r .2),
   λ r. j .1 (r .0, r .3, r .4),
 )
 

@@ -1,6 +1,6 @@
 -- `reading::rows::start_window_row` meets its contract. Assumes nothing.
 use native.Mathlib.Omega.{arith}
-use Rattle.reading.proofs.Members.{in-joined, in-max}
+use Rattle.bitset.proofs.In.{in-joined, in-max}
 use borrow.Author.Needs.{needs}
 use Rattle.reading.proofs.rows.start_window_row.Statement.{statement}
 use Rattle.reading.proofs.rows.start_window_row.Tie as tie

@@ -1,5 +1,5 @@
 -- `reading::rows::test_row` meets its contract. Assumes nothing.
-use Rattle.sets.proofs.Laws.{in-none, in-single}
+use Rattle.bitset.proofs.In.{in-none, in-single}
 use borrow.Author.Needs.{needs}
 use Rattle.reading.proofs.rows.test_row.Statement.{statement}
 use Rattle.reading.proofs.rows.test_row.Tie as tie

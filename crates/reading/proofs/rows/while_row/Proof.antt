@@ -1,8 +1,7 @@
 -- `reading::rows::while_row` meets its contract: one case for each value of the formula. Assumes nothing.
 use native.Mathlib.Omega.{arith}
 use mathlib.Core.Logic.{inl, inr, ⊎-elim}
-use Rattle.sets.proofs.Laws.{in-none, in-single, in-both}
-use Rattle.reading.proofs.Members.{in-joined}
+use Rattle.bitset.proofs.In.{in-none, in-single, in-both, in-joined}
 use borrow.Author.Needs.{needs}
 use Rattle.reading.proofs.rows.while_row.Statement.{statement}
 use Rattle.reading.proofs.rows.while_row.Tie as tie

@@ -1,6 +1,6 @@
 -- `reading::rows::window` meets its contract. Assumes nothing.
 use native.Mathlib.Omega.{arith}
-use Rattle.sets.proofs.Laws.{in-none, in-between}
+use Rattle.bitset.proofs.In.{in-none, in-between}
 use borrow.Author.Needs.{needs}
 use Rattle.reading.proofs.rows.window.Statement.{statement}
 use Rattle.reading.proofs.rows.window.Tie as tie

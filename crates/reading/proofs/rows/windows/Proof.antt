@@ -1,16 +1,16 @@
 -- `reading::rows::windows` meets its contract: each turn moves the window after the lowest member of `left` over; the measure is how many are left. Assumes nothing.
 use Rattle.bitset.specs.Members.{popCount}
 use native.Mathlib.Omega.{arith}
-use Rattle.reading.proofs.Members.{Split, split-start, split-turn, split-end}
+use Rattle.reading.proofs.Windows.{Split, split-start, split-turn, split-end}
 use borrow.Author.Needs.{needs}
 use Rattle.reading.proofs.rows.windows.Statement.{statement}
 use Rattle.reading.proofs.rows.windows.Tie as tie
 
 abbrev Inv-loop : tie.InvT-loop
-Inv-loop ends low high n found₀ left₀ found left = Split ends low high n found left
+Inv-loop ends least most last found₀ left₀ found left = Split ends least most last found left
 
 abbrev μ-loop : tie.MeasureT-loop
-μ-loop ends low high n found₀ left₀ found left = popCount left
+μ-loop ends least most last found₀ left₀ found left = popCount left
 
 loop-holds : tie.Need-loop-holds Inv-loop μ-loop
 loop-holds c = split-start

@@ -1,34 +1,64 @@
--- `reading::table::fill_node` meets its contract. Assumes nothing.
-use lib.ListN.{getD}
-use Rattle.reading.proofs.Forms.{form-number}
-use Rattle.reading.proofs.Nodes.{same-ready, same-rows, part-ready, part-rows}
-use Rattle.reading.specs.World.{alone, procedureAt, trajectoryAt}
-use mathlib.Core.Path.{refl, sym, _∙_}
+-- `reading::table::fill_node` meets its contract: a task set's rows, or those of a node that its word alone tells how to read. Assumes nothing.
+use mathlib.Core.Path.{_≡_, refl, sym, ap, _∙_}
 use native.Mathlib.Omega.{arith}
+use lib.ListN.{getD}
 use denote.Ref.{now}
+use Rattle.model.specs.Procedure.{Procedure}
+use Rattle.model.specs.Trajectory.{Trajectory}
+use Rattle.model.specs.Forms.{Set, formNumber, formAt}
+use Rattle.model.specs.Arrays.{alone, procedureAt, trajectoryAt}
+use Rattle.model.proofs.Forms.{form-number}
+use Rattle.reading.proofs.Nodes.{same-ready, same-rows, set-ready, set-node}
 use borrow.Author.Needs.{needs}
 use Rattle.reading.proofs.table.fill_node.Statement.{statement}
 use Rattle.reading.proofs.table.fill_node.Tie as tie
 
-set-rows-requires : tie.Need-set-rows-requires
-set-rows-requires c κs =
-    let s = c .before .before .before .before .before .before .before .before .before .before .before in
-    part-ready (now (s .args .words)) (now (s .args .places)) (now (s .args .sizes)) (now (s .args .limits)) (now (s .args .starts)) (now (s .args .durations)) (now (s .args .values)) (s .args .n) (s .args .p) (sym (c .before .before .before .before .before .before .form-of .ensures .0) ∙ c .before .before .before .before .before .if1 .taken) (s .pre .2)
+-- the function's entry, seen from the form
+abbrev entry : tie.After-form-of → tie.Start
+entry f = f .before .before .before .before .before
+
+abbrev procedure : tie.Start → Procedure
+procedure s = procedureAt (now (s .args .words)) (now (s .args .places)) 64
+
+abbrev own : tie.Start → Procedure
+own s = alone (getD (now (s .args .words)) (getD (now (s .args .places)) (s .args .p) 0) 0)
+
+abbrev trajectory : tie.Start → Trajectory
+trajectory s = trajectoryAt (now (s .args .starts)) (now (s .args .durations)) (now (s .args .values)) (s .args .last)
+
+-- where the form is 8, or is not
+is-set : (f : tie.After-form-of) → f .form-of .result ≡ 8 → formAt (procedure (entry f)) (entry f .args .p) ≡ Set
+is-set f e = ap formNumber (sym (f .form-of .ensures .0) ∙ e)
+
+no-set : (f : tie.After-form-of) → (f .form-of .result ≡ 8 → ⊥) → formAt (procedure (entry f)) (entry f .args .p) ≡ Set → ⊥
+no-set f n q = n (f .form-of .ensures .0 ∙ form-number _ q (omega arith))
+
+fill-set-requires : tie.Need-fill-set-requires
+fill-set-requires c κs =
+    let f = c .before .before in
+    let s = entry f in
+    (s .pre .0 .1, set-ready (procedure s) (trajectory s) (s .args .p) (is-set f (c .before .if1 .taken)) (s .pre .1))
 
 fill-rows-requires : tie.Need-fill-rows-requires
 fill-rows-requires c κs =
-    let s = c .before .before .before .before .before .before .before in
-    (same-ready (procedureAt 64 (now (s .args .words)) (now (s .args .places)) (now (s .args .sizes)) (now (s .args .limits))) (alone (getD (now (s .args .words)) (getD (now (s .args .places)) (s .args .p) 0) 0)) (trajectoryAt (s .args .n) (now (s .args .starts)) (now (s .args .durations)) (now (s .args .values))) (s .args .p) refl (λ f. absurd (c .before .if1 .left (c .before .before .form-of .ensures .0 ∙ form-number _ f (omega arith)))) (s .pre .2), λ f. c .before .if1 .left (c .before .before .form-of .ensures .0 ∙ form-number _ f (omega arith)))
+    let f = c .before .before in
+    let s = entry f in
+    let other = no-set f (c .before .if1 .left) in
+    (same-ready (procedure s) (own s) (trajectory s) (s .args .p) refl (λ q. absurd (other q)) (s .pre .1), other)
 
 returns : tie.Need-returns
 returns c =
-    let s = c .before .before .before .before .before .before .before .before .before .before .before .before .before .before in
-    part-rows (now (s .args .words)) (now (s .args .places)) (now (s .args .sizes)) (now (s .args .limits)) (now (s .args .starts)) (now (s .args .durations)) (now (s .args .values)) (s .args .n) (s .args .p) (sym (c .before .before .before .before .before .before .before .before .before .form-of .ensures .0) ∙ c .before .before .before .before .before .before .before .before .if1 .taken) (s .pre .2) (c .before .before .set-rows .ensures)
+    let i = c .before .before .before .before in
+    let f = i .before in
+    let s = entry f in
+    set-node (procedure s) (trajectory s) (s .args .p) (is-set f (i .if1 .taken)) (s .pre .1) (c .before .before .fill-set .ensures)
 
 returns-2 : tie.Need-returns-2
 returns-2 c =
-    let s = c .before .before .before .before .before .before .before .before .before .before in
-    same-rows (procedureAt 64 (now (s .args .words)) (now (s .args .places)) (now (s .args .sizes)) (now (s .args .limits))) (alone (getD (now (s .args .words)) (getD (now (s .args .places)) (s .args .p) 0) 0)) (trajectoryAt (s .args .n) (now (s .args .starts)) (now (s .args .durations)) (now (s .args .values))) (s .args .p) refl (λ f. absurd (c .before .before .before .before .if1 .left (c .before .before .before .before .before .form-of .ensures .0 ∙ form-number _ f (omega arith)))) (c .before .before .fill-rows .ensures)
+    let i = c .before .before .before .before in
+    let f = i .before in
+    let s = entry f in
+    same-rows (procedure s) (own s) (trajectory s) (s .args .p) refl (λ q. absurd (no-set f (i .if1 .left) q)) (c .before .before .fill-rows .ensures)
 
 pub fill-node-spec : {M : Type 1} → statement M
 fill-node-spec =
@@ -39,23 +69,7 @@ fill-node-spec =
     (λ c. search needs)
     (λ c. search needs)
     (λ c κs. search needs)
-    (λ c. search needs)
-    (λ c. search needs)
-    (λ c. search needs)
-    (λ c. search needs)
-    (λ c. search needs)
-    (λ c. search needs)
-    (λ c. search needs)
-    (λ c. search needs)
-    (λ c. search needs)
-    (λ c. search needs)
-    (λ c. search needs)
-    (λ c. search needs)
-    (λ c. search needs)
-    (λ c. search needs)
-    (λ c. search needs)
-    (λ c. search needs)
-    set-rows-requires
+    fill-set-requires
     fill-rows-requires
     (λ c. search needs)
     returns

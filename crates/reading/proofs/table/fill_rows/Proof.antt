@@ -1,6 +1,6 @@
 -- `reading::table::fill_rows` meets its contract. The invariant: the rows of p from b on are there. Assumes nothing.
 use Rattle.reading.proofs.Tables.{RowsFrom, rows-start, rows-end, row-ready, rows-more}
-use Rattle.reading.specs.World.{alone, trajectoryAt}
+use Rattle.model.specs.Arrays.{alone, trajectoryAt}
 use native.Mathlib.Omega.{arith}
 use Prim.Native.Nat.{_+_, _≤_}
 use borrow.Author.Needs.{needs}
@@ -8,10 +8,10 @@ use Rattle.reading.proofs.table.fill_rows.Statement.{statement}
 use Rattle.reading.proofs.table.fill_rows.Tie as tie
 
 abbrev Inv-loop : tie.InvT-loop
-Inv-loop word starts durations values p n table₀ b₀ table b = (b ≤ n + 1) × RowsFrom (alone word) (trajectoryAt n starts durations values) p table₀ table b
+Inv-loop word starts durations values last p table₀ b₀ table b = (b ≤ last + 1) × RowsFrom (alone word) (trajectoryAt starts durations values last) p table₀ table b
 
 abbrev μ-loop : tie.MeasureT-loop
-μ-loop word starts durations values p n table₀ b₀ table b = b
+μ-loop word starts durations values last p table₀ b₀ table b = b
 
 loop-holds : tie.Need-loop-holds Inv-loop μ-loop
 loop-holds c = (omega arith, rows-start)

@@ -1,9 +1,11 @@
 -- `reading::table::fill_table` meets its contract. The invariant: the rows of the nodes below p are right, and every other row is empty. Assumes nothing.
 use Rattle.reading.proofs.Nodes.{same-ready, same-rows}
 use Rattle.reading.proofs.Tables.{Built, built-start, built-ready, built-more, built-end}
-use Rattle.reading.specs.World.{procedureAt, trajectoryAt}
+use Rattle.model.specs.Procedure.{Procedure}
+use Rattle.model.specs.Trajectory.{Trajectory}
+use Rattle.model.specs.Arrays.{procedureAt, trajectoryAt}
 use mathlib.Core.Path.{refl, sym, _∙_}
-use Prim.Native.Nat.{_-_, _≤_}
+use Prim.Native.Nat.{ℕ, _-_, _≤_}
 use native.Mathlib.Omega.{arith}
 use denote.Ref.{now}
 use borrow.Author.Needs.{needs}
@@ -11,10 +13,18 @@ use Rattle.reading.proofs.table.fill_table.Statement.{statement}
 use Rattle.reading.proofs.table.fill_table.Tie as tie
 
 abbrev Inv-loop : tie.InvT-loop
-Inv-loop words places sizes limits count starts durations values n table₀ p₀ table p = (p ≤ count) × Built (procedureAt count words places sizes limits) (trajectoryAt n starts durations values) table p
+Inv-loop words places count starts durations values last table₀ p₀ table p =
+    (p ≤ count) × Built (procedureAt words places count) (trajectoryAt starts durations values last) table p
 
 abbrev μ-loop : tie.MeasureT-loop
-μ-loop words places sizes limits count starts durations values n table₀ p₀ table p = count - p
+μ-loop words places count starts durations values last table₀ p₀ table p = count - p
+
+-- the procedure by so many nodes, and the trajectory
+abbrev procedure : tie.Start Inv-loop μ-loop → ℕ → Procedure
+procedure s count = procedureAt (now (s .args .words)) (now (s .args .places)) count
+
+abbrev trajectory : tie.Start Inv-loop μ-loop → Trajectory
+trajectory s = trajectoryAt (now (s .args .starts)) (now (s .args .durations)) (now (s .args .values)) (s .args .last)
 
 loop-holds : tie.Need-loop-holds Inv-loop μ-loop
 loop-holds c = (omega arith, built-start (c .before .before .pre .1))
@@ -23,15 +33,20 @@ fill-node-requires : tie.Need-fill-node-requires Inv-loop μ-loop
 fill-node-requires c κs =
     let s = c .before .before .before .before .before in
     let g = s .pre .0 in
-    let v = c .before .before .loop in
-    (omega (arith, g .few), g .inside (v .p) (omega arith), same-ready (procedureAt (s .args .count) (now (s .args .words)) (now (s .args .places)) (now (s .args .sizes)) (now (s .args .limits))) (procedureAt 64 (now (s .args .words)) (now (s .args .places)) (now (s .args .sizes)) (now (s .args .limits))) (trajectoryAt (s .args .n) (now (s .args .starts)) (now (s .args .durations)) (now (s .args .values))) (v .p) refl (λ f. (refl, refl)) (built-ready g (omega arith) (v .inv .1)))
+    let v = c .before .before .loop in (
+      (omega (arith, g .few), g .inside (v .p) (omega arith)),
+      same-ready (procedure s (s .args .count)) (procedure s 64) (trajectory s) (v .p) refl (λ f. (refl, refl)) (built-ready g (omega arith) (v .inv .1)),
+    )
 
 loop-again : tie.Need-loop-again Inv-loop μ-loop
 loop-again c =
     let s = c .before .before .before .before .before .before .before .before in
     let g = s .pre .0 in
-    let v = c .before .before .before .before .before .loop in
-    (omega arith, built-more (g .moments) (g .formed (v .p) (omega arith)) (v .inv .1) (same-rows (procedureAt (s .args .count) (now (s .args .words)) (now (s .args .places)) (now (s .args .sizes)) (now (s .args .limits))) (procedureAt 64 (now (s .args .words)) (now (s .args .places)) (now (s .args .sizes)) (now (s .args .limits))) (trajectoryAt (s .args .n) (now (s .args .starts)) (now (s .args .durations)) (now (s .args .values))) (v .p) refl (λ f. (refl, refl)) (c .before .before .fill-node .ensures)) (search needs))
+    let v = c .before .before .before .before .before .loop in (
+      omega arith,
+      built-more (g .moments) (g .formed (v .p) (omega arith) .lower) (v .inv .1)
+          (same-rows (procedure s (s .args .count)) (procedure s 64) (trajectory s) (v .p) refl (λ f. (refl, refl)) (c .before .before .fill-node .ensures)) (search needs),
+    )
 
 same-length : tie.Need-same-length Inv-loop μ-loop
 same-length c = c .before .loop .inv .1 .size ∙ sym (c .before .before .before .before .pre .1 .size)

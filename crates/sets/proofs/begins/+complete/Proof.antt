@@ -12,9 +12,11 @@ use borrow.Fn.PlainCycle.{Measures, is, falls, and}
 use borrow.Author.Tests.{not-false}
 use Rattle.bitset.specs.Members.{In as In-mask}
 use Rattle.words.specs.Fields.{memberNode}
-use Rattle.sets.specs.Ends.{taskSetOf, entryAt, InTable}
+use Rattle.sets.specs.Ends.{taskSetOf, entryAt}
+use Rattle.model.specs.Table.{InTable}
 use Rattle.sets.specs.Search.{Searching}
-use Rattle.sets.proofs.Laws.{in-union, no-gain, gain-turn}
+use Rattle.sets.proofs.Laws.{no-gain, gain-turn}
+use Rattle.bitset.proofs.In.{in-union}
 use Rattle.sets.proofs.Search.{CompletedTo, to-none, turn, none, leaf-at, search-begin, search-next}
 use Rattle.sets.proofs.begins.complete.Reads as own
 use Rattle.sets.proofs.begins.complete.Kinds as kinds

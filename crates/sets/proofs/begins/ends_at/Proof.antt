@@ -1,5 +1,5 @@
 -- `sets::begins::ends_at` meets its contract. Assumes nothing.
-use Rattle.sets.proofs.Laws.{in-both, in-between}
+use Rattle.bitset.proofs.In.{in-both, in-between}
 use borrow.Author.Needs.{needs}
 use Rattle.sets.proofs.begins.ends_at.Statement.{statement}
 use Rattle.sets.proofs.begins.ends_at.Tie as tie

@@ -3,9 +3,10 @@ use Prim.Native.Nat.{ℕ, _+_, _-_, _≤_}
 use mathlib.Core.Logic.{_↔_}
 use native.Mathlib.Omega.{arith}
 use Rattle.bitset.specs.Members.{In}
-use Rattle.sets.specs.Ends.{InTable}
+use Rattle.model.specs.Table.{InTable}
 use Rattle.sets.specs.Search.{Begun}
-use Rattle.sets.proofs.Laws.{in-none, in-more, gain}
+use Rattle.sets.proofs.Laws.{gain}
+use Rattle.bitset.proofs.In.{in-none, in-more}
 use Rattle.sets.proofs.Gaps.{begun-none, begun-more, begun-upto}
 use borrow.Author.Needs.{needs}
 use Rattle.sets.proofs.begins.ends_from.Statement.{statement}

@@ -1,6 +1,6 @@
 -- `sets::begins::next_gap` meets its contract. Assumes nothing.
 use mathlib.Core.Logic.{inl, inr, ⊎-elim}
-use Rattle.sets.proofs.Laws.{in-union}
+use Rattle.bitset.proofs.In.{in-union}
 use borrow.Author.Needs.{needs}
 use Rattle.sets.proofs.begins.next_gap.Statement.{statement}
 use Rattle.sets.proofs.begins.next_gap.Tie as tie

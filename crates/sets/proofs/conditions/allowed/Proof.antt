@@ -7,8 +7,9 @@ use native.Mathlib.Omega.{arith}
 use Rattle.bitset.proofs.Bools.{not-both}
 use Rattle.bitset.specs.Members.{In}
 use Rattle.sets.specs.Set.{MetAt}
-use Rattle.sets.specs.Ends.{valueIn}
-use Rattle.sets.proofs.Laws.{in-none, in-more, in-single, gain, gain-yes, gain-no}
+use Rattle.model.specs.Arrays.{valueIn}
+use Rattle.sets.proofs.Laws.{gain, gain-yes, gain-no}
+use Rattle.bitset.proofs.In.{in-none, in-more, in-single}
 use borrow.Author.Needs.{needs}
 use Rattle.sets.proofs.conditions.allowed.Statement.{statement}
 use Rattle.sets.proofs.conditions.allowed.Tie as tie

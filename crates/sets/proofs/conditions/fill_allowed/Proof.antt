@@ -9,7 +9,7 @@ use lib.ListN.{length, getD, set, length-set}
 use lib.Seq.{getD-set-same, getD-set-other}
 use Rattle.bitset.specs.Members.{In}
 use Rattle.sets.specs.Set.{MetAt}
-use Rattle.sets.specs.Ends.{valueIn}
+use Rattle.model.specs.Arrays.{valueIn}
 use Rattle.sets.specs.Search.{Allowed}
 use borrow.Author.Needs.{needs}
 use Rattle.sets.proofs.conditions.fill_allowed.Statement.{statement}

@@ -1,20 +1,10 @@
 -- `sets::conditions::met_as` meets its contract: in each arm the condition of the form. Assumes nothing.
-use Prim.Native.Nat.{ℕ, zero, suc}
-use mathlib.Core.Path.{_≡_, refl}
 use mathlib.Core.Bool.{false≢true}
 use native.Mathlib.Omega.{arith}
+use Rattle.model.proofs.Forms.{no-condition}
 use borrow.Author.Needs.{needs}
 use Rattle.sets.proofs.conditions.met_as.Statement.{statement}
 use Rattle.sets.proofs.conditions.met_as.Tie as tie
-
--- any other form
-beyond : (f : ℕ) → (f ≡ 0 → ⊥) → (f ≡ 1 → ⊥) → (f ≡ 2 → ⊥) → (f ≡ 3 → ⊥) → (f ≡ 4 → ⊥) → (g : ℕ) × (f ≡ suc (suc (suc (suc (suc g)))))
-beyond zero a b c d e = absurd (a refl)
-beyond (suc zero) a b c d e = absurd (b refl)
-beyond (suc (suc zero)) a b c d e = absurd (c refl)
-beyond (suc (suc (suc zero))) a b c d e = absurd (d refl)
-beyond (suc (suc (suc (suc zero)))) a b c d e = absurd (e refl)
-beyond (suc (suc (suc (suc (suc f))))) a b c d e = (f, refl)
 
 returns : tie.Need-returns
 returns c = rw (c .before .match .keys1) (c .ordered .ensures)
@@ -44,7 +34,7 @@ returns-7 : tie.Need-returns-7
 returns-7 c = rw (c .before .match .keys5) (c .holds-through3 .ensures)
 
 returns-8 : tie.Need-returns-8
-returns-8 c = let m = c .match .rest in let q = beyond _ (m .0 .0 .0 .0 .1) (m .0 .0 .0 .1) (m .0 .0 .1) (m .0 .1) (m .1) in rw (q .1) (λ z. absurd (false≢true z), λ h. absurd h)
+returns-8 c = let m = c .match .rest in let q = no-condition _ (m .0 .0 .0 .0 .1) (m .0 .0 .0 .1) (m .0 .0 .1) (m .0 .1) (m .1) in rw q (λ z. absurd (false≢true z), λ h. absurd h)
 
 pub met-as-spec : {M : Type 1} → statement M
 met-as-spec =

@@ -7,7 +7,7 @@ use lib.ListN.{length, length-set}
 use Rattle.bitset.proofs.Bools.{not-both}
 use Rattle.sets.specs.Ends.{entryAt}
 use Rattle.sets.specs.Search.{Narrowed}
-use Rattle.sets.proofs.Laws.{in-both}
+use Rattle.bitset.proofs.In.{in-both}
 use Rattle.sets.proofs.Masks.{narrow-more, narrow-skip}
 use borrow.Author.Needs.{needs}
 use Rattle.sets.proofs.conditions.narrow.Statement.{statement}

@@ -1,6 +1,6 @@
 -- `sets::conditions::own_mask` meets its contract. Assumes nothing.
 use mathlib.Core.Path.{sym, _∙_}
-use Rattle.sets.proofs.Laws.{in-both}
+use Rattle.bitset.proofs.In.{in-both}
 use borrow.Author.Needs.{needs}
 use Rattle.sets.proofs.conditions.own_mask.Statement.{statement}
 use Rattle.sets.proofs.conditions.own_mask.Tie as tie

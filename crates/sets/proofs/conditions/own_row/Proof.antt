@@ -6,7 +6,7 @@ use native.Mathlib.Omega.{arith}
 use lib.ListN.{length}
 use Rattle.bitset.specs.Members.{In}
 use Rattle.sets.specs.Search.{Possible}
-use Rattle.sets.proofs.Laws.{in-both, in-below}
+use Rattle.bitset.proofs.In.{in-both, in-below}
 use Rattle.sets.proofs.Own.{possible-skip, possible-more}
 use borrow.Author.Needs.{needs}
 use Rattle.sets.proofs.conditions.own_row.Statement.{statement}

@@ -5,7 +5,8 @@ use native.Mathlib.Omega.{arith}
 use Rattle.bitset.specs.Members.{In}
 use Rattle.sets.specs.Cover.{Some, Reaches}
 use Rattle.sets.specs.Ends.{entryAt}
-use Rattle.sets.proofs.Laws.{in-union, in-none, in-more, in-both, in-from, some-none, some-more}
+use Rattle.sets.proofs.Laws.{some-none, some-more}
+use Rattle.bitset.proofs.In.{in-union, in-none, in-more, in-both, in-from}
 use Rattle.sets.proofs.Needs.{reaches, all-more}
 use borrow.Author.Needs.{needs}
 use Rattle.sets.proofs.covering.attained.Statement.{statement}

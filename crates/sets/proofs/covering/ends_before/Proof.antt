@@ -5,7 +5,8 @@ use native.Mathlib.Omega.{arith}
 use Rattle.bitset.specs.Members.{In}
 use Rattle.sets.specs.Cover.{Some}
 use Rattle.sets.specs.Ends.{entryAt}
-use Rattle.sets.proofs.Laws.{in-union, in-none, in-more, some-none, some-more, gain-yes, gain-no}
+use Rattle.sets.proofs.Laws.{some-none, some-more, gain-yes, gain-no}
+use Rattle.bitset.proofs.In.{in-union, in-none, in-more}
 use borrow.Author.Needs.{needs}
 use Rattle.sets.proofs.covering.ends_before.Statement.{statement}
 use Rattle.sets.proofs.covering.ends_before.Tie as tie

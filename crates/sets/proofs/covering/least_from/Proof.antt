@@ -7,7 +7,7 @@ use Rattle.bitset.specs.Members.{has, In}
 use Rattle.bitset.proofs.Bools.{not-both}
 use Rattle.bitset.proofs.Digits.{has-zero}
 use Rattle.bitset.proofs.Ends.{lowest-le}
-use Rattle.sets.proofs.Laws.{in-both, in-from, in-below}
+use Rattle.bitset.proofs.In.{in-both, in-from, in-below}
 use borrow.Author.Needs.{needs}
 use Rattle.sets.proofs.covering.least_from.Statement.{statement}
 use Rattle.sets.proofs.covering.least_from.Tie as tie

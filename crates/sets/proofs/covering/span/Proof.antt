@@ -7,7 +7,7 @@ use native.Mathlib.Decide.{decLe}
 use native.Mathlib.Omega.{arith}
 use Rattle.bitset.specs.Members.{has, Highest, HighestUpto}
 use Rattle.bitset.proofs.Bools.{not-both}
-use Rattle.sets.proofs.Laws.{in-below, in-between, in-none}
+use Rattle.bitset.proofs.In.{in-below, in-between, in-none}
 use borrow.Author.Needs.{needs}
 use Rattle.sets.proofs.covering.span.Statement.{statement}
 use Rattle.sets.proofs.covering.span.Tie as tie

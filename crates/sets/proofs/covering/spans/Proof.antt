@@ -5,7 +5,8 @@ use native.Mathlib.Omega.{arith}
 use Rattle.bitset.specs.Members.{In}
 use Rattle.sets.specs.Cover.{Some, Spans}
 use Rattle.sets.specs.Ends.{entryAt}
-use Rattle.sets.proofs.Laws.{in-none, in-more, some-none, some-more, gain}
+use Rattle.sets.proofs.Laws.{some-none, some-more, gain}
+use Rattle.bitset.proofs.In.{in-none, in-more}
 use borrow.Author.Needs.{needs}
 use Rattle.sets.proofs.covering.spans.Statement.{statement}
 use Rattle.sets.proofs.covering.spans.Tie as tie

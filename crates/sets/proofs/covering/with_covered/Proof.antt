@@ -3,7 +3,8 @@ use Prim.Native.Nat.{ℕ}
 use mathlib.Core.Path.{subst}
 use mathlib.Core.Logic.{inl, inr, ⊎-elim}
 use Rattle.bitset.specs.Members.{In}
-use Rattle.sets.proofs.Laws.{in-union, gain}
+use Rattle.sets.proofs.Laws.{gain}
+use Rattle.bitset.proofs.In.{in-union}
 use borrow.Author.Needs.{needs}
 use Rattle.sets.proofs.covering.with_covered.Statement.{statement}
 use Rattle.sets.proofs.covering.with_covered.Tie as tie

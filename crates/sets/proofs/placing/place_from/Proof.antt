@@ -6,7 +6,8 @@ use native.Mathlib.Omega.{arith}
 use lib.ListN.{length, set, length-set, length-map}
 use lib.Seq.{getD-set-same}
 use Rattle.words.specs.Fields.{memberNode}
-use Rattle.sets.specs.Ends.{taskSetOf, entryAt, InTable}
+use Rattle.sets.specs.Ends.{taskSetOf, entryAt}
+use Rattle.model.specs.Table.{InTable}
 use Rattle.sets.specs.Search.{Searching, Completed}
 use Rattle.sets.proofs.Search.{nothing-placed, node-rows, later-start, search-start, search-begin, search-next, some-end, placed-at}
 use borrow.Author.Needs.{needs}

@@ -1,0 +1,228 @@
+-- `extract::parts::choose_parts` meets its contract: in each arm the rule of the form gives what the search asks, and what it finds is a
+-- choice of parts. Assumes nothing.
+use mathlib.Core.Path.{_≡_, sym, ap, _∙_}
+use Prim.Native.Nat.{ℕ, _+_, _*_, _<_}
+use native.Mathlib.Omega.{arith}
+use lib.ListN.{length, getD}
+use denote.Ref.{now}
+use Rattle.words.specs.Fields.{form, nodeX, nodeY, nodeM, nodeN}
+use Rattle.model.specs.Forms.{formNumber}
+use Rattle.model.proofs.Forms.{no-form}
+use Rattle.extract.specs.Search.{Within}
+use Rattle.extract.proofs.Choice.{end-last, act-chosen, test-chosen, reserved-chosen, choice-some, choice-chosen, if-chosen, sequence-some, sequence-chosen, end-some, end-chosen, start-some, start-chosen, set-some, set-chosen}
+use borrow.Author.Needs.{needs}
+use Rattle.extract.proofs.parts.choose_parts.Statement.{statement}
+use Rattle.extract.proofs.parts.choose_parts.Tie as tie
+
+-- the node's place is inside the words, and the moments are below 64
+inside : (s : tie.Start) → getD (now (s .args .places)) (s .args .triple .node) 0 < length (now (s .args .words))
+inside s = let h = s .pre .1 in h .prepared .ready .inside (s .args .triple .node) (h .known)
+
+moments : (s : tie.Start) → (s .args .triple .begin < 64) × (s .args .triple .end < 64)
+moments s =
+    let h = s .pre .1 in
+    let last = h .prepared .ready .moments in
+    let begin = h .within in
+    let end = end-last (h .prepared) (h .known) begin (h .found) in
+    (omega arith, omega arith)
+
+mul-place : tie.Need-mul-place
+mul-place c = let h = c .before .before .pre .1 in omega (arith, h .known, h .prepared .ready .few)
+
+element-copy-out-place : tie.Need-element-copy-out-place
+element-copy-out-place c = let h = c .before .before .pre .1 in omega (arith, h .known, h .prepared .ready .few)
+
+mul-word : tie.Need-mul-word
+mul-word c = omega (arith, inside (c .before .before .before))
+
+shared-slice-read-word : tie.Need-shared-slice-read-word
+shared-slice-read-word c = inside (c .before .before .before .before)
+
+-- the function's entry, seen from the form, and the fields that were read
+abbrev entry : tie.After-form-of → tie.Start
+entry f = f .before .before .before .before .before .before .before .before .before
+
+abbrev wordOf : tie.Start → ℕ
+wordOf s = getD (now (s .args .words)) (getD (now (s .args .places)) (s .args .triple .node) 0) 0
+
+x-is : (f : tie.After-form-of) → f .before .before .before .before .node-x .result ≡ nodeX (wordOf (entry f))
+x-is f = f .before .before .before .before .node-x .ensures .0
+
+y-is : (f : tie.After-form-of) → f .before .before .before .node-y .result ≡ nodeY (wordOf (entry f))
+y-is f = f .before .before .before .node-y .ensures .0
+
+m-is : (f : tie.After-form-of) → f .before .before .node-m .result ≡ nodeM (wordOf (entry f))
+m-is f = f .before .before .node-m .ensures .0
+
+n-is : (f : tie.After-form-of) → f .before .node-n .result ≡ nodeN (wordOf (entry f))
+n-is f = f .before .node-n .ensures .0
+
+form-is : (f : tie.After-form-of) {k : ℕ} → f .form-of .result ≡ k → formNumber (form (wordOf (entry f))) ≡ formNumber k
+form-is f e = ap formNumber (sym (f .form-of .ensures .0) ∙ e)
+
+pair : (f : tie.After-form-of) → Within (now (entry f .args .table)) (f .before .before .before .before .node-x .result) (f .before .before .before .node-y .result) (entry f .args .triple .begin) (entry f .args .triple .end)
+pair f = record {
+  left = f .before .before .before .before .node-x .ensures .1;
+  right = f .before .before .before .node-y .ensures .1;
+  begin = moments (entry f) .0;
+  finish = moments (entry f) .1;
+  size = entry f .pre .1 .prepared .found .size;
+}
+
+-- ---- what each arm asks
+
+sequence-requires : tie.Need-end-window-parts-requires
+sequence-requires c κs =
+    let f = c .before in
+    let h = entry f .pre .1 in
+    record {
+      within = pair f;
+      early = omega arith;
+      late = omega arith;
+      some = sequence-some (h .prepared) (h .known) (h .within) (h .found) (form-is f (c .match .keys3)) (x-is f) (y-is f);
+    }
+
+choice-requires : tie.Need-choice-part-requires
+choice-requires c κs =
+    let f = c .before in
+    let h = entry f .pre .1 in
+    (pair f, choice-some (h .prepared) (h .known) (h .within) (h .found) (form-is f (c .match .keys4)) (x-is f) (y-is f))
+
+add-if-part : tie.Need-add-if-part
+add-if-part c = omega (arith, moments (entry (c .before)) .0, c .before .before .before .before .before .node-x .ensures .1)
+
+element-copy-out-if-part : tie.Need-element-copy-out-if-part
+element-copy-out-if-part c = omega (arith, moments (entry (c .before)) .0, c .before .before .before .before .before .node-x .ensures .1)
+
+if-requires : tie.Need-if-part-requires
+if-requires c κs = moments (entry (c .before .before))
+
+start-requires : tie.Need-start-window-parts-requires
+start-requires c κs =
+    let f = c .before in
+    let h = entry f .pre .1 in
+    record {
+      within = pair f;
+      early = f .before .before .node-m .ensures .1;
+      late = f .before .node-n .ensures .1;
+      some = start-some (h .prepared) (h .known) (h .within) (h .found) (form-is f (c .match .keys7)) (x-is f) (y-is f) (m-is f) (n-is f);
+    }
+
+end-requires : tie.Need-end-window-parts-requires-2
+end-requires c κs =
+    let f = c .before in
+    let h = entry f .pre .1 in
+    record {
+      within = pair f;
+      early = f .before .before .node-m .ensures .1;
+      late = f .before .node-n .ensures .1;
+      some = end-some (h .prepared) (h .known) (h .within) (h .found) (form-is f (c .match .keys8)) (x-is f) (y-is f) (m-is f) (n-is f);
+    }
+
+set-requires : tie.Need-set-parts-requires
+set-requires c κs =
+    let f = c .before in
+    let h = entry f .pre .1 in
+    (inside (entry f), set-some (h .prepared) (h .known) (h .within) (h .found) (form-is f (c .match .keys9)))
+
+-- ---- what each arm gives
+
+act-returns : tie.Need-returns
+act-returns c = λ u h. let a = c .before in
+    rw (c .none .ensures) (act-chosen (h .prepared) (h .known) (h .within) (h .found) (form-is (a .before) (a .match .keys1)))
+
+test-returns : tie.Need-returns-2
+test-returns c = λ u h. let a = c .before in
+    rw (c .none2 .ensures) (test-chosen (h .prepared) (h .known) (h .within) (h .found) (form-is (a .before) (a .match .keys2)))
+
+sequence-returns : tie.Need-returns-3
+sequence-returns c = λ u h.
+    let a = c .before in
+    let f = a .before in
+    let (k, l, found, is) = c .end-window-parts .ensures in
+    rw is (sequence-chosen (h .prepared) (h .known) (h .within) (h .found) (form-is f (a .match .keys3)) (x-is f) (y-is f) found)
+
+choice-returns : tie.Need-returns-4
+choice-returns c = λ u h.
+    let a = c .before in
+    let f = a .before in
+    let (q, which, found, is) = c .choice-part .ensures in
+    rw is (choice-chosen (h .prepared) (h .known) (h .within) (h .found) (form-is f (a .match .keys4)) (x-is f) (y-is f) which found)
+
+if-returns : tie.Need-returns-5
+if-returns c = λ u h.
+    let a = c .before .before in
+    let f = a .before in
+    if-chosen (h .prepared) (h .known) (h .within) (h .found) (form-is f (a .match .keys5))
+    (ap (λ (i : ℕ). getD (now (entry f .args .values)) (i * 64 + entry f .args .triple .begin) 0) (x-is f)) (y-is f) (m-is f) (c .if-part .ensures)
+
+loop-returns : tie.Need-returns-6
+loop-returns c = λ u h. let a = c .before in absurd (h .other (form-is (a .before) (a .match .keys6)))
+
+start-returns : tie.Need-returns-7
+start-returns c = λ u h.
+    let a = c .before in
+    let f = a .before in
+    let (k, m, l, found, is) = c .start-window-parts .ensures in
+    rw is (start-chosen (h .prepared) (h .known) (h .within) (h .found) (form-is f (a .match .keys7)) (x-is f) (y-is f) (m-is f) (n-is f) found)
+
+end-returns : tie.Need-returns-8
+end-returns c = λ u h.
+    let a = c .before in
+    let f = a .before in
+    let (k, l, found, is) = c .end-window-parts2 .ensures in
+    rw is (end-chosen (h .prepared) (h .known) (h .within) (h .found) (form-is f (a .match .keys8)) (x-is f) (y-is f) (m-is f) (n-is f) found)
+
+set-returns : tie.Need-returns-9
+set-returns c = λ u h. let a = c .before in
+    set-chosen (h .prepared) (h .known) (h .within) (h .found) (form-is (a .before) (a .match .keys9)) (c .set-parts .ensures)
+
+reserved-returns : tie.Need-returns-10
+reserved-returns c = λ u h.
+    let a = c .before .before in
+    let f = a .before in
+    let r = a .match .rest in
+    let none = no-form (f .form-of .result) (r .0 .0 .0 .0 .0 .0 .0 .0 .1) (r .0 .0 .0 .0 .0 .0 .0 .1) (r .0 .0 .0 .0 .0 .0 .1) (r .0 .0 .0 .0 .0 .1) (r .0 .0 .0 .0 .1) (r .0 .0 .0 .1) (r .0 .0 .1) (r .0 .1) (r .1) in
+    reserved-chosen (h .prepared) (h .known) (h .within) (h .found) (ap formNumber (sym (f .form-of .ensures .0)) ∙ none)
+
+beyond-returns : tie.Need-returns-11
+beyond-returns c = absurd (omega (arith, c .before .before .before .form-of .ensures .1))
+
+pub choose-parts-spec : {M : Type 1} → statement M
+choose-parts-spec =
+    tie.close
+    (tie.spec
+    mul-place
+    element-copy-out-place
+    mul-word
+    shared-slice-read-word
+    (λ c κs. search needs)
+    (λ c κs. search needs)
+    (λ c κs. search needs)
+    (λ c κs. search needs)
+    (λ c κs. search needs)
+    (λ c κs. search needs)
+    (λ c κs. search needs)
+    sequence-requires
+    choice-requires
+    (λ c. search needs)
+    add-if-part
+    element-copy-out-if-part
+    if-requires
+    (λ c κs. search needs)
+    start-requires
+    end-requires
+    set-requires
+    (λ c κs. search needs)
+    (λ c κs. search needs)
+    act-returns
+    test-returns
+    sequence-returns
+    choice-returns
+    if-returns
+    loop-returns
+    start-returns
+    end-returns
+    set-returns
+    reserved-returns
+    beyond-returns)

@@ -1,0 +1,71 @@
+-- `extract::search::cut` meets its contract. The loop's invariant: every cut is at one of the ends of x that are left. The measure is how many are
+-- left. Assumes nothing.
+use native.Mathlib.Omega.{arith}
+use borrow.Author.Needs.{needs}
+use Rattle.bitset.specs.Members.{popCount}
+use Rattle.extract.proofs.Searches.{Left, left-start, left-found, left-turn, left-none}
+use Rattle.extract.proofs.search.cut.Statement.{statement}
+use Rattle.extract.proofs.search.cut.Tie as tie
+
+abbrev Inv-loop : tie.InvT-loop
+Inv-loop table x y b e least most from left₀ left = Left table x y b e least most from left
+
+abbrev μ-loop : tie.MeasureT-loop
+μ-loop table x y b e least most from left₀ left = popCount left
+
+cast-from : tie.Need-cast-from Inv-loop μ-loop
+cast-from c = let some = c .before .before .pre .some .2 in omega (arith, some .after, some .end)
+
+from-requires : tie.Need-from-requires Inv-loop μ-loop
+from-requires c κs = let some = c .before .before .pre .some .2 in omega (arith, some .after, some .end)
+
+loop-holds : tie.Need-loop-holds Inv-loop μ-loop
+loop-holds c = left-start _ (c .before .from .ensures) (c .inter .ensures)
+
+add-meeting : tie.Need-add-meeting Inv-loop μ-loop
+add-meeting c = omega (arith, c .lowest .ensures .below)
+
+add-meeting-2 : tie.Need-add-meeting-2 Inv-loop μ-loop
+add-meeting-2 c = omega (arith, c .lowest .ensures .below)
+
+meeting-requires : tie.Need-meeting-requires Inv-loop μ-loop
+meeting-requires c κs = omega (arith, c .lowest .ensures .below, c .before .before .before .before .before .before .before .pre)
+
+returns : tie.Need-returns Inv-loop μ-loop
+returns c = left-found (c .before .before .before .before .loop .inv) (c .before .before .lowest .ensures) (c .before .meeting .ensures) (c .if1 .taken)
+
+loop-less : tie.Need-loop-less Inv-loop μ-loop
+loop-less c = omega (arith, c .drop-lowest .ensures .fewer)
+
+loop-again : tie.Need-loop-again Inv-loop μ-loop
+loop-again c =
+    let l = c .before .before .before in
+    left-turn (l .before .before .loop .inv) (l .lowest .ensures) (c .before .before .meeting .ensures) (c .before .if1 .left) (c .drop-lowest .ensures)
+
+returns-2 : tie.Need-returns-2 Inv-loop μ-loop
+returns-2 c = absurd (left-none (c .before .loop .inv) (omega arith) (c .before .before .before .before .before .before .pre .some .2))
+
+pub cut-spec : {M : Type 1} → statement M
+cut-spec =
+    tie.close
+    (tie.spec
+    Inv-loop
+    μ-loop
+    (λ c. search needs)
+    (λ c. search needs)
+    (λ c. search needs)
+    (λ c. search needs)
+    cast-from
+    from-requires
+    (λ c κs. search needs)
+    loop-holds
+    (λ c κs. search needs)
+    (λ c. search needs)
+    add-meeting
+    add-meeting-2
+    meeting-requires
+    returns
+    (λ c κs. search needs)
+    loop-less
+    loop-again
+    returns-2)

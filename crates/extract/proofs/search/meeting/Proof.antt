@@ -1,0 +1,63 @@
+-- `extract::search::meeting` meets its contract. The loop's invariant: every begin that meets is m or later. Assumes nothing.
+use Prim.Native.Nat.{_-_}
+use native.Mathlib.Omega.{arith}
+use mathlib.Core.Path.{sym, _∙_}
+use borrow.Author.Needs.{needs}
+use Rattle.bitset.proofs.Bools.{not-both}
+use Rattle.extract.proofs.Searches.{Onward, onward-more, none-meets}
+use Rattle.extract.proofs.search.meeting.Statement.{statement}
+use Rattle.extract.proofs.search.meeting.Tie as tie
+
+abbrev Inv-loop : tie.InvT-loop
+Inv-loop xs table y first end e m₀ m = Onward xs table y first end e m
+
+abbrev μ-loop : tie.MeasureT-loop
+μ-loop xs table y first end e m₀ m = 128 - m
+
+loop-holds : tie.Need-loop-holds Inv-loop μ-loop
+loop-holds c = record { from = omega arith; left = λ k h. h .from }
+
+returns : tie.Need-returns Inv-loop μ-loop
+returns c = none-meets (c .before .before .loop .inv) (λ k h l s. omega (arith, c .if1 .taken))
+
+returns-2 : tie.Need-returns-2 Inv-loop μ-loop
+returns-2 c =
+    let l = c .before .before .before .before .before .before .loop in
+    record {
+      found = λ h. record {
+        from = l .inv .from;
+        upto = c .before .before .before .before .before .loop-test .taken;
+        moment = h;
+        max = c .before .before .max-of .ensures _ .0 (sym (c .before .has .ensures) ∙ c .if2 .taken);
+      };
+      any = λ k h. c .before .before .before .before .if1 .left;
+    }
+
+loop-again : tie.Need-loop-again Inv-loop μ-loop
+loop-again c =
+    onward-more (c .before .before .before .before .before .before .loop .inv)
+    (λ h. not-both (c .before .before .max-of .ensures _ .1 h) (sym (c .before .has .ensures) ∙ c .if2 .left))
+
+returns-3 : tie.Need-returns-3 Inv-loop μ-loop
+returns-3 c = none-meets (c .before .loop .inv) (λ k h l s. omega (arith, c .loop-test .left))
+
+pub meeting-spec : {M : Type 1} → statement M
+meeting-spec =
+    tie.close
+    (tie.spec
+    Inv-loop
+    μ-loop
+    loop-holds
+    returns
+    (λ c. search needs)
+    (λ c. search needs)
+    (λ c. search needs)
+    (λ c. search needs)
+    (λ c κs. search needs)
+    (λ c. search needs)
+    (λ c κs. search needs)
+    returns-2
+    (λ c. search needs)
+    (λ c. omega arith)
+    loop-again
+    returns-3)

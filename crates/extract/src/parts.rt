@@ -1,0 +1,202 @@
+// The parts that a reading of a node is made of, by the table of ends: which children are read, and between which moments.
+ghost use mathlib.Core.Path.{_≡_};
+ghost use mathlib.Core.Logic.{_⊎_};
+ghost use Prim.Native.Nat.{ℕ, _<_, _≤_};
+ghost use lib.ListN.{length, getD};
+ghost use Rattle.words.specs.Fields.{holds, memberNode};
+ghost use Rattle.model.specs.Arrays.{membersAt, conditionsAt};
+ghost use Rattle.model.specs.Table.{InTable};
+ghost use Rattle.sets.specs.Ends.{taskSetOf, Placeable};
+ghost use Rattle.extract.specs.Search.{Within, CutAt, CutReady, StartAt, StartReady};
+ghost use Rattle.extract.specs.Parts.{noParts, onePart, twoParts, PlacedParts, Choosable, Chosen, Unseen, procedureBy, trajectoryBy};
+use crate::search;
+use model::Triple;
+
+pub struct Parts {
+    pub count: usize,
+    pub nodes: [usize; 4],
+    pub begins: [u32; 4],
+    pub ends: [u32; 4],
+}
+
+fn none() -> Parts
+    ensures { λ r. ⌜ r ≡ noParts ⌝ }
+{
+    Parts {
+        count: 0,
+        nodes: [0, 0, 0, 0],
+        begins: [0, 0, 0, 0],
+        ends: [0, 0, 0, 0],
+    }
+}
+
+fn one(q: usize, b: usize, e: usize) -> Parts
+    requires { ⌜ (b < 64) × (e < 64) ⌝ }
+    ensures { λ r. ⌜ r ≡ onePart q b e ⌝ }
+{
+    Parts {
+        count: 1,
+        nodes: [q, 0, 0, 0],
+        begins: [b as u32, 0, 0, 0],
+        ends: [e as u32, 0, 0, 0],
+    }
+}
+
+fn two(x: usize, b: usize, k: usize, y: usize, m: usize, l: usize) -> Parts
+    requires { ⌜ (b < 64) × (k < 64) × (m < 64) × (l < 64) ⌝ }
+    ensures { λ r. ⌜ r ≡ twoParts x b k y m l ⌝ }
+{
+    Parts {
+        count: 2,
+        nodes: [x, y, 0, 0],
+        begins: [b as u32, m as u32, 0, 0],
+        ends: [k as u32, l as u32, 0, 0],
+    }
+}
+
+// Forms 2 and 7: x, and `least` to `most` after its end y.
+fn end_window_parts(
+    table: &[u64],
+    x: usize,
+    y: usize,
+    least: usize,
+    most: usize,
+    b: usize,
+    e: usize,
+) -> Parts
+    requires { ⌜ CutReady (now table) x y b e least most b ⌝ }
+    ensures { λ r. ⌜ ((k : ℕ) × (m : ℕ) × CutAt (now (table .entry)) x y b e least most b k m × (r ≡ twoParts x b k y m e)) ⌝ }
+{
+    let c = search::cut(table, x, y, b, e, least, most, b);
+    two(x, b, c.first, y, c.second, e)
+}
+
+// Form 6: x, and `least` to `most` after its begin y.
+fn start_window_parts(
+    table: &[u64],
+    x: usize,
+    y: usize,
+    least: usize,
+    most: usize,
+    b: usize,
+    e: usize,
+) -> Parts
+    requires { ⌜ StartReady (now table) x y b e least most ⌝ }
+    ensures { λ r. ⌜ ((k : ℕ) × (m : ℕ) × (l : ℕ) × StartAt (now (table .entry)) x y b e least most k m l × (r ≡ twoParts x b k y m l)) ⌝ }
+{
+    let xs = table[x * 64 + b];
+    let m = search::meeting(xs, table, y, b + least, b + most, e);
+    let c = search::ends(xs, table[y * 64 + m], e);
+    two(x, b, c.first, y, m, c.second)
+}
+
+// Form 3: x or y.
+fn choice_part(table: &[u64], x: usize, y: usize, b: usize, e: usize) -> Parts
+    requires { ⌜ Within (now table) x y b e ⌝ }
+    requires { ⌜ (InTable (now table) x b e ⊎ InTable (now table) y b e) ⌝ }
+    ensures { λ r. ⌜ ((q : ℕ) × ((q ≡ x) ⊎ (q ≡ y)) × InTable (now (table .entry)) q b e × (r ≡ onePart q b e)) ⌝ }
+{
+    one(search::choose(table, x, y, b, e), b, e)
+}
+
+// Form 4: y where the formula's value is that it holds, and else m.
+fn if_part(value: u8, y: usize, m: usize, b: usize, e: usize) -> Parts
+    requires { ⌜ (b < 64) × (e < 64) ⌝ }
+    ensures { λ r. ⌜ (((value ≡ holds) × (r ≡ onePart y b e)) ⊎ ((value ≡ holds → ⊥) × (r ≡ onePart m b e))) ⌝ }
+{
+    if value == 2 {
+        return one(y, b, e);
+    }
+    one(m, b, e)
+}
+
+// The nodes of the members.
+fn member_nodes(members: &[u32]) -> [usize; 4]
+    requires { ⌜ length (now members) ≤ 4 ⌝ }
+    ensures { λ r. ⌜ ((i : ℕ) → i < length (now (members .entry)) → getD r i 0 ≡ memberNode (getD (now (members .entry)) i 0)) ⌝ }
+{
+    let mut nodes = [0usize; 4];
+    let mut i = 0;
+    while i < members.len() {
+        nodes[i] = words::member_node(members[i]);
+        i += 1;
+    }
+    nodes
+}
+
+// Form 8: the members of the task set whose word stands at `place`, as its conditions allow.
+fn set_parts(
+    words: &[u32],
+    place: usize,
+    values: &[u8; 4096],
+    last: usize,
+    table: &[u64],
+    b: usize,
+    e: usize,
+) -> Parts
+    requires { ⌜ (place < length (now words)) × Placeable (taskSetOf (membersAt (now words) place) (conditionsAt (now words) place) (now values) last) (now table) b e ⌝ }
+    ensures { λ r. ⌜ PlacedParts (taskSetOf (membersAt (now (words .entry)) place) (conditionsAt (now (words .entry)) place) (now (values .entry)) last) (now (table .entry)) b e r ⌝ }
+{
+    let counts = model::set_counts(words, place);
+    let count = counts.members;
+    let first = place + 1;
+    let middle = first + count;
+    let end = middle + counts.conditions;
+    let members = &words[first..middle];
+    let placed = sets::placing::place(
+        members,
+        &words[middle..end],
+        values,
+        table,
+        b as u32,
+        e as u32,
+        last as u32,
+    );
+    let begins = placed.begins;
+    let ends = placed.ends;
+    let nodes = member_nodes(members);
+    Parts {
+        count,
+        nodes,
+        begins,
+        ends,
+    }
+}
+
+// The parts that a reading of the triple, which the table says there is, can be made of; its node is no loop.
+pub fn choose_parts(
+    words: &[u32],
+    places: &[usize; 64],
+    values: &[u8; 4096],
+    last: usize,
+    table: &[u64],
+    triple: Triple,
+) -> Parts
+    requires { ⌜ ((u : Unseen) × Choosable (procedureBy (now words) (now places) u) (trajectoryBy (now values) last u) (length (now words)) (now places) (now table) triple) ⌝ }
+    ensures { λ r. ⌜ ((u : Unseen) → Choosable (procedureBy (now (words .entry)) (now (places .entry)) u) (trajectoryBy (now (values .entry)) last u) (length (now (words .entry))) (now (places .entry)) (now (table .entry)) triple → Chosen (procedureBy (now (words .entry)) (now (places .entry)) u) (trajectoryBy (now (values .entry)) last u) (now (table .entry)) (triple .node) (triple .begin) (triple .end) r) ⌝ }
+{
+    let p = triple.node;
+    let b = triple.begin;
+    let e = triple.end;
+    let place = places[p];
+    let word = words[place];
+    let x = words::node_x(word);
+    let y = words::node_y(word);
+    let m = words::node_m(word);
+    let most = words::node_n(word);
+    match words::form_of(word) {
+        0 => none(),
+        1 => none(),
+        2 => end_window_parts(table, x, y, 0, 0, b, e),
+        3 => choice_part(table, x, y, b, e),
+        4 => if_part(values[x * 64 + b], y, m, b, e),
+        // a loop's passes are found one at a time
+        5 => none(),
+        6 => start_window_parts(table, x, y, m, most, b, e),
+        7 => end_window_parts(table, x, y, m, most, b, e),
+        8 => set_parts(words, place, values, last, table, b, e),
+        // reserved: refused in a job, and nothing reads such a node
+        9..=15 => none(),
+        _ => none(),
+    }
+}

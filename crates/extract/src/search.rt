@@ -1,0 +1,97 @@
+// The searches for the moments of two parts, by the table of ends: a loop's passes are found one at a time, by `cut`.
+ghost use mathlib.Core.Path.{_≡_};
+ghost use mathlib.Core.Logic.{_⊎_};
+ghost use Prim.Native.Nat.{_<_};
+ghost use lib.ListN.{length};
+ghost use Rattle.bitset.specs.Members.{Max};
+ghost use Rattle.model.specs.Table.{InTable};
+ghost use Rattle.extract.specs.Search.{Within, FirstMeets, CutAt, CutReady, Ends};
+
+// Two moments.
+pub struct Pair {
+    pub first: usize,
+    pub second: usize,
+}
+
+// The first moment from `first` to `end` at which y can begin so that the greater of its end and one of the ends `xs` is e; 64 where
+// there is none.
+pub fn meeting(xs: u64, table: &[u64], y: usize, first: usize, end: usize, e: usize) -> usize
+    requires { ⌜ (y < 64) × (e < 64) × (end < 128) × (length (now table) ≡ 4096) ⌝ }
+    ensures { λ r. ⌜ FirstMeets xs (now (table .entry)) y first end e r ⌝ }
+{
+    let mut m = first;
+    while m <= end {
+        if 64 <= m {
+            return 64;
+        }
+        if bitset::has(bitset::max_of(xs, table[y * 64 + m]), e as u32) {
+            return m;
+        }
+        m += 1;
+    }
+    64
+}
+
+// The first end of x, begun at b, from `from` on, after which y can begin, `least` to `most` later, and end at e, and the first such
+// begin. There is one. The ends of x are walked by trailing zeros, the lowest first.
+pub fn cut(
+    table: &[u64],
+    x: usize,
+    y: usize,
+    b: usize,
+    e: usize,
+    least: usize,
+    most: usize,
+    from: usize,
+) -> Pair
+    requires { ⌜ CutReady (now table) x y b e least most from ⌝ }
+    ensures { λ r. ⌜ CutAt (now (table .entry)) x y b e least most from (r .first) (r .second) ⌝ }
+{
+    let mut left = bitset::inter(table[x * 64 + b], bitset::from(from as u32));
+    while left != 0 {
+        let k = bitset::lowest(left) as usize;
+        // the set of 0 alone: y's end is the greater one
+        let m = meeting(1, table, y, k + least, k + most, e);
+        if m < 64 {
+            return Pair {
+                first: k,
+                second: m,
+            };
+        }
+        left = bitset::drop_lowest(left);
+    }
+    Pair {
+        first: 0,
+        second: 0,
+    }
+}
+
+// An end of each of the sets xs and ys, of which e is the greater. There are such.
+pub fn ends(xs: u64, ys: u64, e: usize) -> Pair
+    requires { ⌜ (e < 64) × Max xs ys e ⌝ }
+    ensures { λ r. ⌜ Ends xs ys e (r .first) (r .second) ⌝ }
+{
+    if bitset::has(xs, e as u32) {
+        return Pair {
+            first: e,
+            second: bitset::lowest(ys) as usize,
+        };
+    }
+    Pair {
+        first: bitset::lowest(xs) as usize,
+        second: e,
+    }
+}
+
+// Whichever of x and y reads b to e: x where both do. One of them does.
+pub fn choose(table: &[u64], x: usize, y: usize, b: usize, e: usize) -> usize
+    requires { ⌜ Within (now table) x y b e ⌝ }
+    requires { ⌜ (InTable (now table) x b e ⊎ InTable (now table) y b e) ⌝ }
+    ensures { λ r. ⌜ ((r ≡ x) ⊎ (r ≡ y)) × InTable (now (table .entry)) r b e ⌝ }
+{
+    if bitset::has(table[x * 64 + b], e as u32) {
+        x
+    } else {
+        y
+    }
+}

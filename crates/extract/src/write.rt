@@ -1,0 +1,102 @@
+// The writers: a node's own word, and then its parts, each by a call for a lower node. Each node is named as a child once, so that nothing
+// is walked twice.
+ghost use mathlib.Core.Path.{_≡_};
+ghost use lib.ListN.{length};
+ghost use Rattle.model.specs.Forms.{While, formAt};
+ghost use Rattle.extract.specs.Parts.{Unseen, procedureBy, trajectoryBy};
+ghost use Rattle.extract.specs.Contract.{Full, Rest, Writable, Written};
+use crate::parts;
+use crate::search;
+use model::Triple;
+
+// Writes a reading of the triple into the buffer from `at` on, and returns the place after it.
+pub fn write_reading(
+    words: &[u32],
+    places: &[usize; 64],
+    values: &[u8; 4096],
+    last: usize,
+    table: &[u64],
+    triple: Triple,
+    at: usize,
+    buffer: &mut [u32],
+) -> usize
+    requires { ⌜ ((u : Unseen) × Writable Full (procedureBy (now words) (now places) u) (trajectoryBy (now values) last u) (length (now words)) (now places) (now table) triple at (length (now buffer))) ⌝ }
+    ensures { λ r. ⌜ ((u : Unseen) → Writable Full (procedureBy (now (words .entry)) (now (places .entry)) u) (trajectoryBy (now (values .entry)) last u) (length (now (words .entry))) (now (places .entry)) (now (table .entry)) triple at (length (now (buffer .entry))) → Written (Full (procedureBy (now (words .entry)) (now (places .entry)) u) (trajectoryBy (now (values .entry)) last u) triple) (now (buffer .entry)) at (now (buffer .exit)) r) ⌝ }
+{
+    let p = triple.node;
+    let b = triple.begin;
+    let e = triple.end;
+    buffer[at] = words::reading_word(p, b, e);
+    let place = places[p];
+    if words::form_of(words[place]) == 5 {
+        return write_passes(words, places, values, last, table, triple, at + 1, buffer);
+    }
+    write_parts(words, places, values, last, table, triple, at + 1, buffer)
+}
+
+// Writes the parts of the node, which is no loop.
+fn write_parts(
+    words: &[u32],
+    places: &[usize; 64],
+    values: &[u8; 4096],
+    last: usize,
+    table: &[u64],
+    triple: Triple,
+    at: usize,
+    buffer: &mut [u32],
+) -> usize
+    requires { ⌜ ((u : Unseen) × Writable Rest (procedureBy (now words) (now places) u) (trajectoryBy (now values) last u) (length (now words)) (now places) (now table) triple at (length (now buffer)) × (formAt (procedureBy (now words) (now places) u) (triple .node) ≡ While → ⊥)) ⌝ }
+    ensures { λ r. ⌜ ((u : Unseen) → Writable Rest (procedureBy (now (words .entry)) (now (places .entry)) u) (trajectoryBy (now (values .entry)) last u) (length (now (words .entry))) (now (places .entry)) (now (table .entry)) triple at (length (now (buffer .entry))) → (formAt (procedureBy (now (words .entry)) (now (places .entry)) u) (triple .node) ≡ While → ⊥) → Written (Rest (procedureBy (now (words .entry)) (now (places .entry)) u) (trajectoryBy (now (values .entry)) last u) triple) (now (buffer .entry)) at (now (buffer .exit)) r) ⌝ }
+{
+    let parts = parts::choose_parts(words, places, values, last, table, triple);
+    let number = parts.count;
+    let nodes = parts.nodes;
+    let begins = parts.begins;
+    let ends = parts.ends;
+    let mut end = at;
+    let mut i = 0;
+    while i < number {
+        let part = Triple {
+            node: nodes[i],
+            begin: begins[i] as usize,
+            end: ends[i] as usize,
+        };
+        end = write_reading(words, places, values, last, table, part, end, buffer);
+        i += 1;
+    }
+    end
+}
+
+// Writes the passes of the node, which is a loop, one after the other.
+fn write_passes(
+    words: &[u32],
+    places: &[usize; 64],
+    values: &[u8; 4096],
+    last: usize,
+    table: &[u64],
+    triple: Triple,
+    at: usize,
+    buffer: &mut [u32],
+) -> usize
+    requires { ⌜ ((u : Unseen) × Writable Rest (procedureBy (now words) (now places) u) (trajectoryBy (now values) last u) (length (now words)) (now places) (now table) triple at (length (now buffer)) × (formAt (procedureBy (now words) (now places) u) (triple .node) ≡ While)) ⌝ }
+    ensures { λ r. ⌜ ((u : Unseen) → Writable Rest (procedureBy (now (words .entry)) (now (places .entry)) u) (trajectoryBy (now (values .entry)) last u) (length (now (words .entry))) (now (places .entry)) (now (table .entry)) triple at (length (now (buffer .entry))) → formAt (procedureBy (now (words .entry)) (now (places .entry)) u) (triple .node) ≡ While → Written (Rest (procedureBy (now (words .entry)) (now (places .entry)) u) (trajectoryBy (now (values .entry)) last u) triple) (now (buffer .entry)) at (now (buffer .exit)) r) ⌝ }
+{
+    let p = triple.node;
+    let b = triple.begin;
+    let e = triple.end;
+    let place = places[p];
+    let y = words::node_y(words[place]);
+    let mut m = b;
+    let mut end = at;
+    while m < e {
+        let c = search::cut(table, y, p, m, e, 0, 0, m + 1);
+        let pass = Triple {
+            node: y,
+            begin: m,
+            end: c.first,
+        };
+        end = write_reading(words, places, values, last, table, pass, end, buffer);
+        m = c.first;
+    }
+    end
+}

@@ -1,0 +1,21 @@
+-- That each node but the root is named once goes over to a procedure with the same children. Assumes nothing.
+use Prim.Native.Nat.{ℕ, _<_}
+use mathlib.Core.Path.{_≡_, sym, ap, _∙_}
+use mathlib.Core.List.{List}
+use native.Mathlib.Omega.{arith}
+use Rattle.bitset.specs.Members.{sumBelow}
+use Rattle.words.specs.Scan.{count}
+use Rattle.model.specs.Procedure.{Procedure}
+use Rattle.model.specs.Trajectory.{Trajectory}
+use Rattle.model.specs.Forms.{children}
+use Rattle.model.specs.Represents.{Agrees}
+use Rattle.model.proofs.Forms.{same-children}
+use Rattle.lengths.specs.Children.{NamedOnce}
+use Rattle.lengths.proofs.Sums.{sum-cong}
+
+pub named-there : {P : Procedure} {T : Trajectory} {P′ : Procedure} {T′ : Trajectory} → Agrees P T P′ T′ → NamedOnce P′ → NamedOnce P
+named-there {P} {P′ = P′} x once q h =
+    let e = x .count in
+    ap (sumBelow (λ p. count q (children P p))) (sym e)
+    ∙ sum-cong (P′ .count) (λ p l. let k : p < P .count = omega arith in ap (count q) (sym (same-children P P′ p (x .node p k) (λ f. x .members p k))))
+    ∙ once q (omega arith)
