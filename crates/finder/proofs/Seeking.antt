@@ -13,8 +13,9 @@ use Rattle.job.specs.Refusal.{jobRefusal}
 use Rattle.job.specs.Parts.{nodeCount, lastMoment}
 use Rattle.job.specs.WellFormed.{WellFormed}
 use Rattle.job.proofs.WellFormed.{well-formed}
+use Rattle.formulas.specs.Values.{andTable, orTable}
 use Rattle.theory.specs.Trajectory.{trajectoryOf}
-use Rattle.theory.specs.Procedure.{procedureOf}
+use Rattle.job.specs.Procedure.{procedureOf}
 use Rattle.model.specs.Arrays.{procedureIn, trajectoryIn}
 use Rattle.model.specs.Represents.{Represents}
 use Rattle.model.specs.Table.{rowAt}
@@ -29,7 +30,7 @@ use Rattle.extract.proofs.Whole.{emittable}
 use Rattle.finder.specs.Find.{RootReading, Triples, Searched, unread, read}
 use Rattle.finder.proofs.Job.{formed-job, once-job}
 
-module _ (job starts : List ℕ) (w : Arrays) (ok : jobRefusal job .number ≡ 0) (c : Represents job w (procedureOf job) (trajectoryOf job starts)) where
+module _ (job starts : List ℕ) (w : Arrays) (ok : jobRefusal job .number ≡ 0) (c : Represents job w (procedureOf job) (trajectoryOf andTable orTable job starts)) where
   formed : WellFormed job
   formed = well-formed job ok
 
@@ -82,7 +83,7 @@ module _ (job starts : List ℕ) (w : Arrays) (ok : jobRefusal job .number ≡ 0
     pub no-reading : {before : List ℕ} → has (rowAt table (w .count - 1) 0) (w .last) ≡ false → Searched job starts before (Refused 13 0 r) before
     no-reading h = unread triples none
       where
-        there : Found (procedureOf job) (trajectoryOf job starts) table
+        there : Found (procedureOf job) (trajectoryOf andTable orTable job starts) table
         there = found-same (c .agrees) (readable .formed) (t .table)
 
         none : (ws : List ℕ) → RootReading job starts ws → ⊥

@@ -1,30 +1,34 @@
 -- What find answers and leaves in the lent buffer, for any lists of words.
-use mathlib.Core.List.{List, _++_}
+use mathlib.Core.List.{List, _∷_, _++_}
 use mathlib.Core.Path.{_≡_}
 use Prim.Native.Nat.{ℕ, _-_}
 use lib.ListN.{length, drop}
 use Rattle.answers.specs.declared.Refusal.{Refusal}
 use Rattle.answers.specs.declared.Answer.{Answer}
 use Rattle.answers.specs.declared.Answer.the-variants.{Accepted, Refused}
-use Rattle.answers.specs.Rows.{refusal, firstRefusal}
+use Rattle.answers.specs.Rows.{refusal, firstRow}
 use Rattle.job.specs.Parts.{lastMoment, nodeCount}
-use Rattle.theory.specs.Answers.{bufferRefusal, checkRefusal}
+use Rattle.theory.specs.Answers.{bufferRefusal, checkRows}
+use Rattle.formulas.specs.Values.{andTable, orTable}
 use Rattle.theory.specs.Trajectory.{trajectoryOf}
 use Rattle.job.specs.Procedure.{procedureOf}
 use Rattle.reading.specs.Reading.{whole, Reading}
 use Rattle.reading.specs.Count.{Counted}
 
 -- rows 12 and 1 to 11
+abbrev pub findRows : ℕ → List ℕ → List ℕ → List ℕ → List Refusal
+findRows room job starts facts = bufferRefusal room ∷ checkRows job starts facts
+
 unfoldable pub findRefusal : ℕ → List ℕ → List ℕ → List ℕ → Refusal
-findRefusal room job starts facts = firstRefusal (bufferRefusal room) (checkRefusal job starts facts)
+findRefusal room job starts facts = firstRow (findRows room job starts facts)
 
 -- the words are a reading of the root from 0 to n
 abbrev pub RootReading : List ℕ → List ℕ → List ℕ → Type 0
-RootReading job starts ws = Reading (procedureOf job) (trajectoryOf job starts) whole (nodeCount job - 1) 0 (lastMoment job) ws
+RootReading job starts ws = Reading (procedureOf job) (trajectoryOf andTable orTable job starts) whole (nodeCount job - 1) 0 (lastMoment job) ws
 
 -- c triples (node, begin, end) have a reading
 abbrev pub Triples : List ℕ → List ℕ → ℕ → Type 0
-Triples job starts c = Counted (procedureOf job) (trajectoryOf job starts) c
+Triples job starts c = Counted (procedureOf job) (trajectoryOf andTable orTable job starts) c
 
 -- of a plan that passes: the answer, and the buffer afterwards
 pub data Searched (job starts before : List ℕ) : Answer → List ℕ → Type 0 where

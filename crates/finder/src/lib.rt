@@ -5,9 +5,11 @@ ghost use Rattle.answers.specs.Packed.{InRange, lengthOf};
 ghost use Rattle.finder.specs.Find.{Searched, Outcome};
 ghost use Rattle.finder.specs.Seek.{Seekable};
 use answers::Answer;
+use answers::answer_of;
+use answers::refuse;
 use model::Arrays;
-use theory::check_plan;
-use trajectory::arrays_of;
+use theory::arrays_of;
+use theory::judge_facts;
 
 // Of a plan that passes: fills the table, counts, and writes a reading of the root where there is one.
 fn seek(job: &[u32], starts: &[u32], arrays: Arrays, buffer: &mut [u32]) -> Answer
@@ -50,20 +52,13 @@ pub fn find_reading(job: &[u32], starts: &[u32], facts: &[u32], buffer: &mut [u3
     ensures { λ r. ⌜ InRange r × (lengthOf r ≤ 4032) ⌝ }
 {
     if buffer.len() < 4096 {
-        return Answer::Refused {
-            number: 12,
-            position: 0,
-            count: 0,
-        };
+        return answer_of(refuse(12, 0), 0, 0);
     }
-    let answer = check_plan(job, starts, facts);
-    if let Answer::Refused {
-        number: _,
-        position: _,
-        count: _,
-    } = answer {
-        return answer;
+    let plan = judge_facts(job, starts, facts);
+    let refusal = plan.refusal;
+    if refusal.number != 0 {
+        return answer_of(refusal, 0, 0);
     }
-    let arrays = arrays_of(job, starts);
+    let arrays = arrays_of(job, starts, plan);
     seek(job, starts, arrays, buffer)
 }

@@ -1,51 +1,62 @@
 -- `finder::find_reading` meets its contract: a row's refusal, or what `seek` finds. Assumes nothing.
-use mathlib.Core.Path.{_≡_, sym, subst}
+use mathlib.Core.Path.{_≡_, sym, _∙_, ap, subst}
 use native.Mathlib.Omega.{arith}
-use Rattle.answers.specs.Packed.{InRange}
+use Rattle.answers.specs.declared.Refusal.{Refusal}
+use Rattle.answers.specs.Packed.{answerOf, InRange}
+use Rattle.theory.specs.Answers.{checkRefusal, checkAnswer}
+use Rattle.theory.specs.Judged.{Passed}
 use Rattle.theory.proofs.Range.{check-range}
-use Rattle.trajectory.proofs.Passed.{job-clear}
-use Rattle.finder.proofs.Refusals.{plan-none, refused-length, short-buffer, check-refused, then-sought}
+use Rattle.theory.proofs.Passing.{job-clear}
+use Rattle.finder.proofs.Refusals.{short-buffer, row-refused, then-sought}
 use borrow.Author.Needs.{needs}
 use Rattle.finder.proofs.find_reading.Statement.{statement}
 use Rattle.finder.proofs.find_reading.Tie as tie
 
+-- the places of the code that the proof speaks of
+abbrev entry : tie.After-judge-facts → tie.Start
+entry c = c .before .before .before .before .before .before
+
+abbrev judged : tie.Else2 → tie.After-judge-facts
+judged c = c .before .before .before
+
+-- a plan that passes rows 1 to 11
+clear : (c : tie.Else2) → let s = entry (judged c) .args in checkRefusal (s .job .now) (s .starts .now) (s .facts .now) .number ≡ 0
+clear c = sym (ap (λ (r : Refusal). r .number) (judged c .judge-facts .ensures .refusal)) ∙ c .if2 .left
+
+passed : (c : tie.Else2) → let s = entry (judged c) .args in Passed (s .job .now) (s .starts .now) (judged c .judge-facts .result)
+passed c = judged c .judge-facts .ensures .passed (clear c)
+
 returns : tie.Need-returns
-returns c = (short-buffer _ _ _ _ (c .if1 .taken), (omega arith, omega arith))
+returns c =
+    let made = c .answer-of .ensures ∙ ap (λ (r : Refusal). answerOf r 0 0) (c .before .refuse .ensures) in
+    rw made (short-buffer _ _ _ _ (c .before .before .if1 .taken), (omega arith, omega arith))
 
 returns-2 : tie.Need-returns-2
+unfolding checkAnswer
 returns-2 c =
-    let e = c .before .before .check-plan .ensures in (
-      check-refused _ _ _ _ (omega (arith, c .before .before .before .if1)) (c .before .before .check-plan .ensures) (c .enum-told .given .1),
-      (
-        subst InRange (sym e) (check-range (c .before .before .before .before .before .before .before .before .args .job .now) (c .before .before .before .before .before .before .before .before .args .starts .now) (λ i. omega (arith, c .before .before .before .before .before .before .shared-slice-known2 .given i)) (c .before .before .before .before .before .before .before .before .args .facts .now)),
-        refused-length (c .enum-told .given .1),
-      ),
-    )
+    let j = c .before .before .before .before in
+    let s = entry j .args in
+    let is = j .judge-facts .ensures .refusal in
+    let row = row-refused _ _ _ (s .buffer .now) (omega (arith, j .before .if1)) (c .answer-of2 .ensures) is (c .before .if2 .taken) in
+    let same = c .answer-of2 .ensures ∙ ap (λ (r : Refusal). answerOf r 0 0) is in
+    let words = j .before .before .before .before .shared-slice-known2 in
+    (row .0, (subst InRange (sym same) (check-range (s .job .now) (s .starts .now) (λ i. omega (arith, words .given i)) (s .facts .now)), row .1))
 
 arrays-of-requires : tie.Need-arrays-of-requires
-arrays-of-requires c κs = plan-none _ _ _ (c .before .before .check-plan .ensures) (c .enum-told2 .given .1)
+arrays-of-requires c κs = passed c
 
 seek-requires : tie.Need-seek-requires
-seek-requires c κs = record {
-  clear = job-clear _ _ (plan-none _ _ _ (c .before .before .before .before .check-plan .ensures) (c .before .before .enum-told2 .given .1));
-  represented = c .before .arrays-of .ensures;
-  room = omega (arith, c .before .before .before .before .before .if1);
-}
+seek-requires c κs = let e = c .before .before in
+    record { clear = job-clear _ _ (passed e .clear); represented = c .before .arrays-of .ensures; room = omega (arith, judged e .before .if1) }
 
 returns-3 : tie.Need-returns-3
 returns-3 c =
-    (then-sought _ _ _ _ (omega (arith, c .before .before .before .before .before .before .before .before .if1)) (c .before .before .before .before .before .before .before .check-plan .ensures) (c .before .before .before .before .before .enum-told2 .given .1) (c .before .before .seek .ensures .0), c .before .before .seek .ensures .1)
+    let k = c .before .before in
+    let e = k .before .before .before in
+    (then-sought _ _ _ _ (omega (arith, judged e .before .if1)) (clear e) (k .seek .ensures .0), k .seek .ensures .1)
 
 pub find-reading-spec : {M : Type 1} → statement M
 find-reading-spec =
     tie.close
-    (tie.spec
-    returns
-    (λ c κs. search needs)
-    (λ c. search needs)
-    returns-2
-    (λ c. search needs)
-    arrays-of-requires
-    seek-requires
-    (λ c. search needs)
-    returns-3)
+    (tie.spec (λ c κs. search needs) (λ c κs. search needs) returns (λ c κs. search needs) (λ c κs. search needs) returns-2 arrays-of-requires
+    seek-requires (λ c. search needs) returns-3)
