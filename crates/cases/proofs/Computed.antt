@@ -2,15 +2,16 @@
 use mathlib.Core.Bool.{true}
 use mathlib.Core.Path.{_≡_, refl}
 use Rattle.answers.specs.Rows.{firstOf}
-use Rattle.words.specs.Scan.{any, findOr, takeWhile, dropWhile, fromNth, anyBelow, concatBelow}
-use Rattle.job.specs.Before.{before, previous, countOfKind, since, latest, named}
+use Rattle.words.specs.Scan.{any, findOr, takeWhile, dropWhile, fromNth, anyBelow, every, count, concatBelow}
+use Rattle.job.specs.Before.{before, countOfKind, since, latest, named}
+use Rattle.job.specs.Follow.{predecessor}
 use Rattle.job.specs.Parts.{duration, lawsOf, formulaWord, nodeWord, memberWords, conditionWords}
 use Rattle.job.specs.Rules.{wordRefusalOf}
 use Rattle.job.specs.Refusal.{wordRefusal, refusalOf, nameRefusal, endRefusal, jobRefusal}
 use Rattle.history.specs.Actions.{effect}
 use Rattle.history.specs.Values.{initially, nextValue, valueAt}
-use Rattle.facts.specs.Facts.{factsAt, factsOf}
-use Rattle.formulas.specs.Values.{andTable, orTable, formValue, formulaBelow, formulaAt}
+use Rattle.facts.specs.Facts.{factsAt, factsUpto, factsOf}
+use Rattle.formulas.specs.Values.{formValue, formulaBelow, formulaAt}
 use Rattle.starts.specs.Rows.{wrongWord, endsLate, inHandAlready, clash, together, clashes, needsUnmet, rowsRefusal, startsRefusal}
 use Rattle.theory.specs.Answers.{planRefusal, factsRefusal, checkRefusal}
 use Rattle.theory.specs.Trajectory.{trajectoryOf}
@@ -19,5 +20,5 @@ use Rattle.cases.specs.Decision.{some, each, placingb, tried, setb, rule
 use Rattle.cases.specs.Cases.{table, decided, listed, distinct, sound, complete, exactly, fits, rooted, wordsAs, wordsFor, worded, answers, passes, all}
 
 pub computed : all table ≡ true
-unfolding firstOf any findOr takeWhile dropWhile fromNth anyBelow before previous countOfKind since latest named duration lawsOf formulaWord nodeWord memberWords conditionWords wordRefusalOf wordRefusal refusalOf nameRefusal endRefusal jobRefusal effect initially nextValue valueAt concatBelow factsAt factsOf formValue formulaBelow formulaAt wrongWord endsLate inHandAlready clash together clashes needsUnmet rowsRefusal startsRefusal planRefusal factsRefusal checkRefusal trajectoryOf andTable orTable procedureOf some each placingb tried setb ruleb reads decided listed distinct sound complete exactly fits rooted wordsAs wordsFor worded answers passes all
+unfolding firstOf any findOr takeWhile dropWhile fromNth anyBelow every count before predecessor countOfKind since latest named duration lawsOf formulaWord nodeWord memberWords conditionWords wordRefusalOf wordRefusal refusalOf nameRefusal endRefusal jobRefusal effect initially nextValue valueAt concatBelow factsAt factsUpto factsOf formValue formulaBelow formulaAt wrongWord endsLate inHandAlready clash together clashes needsUnmet rowsRefusal startsRefusal planRefusal factsRefusal checkRefusal trajectoryOf procedureOf some each placingb tried setb ruleb reads decided listed distinct sound complete exactly fits rooted wordsAs wordsFor worded answers passes all
 computed = refl

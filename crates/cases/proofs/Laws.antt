@@ -106,8 +106,8 @@ module _ (job starts facts before : List ℕ) (room : 4096 ≤ length before) wh
   row = checkRefusal job starts facts
 
   formed : row .number ≡ 0 → jobRefusal job .number ≡ 0
-  unfolding checkRefusal planRefusal
-  formed h = or-none (jobRefusal job) (startsRefusal job starts) (or-none (planRefusal job starts) (factsRefusal facts (factsOf job starts) 0) h .0) .0
+  unfolding checkRefusal
+  formed h = or-none (jobRefusal job) _ h .0
 
   -- a plan that passes is not refused
   not-refused : {n p : ℕ} → row .number ≡ 0 → findRefusal (length before) job starts facts ≡ refusal n p → n ≡ 0

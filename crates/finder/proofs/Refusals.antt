@@ -19,7 +19,7 @@ module _ (job starts facts buffer : List ℕ) where
 
   module _ (room : 4096 ≤ length buffer) where
     -- with room in the buffer the row is check's
-    same-row : findRefusal (length buffer) job starts facts ≡ checkRefusal job starts facts
+    pub same-row : findRefusal (length buffer) job starts facts ≡ checkRefusal job starts facts
     unfolding findRefusal checkRefusal
     same-row = rw (le-ltb (length buffer) 4096 room)
 
