@@ -29,7 +29,10 @@ add-meeting-2 : tie.Need-add-meeting-2 Inv-loop μ-loop
 add-meeting-2 c = omega (arith, c .lowest .ensures .below)
 
 meeting-requires : tie.Need-meeting-requires Inv-loop μ-loop
-meeting-requires c κs = omega (arith, c .lowest .ensures .below, c .before .before .before .before .before .before .before .pre)
+meeting-requires c κs =
+    let s = c .before .before .before .before .before .before .before .pre in
+    let k = c .lowest .ensures .below in
+    record { node = s .within .right; finish = s .within .finish; upto = omega (arith, s .late); size = s .within .size }
 
 returns : tie.Need-returns Inv-loop μ-loop
 returns c = left-found (c .before .before .before .before .loop .inv) (c .before .before .lowest .ensures) (c .before .meeting .ensures) (c .if1 .taken)
