@@ -23,13 +23,17 @@ Inv-loop members nodes₀ i₀ nodes i = Passed members nodes i
 abbrev μ-loop : tie.MeasureT-loop
 μ-loop members nodes₀ i₀ nodes i = length members - i
 
+-- the places of the code that the proof speaks of
+abbrev entry : tie.After-member-node Inv-loop μ-loop → tie.Start Inv-loop μ-loop
+entry c = c .before .before .before .before .before
+
 loop-holds : tie.Need-loop-holds Inv-loop μ-loop
 loop-holds c = record { upto = omega arith; long = refl; node = λ j l. absurd (omega arith) }
 
 loop-again : tie.Need-loop-again Inv-loop μ-loop
 loop-again c =
     let l = c .before .before .before .loop in
-    let s = c .before .before .before .before .before in
+    let s = entry c in
     let v = c .member-node .result in
     record {
       upto = omega arith;
