@@ -21,6 +21,13 @@ pub record Meets (xs : ℕ) (table : List ℕ) (y first end e m : ℕ) : Type 0 
   pub moment : m < 64
   pub max : Max xs (rowAt table y m) e
 
+-- what the search for such a begin asks
+pub record MeetReady (table : List ℕ) (y end e : ℕ) : Type 0 where
+  pub node : y < 64
+  pub finish : e < 64
+  pub upto : end < 128
+  pub size : length table ≡ 4096
+
 -- r is such a begin, or is 64 and there is none
 pub record FirstMeets (xs : ℕ) (table : List ℕ) (y first end e r : ℕ) : Type 0 where
   pub found : r < 64 → Meets xs table y first end e r

@@ -2,10 +2,9 @@
 ghost use mathlib.Core.Path.{_≡_};
 ghost use mathlib.Core.Logic.{_⊎_};
 ghost use Prim.Native.Nat.{_<_};
-ghost use lib.ListN.{length};
 ghost use Rattle.bitset.specs.Members.{Max};
 ghost use Rattle.model.specs.Table.{InTable};
-ghost use Rattle.extract.specs.Search.{Within, FirstMeets, CutAt, CutReady, Ends};
+ghost use Rattle.extract.specs.Search.{Within, MeetReady, FirstMeets, CutAt, CutReady, Ends};
 
 // Two moments.
 pub struct Pair {
@@ -16,7 +15,7 @@ pub struct Pair {
 // The first moment from `first` to `end` at which y can begin so that the greater of its end and one of the ends `xs` is e; 64 where
 // there is none.
 pub fn meeting(xs: u64, table: &[u64], y: usize, first: usize, end: usize, e: usize) -> usize
-    requires { ⌜ (y < 64) × (e < 64) × (end < 128) × (length (now table) ≡ 4096) ⌝ }
+    requires { ⌜ MeetReady (now table) y end e ⌝ }
     ensures { λ r. ⌜ FirstMeets xs (now (table .entry)) y first end e r ⌝ }
 {
     let mut m = first;

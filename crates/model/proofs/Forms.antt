@@ -42,15 +42,19 @@ form-number k h l = sym (number-back k (rw h l)) ∙ ap numberOf h
 reserved : (k : ℕ) → 9 ≤ k → formNumber k ≡ Reserved
 reserved k h = let e : k ≡ suc (suc (suc (suc (suc (suc (suc (suc (suc (k - 9))))))))) = omega arith in ap formNumber e
 
--- and so is one that no form has
 from-four : (k : ℕ) → (k ≡ 0 → ⊥) → (k ≡ 1 → ⊥) → (k ≡ 2 → ⊥) → (k ≡ 3 → ⊥) → 4 ≤ k
 from-four k a b c d = omega arith
 
 from-nine : (k : ℕ) → 4 ≤ k → (k ≡ 4 → ⊥) → (k ≡ 5 → ⊥) → (k ≡ 6 → ⊥) → (k ≡ 7 → ⊥) → (k ≡ 8 → ⊥) → 9 ≤ k
 from-nine k l a b c d e = omega arith
 
-pub no-form : (k : ℕ) → (k ≡ 0 → ⊥) → (k ≡ 1 → ⊥) → (k ≡ 2 → ⊥) → (k ≡ 3 → ⊥) → (k ≡ 4 → ⊥) → (k ≡ 5 → ⊥) → (k ≡ 6 → ⊥) → (k ≡ 7 → ⊥) → (k ≡ 8 → ⊥) → formNumber k ≡ Reserved
-no-form k a b c d e f g h i = reserved k (from-nine k (from-four k a b c d) e f g h i)
+-- so is one that a match has found to be none of 0 to 8
+pub no-form : {A : Type 0} (k : ℕ)
+    → (((((((((A × (k ≡ 0 → ⊥)) × (k ≡ 1 → ⊥)) × (k ≡ 2 → ⊥)) × (k ≡ 3 → ⊥)) × (k ≡ 4 → ⊥)) × (k ≡ 5 → ⊥)) × (k ≡ 6 → ⊥)) × (k ≡ 7 → ⊥)) × (k ≡ 8 → ⊥))
+    → formNumber k ≡ Reserved
+no-form k r =
+    let low = r .0 .0 .0 .0 .0 in
+    reserved k (from-nine k (from-four k (low .0 .0 .0 .1) (low .0 .0 .1) (low .0 .1) (low .1)) (r .0 .0 .0 .0 .1) (r .0 .0 .0 .1) (r .0 .0 .1) (r .0 .1) (r .1))
 
 -- a condition of a number that no form has is reserved
 pub no-condition : (k : ℕ) → (k ≡ 0 → ⊥) → (k ≡ 1 → ⊥) → (k ≡ 2 → ⊥) → (k ≡ 3 → ⊥) → (k ≡ 4 → ⊥) → conditionNumber k ≡ ReservedCondition

@@ -6,18 +6,22 @@ use borrow.Author.Needs.{needs}
 use Rattle.extract.proofs.emit.Statement.{statement}
 use Rattle.extract.proofs.emit.Tie as tie
 
+-- the places of the code that the proof speaks of
+abbrev entry : tie.After-write-reading-arg → tie.Start
+entry c = c .before .before .before .before
+
 sub-root : tie.Need-sub-t9
 sub-root c = let (starts, durations, s) = c .before .before .before .pre in omega (arith, s .some)
 
 write-reading-requires : tie.Need-write-reading-requires
 write-reading-requires c κs =
-    let a = c .before .before .before .before in
+    let a = entry c in
     let (starts, durations, s) = a .pre in
     (record { count = a .args .count; starts = starts; durations = durations }, emit-writable s)
 
 returns : tie.Need-returns
 returns c = λ starts durations s.
-    let a = c .before .before .before .before .before .before .before in
+    let a = entry (c .before .before .before) in
     emit-emitted s refl (c .before .before .write-reading .ensures (record { count = a .args .count; starts = starts; durations = durations }) (emit-writable s))
 
 pub emit-spec : {M : Type 1} → statement M

@@ -8,6 +8,13 @@ use borrow.Author.Needs.{needs}
 use Rattle.finder.proofs.seek.Statement.{statement}
 use Rattle.finder.proofs.seek.Tie as tie
 
+-- the places of the code that the proof speaks of
+abbrev entry-place : tie.After-table → tie.Start
+entry-place c = c .before .before .before .before .before .before .before .before .before .before .before .before
+
+abbrev then1 : tie.After-emit-arg → tie.Then1
+then1 c = c .before .before .before .before
+
 -- the function's entry, seen from the filled table
 abbrev entry : tie.After-table2 → tie.Start
 entry f = f .before .before .before .before .before .before .before .before .before .before .before .before .before .before
@@ -21,7 +28,7 @@ moments f = let s = entry f .pre in few-moments _ _ _ (s .clear) (s .represented
 
 tabulate-requires : tie.Need-tabulate-requires
 tabulate-requires c κs =
-    let s = c .before .before .before .before .before .before .before .before .before .before .before .before .pre in
+    let s = entry-place c .pre in
     (readable _ _ _ (s .clear) (s .represented), blank 4096 refl)
 
 sub-root : tie.Need-sub-root
@@ -47,7 +54,7 @@ has-requires c κs = moments c
 
 emit-requires : tie.Need-emit-requires
 emit-requires c κs =
-    let i = c .before .before .before .before in
+    let i = then1 c in
     let f = i .before .before in
     let s = entry f .pre in
     let w = entry f .args .arrays in
@@ -56,7 +63,7 @@ emit-requires c κs =
 returns : tie.Need-returns
 returns c =
     let r = c .before .before in
-    let i = r .before .before .before .before .before in
+    let i = then1 (r .before) in
     let f = i .before .before in
     let s = entry f .pre in
     let w = entry f .args .arrays in

@@ -181,9 +181,7 @@ reserved-returns : tie.Need-returns-10
 reserved-returns c = λ u h.
     let a = c .before .before in
     let f = a .before in
-    let r = a .match .rest in
-    let none = no-form (f .form-of .result) (r .0 .0 .0 .0 .0 .0 .0 .0 .1) (r .0 .0 .0 .0 .0 .0 .0 .1) (r .0 .0 .0 .0 .0 .0 .1) (r .0 .0 .0 .0 .0 .1) (r .0 .0 .0 .0 .1) (r .0 .0 .0 .1) (r .0 .0 .1) (r .0 .1) (r .1) in
-    reserved-chosen (h .prepared) (h .known) (h .within) (h .found) (ap formNumber (sym (f .form-of .ensures .0)) ∙ none)
+    reserved-chosen (h .prepared) (h .known) (h .within) (h .found) (ap formNumber (sym (f .form-of .ensures .0)) ∙ no-form (f .form-of .result) (a .match .rest))
 
 beyond-returns : tie.Need-returns-11
 beyond-returns c = absurd (omega (arith, c .before .before .before .form-of .ensures .1))

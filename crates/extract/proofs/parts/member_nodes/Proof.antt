@@ -1,6 +1,7 @@
 -- `extract::parts::member_nodes` meets its contract. The loop's invariant: the nodes of the members passed are there. Assumes nothing.
 use Prim.Native.Nat.{ℕ, _-_, _≤_, _<_}
 use mathlib.Core.Path.{_≡_, refl, _∙_}
+use mathlib.Core.List.{List}
 use native.Mathlib.Omega.{arith}
 use borrow.Author.Count.{below-more}
 use borrow.Author.Needs.{needs}
@@ -10,30 +11,40 @@ use Rattle.words.specs.Fields.{memberNode}
 use Rattle.extract.proofs.parts.member_nodes.Statement.{statement}
 use Rattle.extract.proofs.parts.member_nodes.Tie as tie
 
+-- the nodes of the first i members
+record Passed (members nodes : List ℕ) (i : ℕ) : Type 0 where
+  upto : i ≤ length members
+  long : length nodes ≡ 4
+  node : (j : ℕ) → j < i → getD nodes j 0 ≡ memberNode (getD members j 0)
+
 abbrev Inv-loop : tie.InvT-loop
-Inv-loop members nodes₀ i₀ nodes i =
-    (i ≤ length members) × (length nodes ≡ 4) × ((j : ℕ) → j < i → getD nodes j 0 ≡ memberNode (getD members j 0))
+Inv-loop members nodes₀ i₀ nodes i = Passed members nodes i
 
 abbrev μ-loop : tie.MeasureT-loop
 μ-loop members nodes₀ i₀ nodes i = length members - i
 
+-- the places of the code that the proof speaks of
+abbrev entry : tie.After-member-node Inv-loop μ-loop → tie.Start Inv-loop μ-loop
+entry c = c .before .before .before .before .before
+
 loop-holds : tie.Need-loop-holds Inv-loop μ-loop
-loop-holds c = (omega arith, refl, λ j l. absurd (omega arith))
+loop-holds c = record { upto = omega arith; long = refl; node = λ j l. absurd (omega arith) }
 
 loop-again : tie.Need-loop-again Inv-loop μ-loop
 loop-again c =
     let l = c .before .before .before .loop in
-    let s = c .before .before .before .before .before in
-    let v = c .member-node .result in (
-      omega arith,
-      simp length-set (l .inv .1),
-      below-more (λ j. getD (set (l .nodes) (l .i) v) j 0 ≡ memberNode (getD (s .args .members .now) j 0)) (l .i)
-          (λ j g. getD-set-other (l .nodes) (l .i) j v 0 (omega arith) ∙ l .inv .2 j g)
-          (getD-set-same (l .nodes) (l .i) v 0 (omega (arith, l .inv .1, s .pre, c .before .before .loop-test .taken)) ∙ c .member-node .ensures .0),
-    )
+    let s = entry c in
+    let v = c .member-node .result in
+    record {
+      upto = omega arith;
+      long = simp length-set (l .inv .long);
+      node = below-more (λ j. getD (set (l .nodes) (l .i) v) j 0 ≡ memberNode (getD (s .args .members .now) j 0)) (l .i)
+          (λ j g. getD-set-other (l .nodes) (l .i) j v 0 (omega arith) ∙ l .inv .node j g)
+          (getD-set-same (l .nodes) (l .i) v 0 (omega (arith, l .inv .long, s .pre, c .before .before .loop-test .taken)) ∙ c .member-node .ensures .0);
+    }
 
 returns : tie.Need-returns Inv-loop μ-loop
-returns c = λ i l. c .before .loop .inv .2 i (omega arith)
+returns c = λ i l. c .before .loop .inv .node i (omega arith)
 
 pub member-nodes-spec : {M : Type 1} → statement M
 member-nodes-spec =

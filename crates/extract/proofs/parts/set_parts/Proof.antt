@@ -10,6 +10,10 @@ use borrow.Author.Needs.{needs}
 use Rattle.extract.proofs.parts.set_parts.Statement.{statement}
 use Rattle.extract.proofs.parts.set_parts.Tie as tie
 
+-- the places of the code that the proof speaks of
+abbrev after-set-counts : tie.After-place → tie.After-set-counts
+after-set-counts c = c .before .before .before .before
+
 -- the function's entry, seen from the counts
 abbrev entry : tie.After-set-counts → tie.Start
 entry k = k .before .before .before
@@ -28,14 +32,14 @@ place-requires c κs =
 
 member-nodes-requires : tie.Need-member-nodes-requires
 member-nodes-requires c κs =
-    let k = c .before .before .before .before .before .before in
+    let k = after-set-counts (c .before .before) in
     let a = entry k .args in
     rw (members-part (k .set-counts .ensures)) (few-members (membersAt (a .words .now) (a .place)) _ (a .values .now) _ _ _ _ (entry k .pre .1))
 
 returns : tie.Need-returns
 returns c =
     let p = c .before .before .before in
-    let k = p .before .before .before .before in
+    let k = after-set-counts p in
     let a = entry k .args in
     placed-parts (membersAt (a .words .now) (a .place)) (conditionsAt (a .words .now) (a .place)) (a .values .now) (a .table .now) (a .last) (a .b) (a .e) (k .set-counts .result .members)
     (members-count k)

@@ -6,6 +6,10 @@ use Rattle.extract.proofs.Searches.{start-meets, start-at}
 use Rattle.extract.proofs.parts.start_window_parts.Statement.{statement}
 use Rattle.extract.proofs.parts.start_window_parts.Tie as tie
 
+-- the places of the code that the proof speaks of
+abbrev entry : tie.After-ends → tie.Start
+entry c = c .before .before .before .before .before
+
 -- the begin that was found
 moment : (c : tie.After-meeting) → c .meeting .result < 64
 moment c = let some = c .before .before .before .pre .some in c .meeting .ensures .any (some .1) (start-meets (some .3))
@@ -24,7 +28,7 @@ ends-requires c κs = let m = c .before in (search needs, m .meeting .ensures .f
 
 two-requires : tie.Need-two-requires
 two-requires c κs =
-    let s = c .before .before .before .before .before .pre .within in
+    let s = entry c .pre .within in
     let g = c .ends .ensures .greater in
     omega (arith, moment (c .before .before), s .begin, s .finish)
 

@@ -13,6 +13,13 @@ Inv-loop table x y b e least most from left₀ left = Left table x y b e least m
 abbrev μ-loop : tie.MeasureT-loop
 μ-loop table x y b e least most from left₀ left = popCount left
 
+-- the places of the code that the proof speaks of
+abbrev entry : tie.At-loop Inv-loop μ-loop → tie.Start Inv-loop μ-loop
+entry c = c .before .before .before .before .before
+
+abbrev turn : tie.Then1 Inv-loop μ-loop → tie.At-loop Inv-loop μ-loop
+turn c = c .before .before .before .before
+
 cast-from : tie.Need-cast-from Inv-loop μ-loop
 cast-from c = let some = c .before .before .pre .some .2 in omega (arith, some .after, some .end)
 
@@ -29,10 +36,13 @@ add-meeting-2 : tie.Need-add-meeting-2 Inv-loop μ-loop
 add-meeting-2 c = omega (arith, c .lowest .ensures .below)
 
 meeting-requires : tie.Need-meeting-requires Inv-loop μ-loop
-meeting-requires c κs = omega (arith, c .lowest .ensures .below, c .before .before .before .before .before .before .before .pre)
+meeting-requires c κs =
+    let s = entry (c .before .before) .pre in
+    let k = c .lowest .ensures .below in
+    record { node = s .within .right; finish = s .within .finish; upto = omega (arith, s .late); size = s .within .size }
 
 returns : tie.Need-returns Inv-loop μ-loop
-returns c = left-found (c .before .before .before .before .loop .inv) (c .before .before .lowest .ensures) (c .before .meeting .ensures) (c .if1 .taken)
+returns c = left-found (turn c .loop .inv) (c .before .before .lowest .ensures) (c .before .meeting .ensures) (c .if1 .taken)
 
 loop-less : tie.Need-loop-less Inv-loop μ-loop
 loop-less c = omega (arith, c .drop-lowest .ensures .fewer)
@@ -43,7 +53,7 @@ loop-again c =
     left-turn (l .before .before .loop .inv) (l .lowest .ensures) (c .before .before .meeting .ensures) (c .before .if1 .left) (c .drop-lowest .ensures)
 
 returns-2 : tie.Need-returns-2 Inv-loop μ-loop
-returns-2 c = absurd (left-none (c .before .loop .inv) (omega arith) (c .before .before .before .before .before .before .pre .some .2))
+returns-2 c = absurd (left-none (c .before .loop .inv) (omega arith) (entry (c .before) .pre .some .2))
 
 pub cut-spec : {M : Type 1} → statement M
 cut-spec =

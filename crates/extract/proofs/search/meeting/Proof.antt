@@ -14,6 +14,16 @@ Inv-loop xs table y first end e m₀ m = Onward xs table y first end e m
 abbrev μ-loop : tie.MeasureT-loop
 μ-loop xs table y first end e m₀ m = 128 - m
 
+-- the places of the code that the proof speaks of
+abbrev turn : tie.After-has Inv-loop μ-loop → tie.At-loop Inv-loop μ-loop
+turn c = c .before .before .before .before .before
+
+abbrev inside : tie.Then2 Inv-loop μ-loop → tie.In-loop Inv-loop μ-loop
+inside c = c .before .before .before .before .before
+
+abbrev else1 : tie.Then2 Inv-loop μ-loop → tie.Else1 Inv-loop μ-loop
+else1 c = c .before .before .before .before
+
 loop-holds : tie.Need-loop-holds Inv-loop μ-loop
 loop-holds c = record { from = omega arith; left = λ k h. h .from }
 
@@ -22,20 +32,20 @@ returns c = none-meets (c .before .before .loop .inv) (λ k h l s. omega (arith,
 
 returns-2 : tie.Need-returns-2 Inv-loop μ-loop
 returns-2 c =
-    let l = c .before .before .before .before .before .before .loop in
+    let l = turn (c .before) .loop in
     record {
       found = λ h. record {
         from = l .inv .from;
-        upto = c .before .before .before .before .before .loop-test .taken;
+        upto = inside c .loop-test .taken;
         moment = h;
         max = c .before .before .max-of .ensures _ .0 (sym (c .before .has .ensures) ∙ c .if2 .taken);
       };
-      any = λ k h. c .before .before .before .before .if1 .left;
+      any = λ k h. else1 c .if1 .left;
     }
 
 loop-again : tie.Need-loop-again Inv-loop μ-loop
 loop-again c =
-    onward-more (c .before .before .before .before .before .before .loop .inv)
+    onward-more (turn (c .before) .loop .inv)
     (λ h. not-both (c .before .before .max-of .ensures _ .1 h) (sym (c .before .has .ensures) ∙ c .if2 .left))
 
 returns-3 : tie.Need-returns-3 Inv-loop μ-loop

@@ -100,7 +100,7 @@ module _ (t : ℕ) where
   same-size w = length-set (entry w .args .buffer .now) (entry w .args .at) (w .reading-word .result)
 
   reading-word-requires : lts.Need-reading-word-requires (calls t) (own-at t) own.Post
-  reading-word-requires c κs = moments (c .before .before .before .pre .1 .1)
+  reading-word-requires c κs = let m = moments (c .before .before .before .pre .1 .1) in (omega arith, omega arith, omega arith)
 
   mul-buf : lts.Need-mul-buffer (calls t) (own-at t) own.Post
   mul-buf c = omega (arith, has-room (entry c .pre .1 .1), entry c .good)

@@ -4,11 +4,15 @@ use borrow.Author.Needs.{needs}
 use Rattle.reading.proofs.rows.end_window_row.Statement.{statement}
 use Rattle.reading.proofs.rows.end_window_row.Tie as tie
 
+-- the places of the code that the proof speaks of
+abbrev entry : tie.After-join-rows → tie.Start
+entry c = c .before .before .before .before
+
 returns : tie.Need-returns
 returns c = λ e.
     let j = in-joined (c .join-rows .ensures) e in
     let w = c .before .windows .ensures in
-    let inside = c .before .before .before .before .pre .0 .inside in (
+    let inside = entry c .pre .0 .inside in (
       λ t.
           let r = j .0 t in
           let a = w (r .0) .0 (r .1) in

@@ -126,9 +126,7 @@ returns-9 c = absurd (entry (c .before) .pre .single (ap formNumber (form-is (c 
 returns-10 : tie.Need-returns-10
 returns-10 c =
     let f = c .before .before in
-    let r = c .before .match .rest in
-    let none = no-form (f .form-of .result) (r .0 .0 .0 .0 .0 .0 .0 .0 .1) (r .0 .0 .0 .0 .0 .0 .0 .1) (r .0 .0 .0 .0 .0 .0 .1) (r .0 .0 .0 .0 .0 .1) (r .0 .0 .0 .0 .1) (r .0 .0 .0 .1) (r .0 .0 .1) (r .0 .1) (r .1) in
-    λ e. rw (rw (f .form-of .ensures .0) at none) (in-none (λ e z. z) e)
+    λ e. rw (rw (f .form-of .ensures .0) at (no-form (f .form-of .result) (c .before .match .rest))) (in-none (λ e z. z) e)
 
 returns-11 : tie.Need-returns-11
 returns-11 c = absurd (omega (arith, c .before .before .form-of .ensures .1))

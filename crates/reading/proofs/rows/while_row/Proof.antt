@@ -6,6 +6,10 @@ use borrow.Author.Needs.{needs}
 use Rattle.reading.proofs.rows.while_row.Statement.{statement}
 use Rattle.reading.proofs.rows.while_row.Tie as tie
 
+-- the places of the code that the proof speaks of
+abbrev then2 : tie.After-join-rows → tie.Then2
+then2 c = c .before .before .before .before
+
 returns : tie.Need-returns
 returns c = λ e. let s = in-single (c .single .ensures) e in let v = c .before .if1 .taken in (
   λ t. inl (v, s .0 t),
@@ -15,7 +19,7 @@ returns c = λ e. let s = in-single (c .single .ensures) e in let v = c .before 
 returns-2 : tie.Need-returns-2
 returns-2 c = λ e.
     let j = in-joined (c .join-rows .ensures) e in
-    let v = c .before .before .before .before .if2 .taken in
+    let v = then2 c .if2 .taken in
     let x = in-both (c .before .inter .ensures) in
     let w = c .before .before .window .ensures in (
       λ t. let r = j .0 t in let i = x (r .0) .0 (r .1) in let k = w (r .0) .0 (i .1) in inr (v, (r .0, k .0, k .2, i .0, r .2)),

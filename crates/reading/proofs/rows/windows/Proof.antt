@@ -12,6 +12,10 @@ Inv-loop ends least most last found₀ left₀ found left = Split ends least mos
 abbrev μ-loop : tie.MeasureT-loop
 μ-loop ends least most last found₀ left₀ found left = popCount left
 
+-- the places of the code that the proof speaks of
+abbrev turn : tie.After-drop-lowest Inv-loop μ-loop → tie.At-loop Inv-loop μ-loop
+turn c = c .before .before .before .before .before
+
 loop-holds : tie.Need-loop-holds Inv-loop μ-loop
 loop-holds c = split-start
 
@@ -19,7 +23,7 @@ loop-less : tie.Need-loop-less Inv-loop μ-loop
 loop-less c = omega (arith, c .drop-lowest .ensures .fewer)
 
 loop-again : tie.Need-loop-again Inv-loop μ-loop
-loop-again c = split-turn (c .before .before .window .result) (c .before .before .before .before .before .loop .inv) (c .before .before .before .lowest .ensures) (c .drop-lowest .ensures) (c .before .before .window .ensures) (c .before .union .ensures)
+loop-again c = split-turn (c .before .before .window .result) (turn c .loop .inv) (c .before .before .before .lowest .ensures) (c .drop-lowest .ensures) (c .before .before .window .ensures) (c .before .union .ensures)
 
 returns : tie.Need-returns Inv-loop μ-loop
 returns c = split-end (omega arith) (c .before .loop .inv)

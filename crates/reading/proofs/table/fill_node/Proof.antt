@@ -13,6 +13,13 @@ use borrow.Author.Needs.{needs}
 use Rattle.reading.proofs.table.fill_node.Statement.{statement}
 use Rattle.reading.proofs.table.fill_node.Tie as tie
 
+-- the places of the code that the proof speaks of
+abbrev then1 : tie.After-slice-known2 → tie.Then1
+then1 c = c .before .before .before .before
+
+abbrev else1 : tie.After-slice-known3 → tie.Else1
+else1 c = c .before .before .before .before
+
 -- the function's entry, seen from the form
 abbrev entry : tie.After-form-of → tie.Start
 entry f = f .before .before .before .before .before
@@ -48,14 +55,14 @@ fill-rows-requires c κs =
 
 returns : tie.Need-returns
 returns c =
-    let i = c .before .before .before .before in
+    let i = then1 c in
     let f = i .before in
     let s = entry f in
     set-node (procedure s) (trajectory s) (s .args .p) (is-set f (i .if1 .taken)) (s .pre .1) (c .before .before .fill-set .ensures)
 
 returns-2 : tie.Need-returns-2
 returns-2 c =
-    let i = c .before .before .before .before in
+    let i = else1 c in
     let f = i .before in
     let s = entry f in
     same-rows (procedure s) (own s) (trajectory s) (s .args .p) refl (λ q. absurd (no-set f (i .if1 .left) q)) (c .before .before .fill-rows .ensures)

@@ -13,17 +13,21 @@ Inv-loop word starts durations values last p table₀ b₀ table b = (b ≤ last
 abbrev μ-loop : tie.MeasureT-loop
 μ-loop word starts durations values last p table₀ b₀ table b = b
 
+-- the places of the code that the proof speaks of
+abbrev entry : tie.After-row-arg Inv-loop μ-loop → tie.Start Inv-loop μ-loop
+entry c = c .before .before .before .before
+
 loop-holds : tie.Need-loop-holds Inv-loop μ-loop
 loop-holds c = (omega arith, rows-start)
 
 row-requires : tie.Need-row-requires Inv-loop μ-loop
-row-requires c κs = let s = c .before .before .before .before .pre in row-ready (s .0) (omega arith) (omega arith) (c .before .before .loop .inv .1) (s .1)
+row-requires c κs = let s = entry c .pre in row-ready (s .0) (omega arith) (omega arith) (c .before .before .loop .inv .1) (s .1)
 
 slice-write-table : tie.Need-slice-write-table Inv-loop μ-loop
-slice-write-table c = let s = c .before .before .before .before .before .pre .0 in omega (arith, s .room, s .moments, c .before .before .before .loop .inv .1 .size)
+slice-write-table c = let s = entry (c .before) .pre .0 in omega (arith, s .room, s .moments, c .before .before .before .loop .inv .1 .size)
 
 loop-again : tie.Need-loop-again Inv-loop μ-loop
-loop-again c = let s = c .before .before .before .before .before .pre in (omega arith, rows-more (s .0) (omega arith) (omega arith) (c .before .before .before .loop .inv .1) (c .row .ensures))
+loop-again c = let s = entry (c .before) .pre in (omega arith, rows-more (s .0) (omega arith) (omega arith) (c .before .before .before .loop .inv .1) (c .row .ensures))
 
 same-length : tie.Need-same-length Inv-loop μ-loop
 same-length c = c .before .loop .inv .1 .size

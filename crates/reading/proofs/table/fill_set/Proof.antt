@@ -4,19 +4,23 @@ use borrow.Author.Needs.{needs}
 use Rattle.reading.proofs.table.fill_set.Statement.{statement}
 use Rattle.reading.proofs.table.fill_set.Tie as tie
 
+-- the places of the code that the proof speaks of
+abbrev after-set-counts : tie.After-set-rows-arg3 → tie.After-set-counts
+after-set-counts c = c .before .before .before .before .before
+
 -- the function's entry, seen from the counts
 abbrev entry : tie.After-set-counts → tie.Start
 entry k = k .before .before .before
 
 set-rows-requires : tie.Need-set-rows-requires
 set-rows-requires c κs =
-    let k = c .before .before .before .before .before in
+    let k = after-set-counts c in
     rw (members-part (k .set-counts .ensures), conditions-part (k .set-counts .ensures)) (entry k .pre .1)
 
 returns : tie.Need-returns
 returns c =
     let a = c .before .before .before in
-    let k = a .before .before .before .before .before in
+    let k = after-set-counts a in
     rw (members-part (k .set-counts .ensures), conditions-part (k .set-counts .ensures)) at (c .before .before .set-rows .ensures)
 
 pub fill-set-spec : {M : Type 1} → statement M

@@ -19,6 +19,16 @@ Inv-loop words places count starts durations values last table₀ p₀ table p =
 abbrev μ-loop : tie.MeasureT-loop
 μ-loop words places count starts durations values last table₀ p₀ table p = count - p
 
+-- the places of the code that the proof speaks of
+abbrev entry1 : tie.At-loop Inv-loop μ-loop → tie.Start Inv-loop μ-loop
+entry1 c = c .before .before .before
+
+abbrev entry2 : tie.After-slice-known2 Inv-loop μ-loop → tie.Start Inv-loop μ-loop
+entry2 c = entry1 (c .before .before .before .before .before)
+
+abbrev turn : tie.After-slice-known2 Inv-loop μ-loop → tie.At-loop Inv-loop μ-loop
+turn c = c .before .before .before .before .before
+
 -- the procedure by so many nodes, and the trajectory
 abbrev procedure : tie.Start Inv-loop μ-loop → ℕ → Procedure
 procedure s count = procedureAt (now (s .args .words)) (now (s .args .places)) count
@@ -31,7 +41,7 @@ loop-holds c = (omega arith, built-start (c .before .before .pre .1))
 
 fill-node-requires : tie.Need-fill-node-requires Inv-loop μ-loop
 fill-node-requires c κs =
-    let s = c .before .before .before .before .before in
+    let s = entry1 (c .before .before) in
     let g = s .pre .0 in
     let v = c .before .before .loop in (
       (omega (arith, g .few), g .inside (v .p) (omega arith)),
@@ -40,16 +50,16 @@ fill-node-requires c κs =
 
 loop-again : tie.Need-loop-again Inv-loop μ-loop
 loop-again c =
-    let s = c .before .before .before .before .before .before .before .before in
+    let s = entry2 c in
     let g = s .pre .0 in
-    let v = c .before .before .before .before .before .loop in (
+    let v = turn c .loop in (
       omega arith,
       built-more (g .moments) (g .formed (v .p) (omega arith) .lower) (v .inv .1)
           (same-rows (procedure s (s .args .count)) (procedure s 64) (trajectory s) (v .p) refl (λ f. (refl, refl)) (c .before .before .fill-node .ensures)) (search needs),
     )
 
 same-length : tie.Need-same-length Inv-loop μ-loop
-same-length c = c .before .loop .inv .1 .size ∙ sym (c .before .before .before .before .pre .1 .size)
+same-length c = c .before .loop .inv .1 .size ∙ sym (entry1 (c .before) .pre .1 .size)
 
 returns : tie.Need-returns Inv-loop μ-loop
 returns c = built-end (omega arith) (c .before .loop .inv .1)

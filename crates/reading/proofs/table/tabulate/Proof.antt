@@ -4,11 +4,18 @@ use borrow.Author.Needs.{needs}
 use Rattle.reading.proofs.table.tabulate.Statement.{statement}
 use Rattle.reading.proofs.table.tabulate.Tie as tie
 
+-- the places of the code that the proof speaks of
+abbrev entry : tie.After-count-all → tie.Start
+entry c = c .before .before .before .before .before .before .before .before
+
+abbrev after-fill-table : tie.After-count-all → tie.After-fill-table
+after-fill-table c = c .before .before .before .before
+
 returns : tie.Need-returns
 returns c =
-    let s = c .before .before .before .before .before .before .before .before in
+    let s = entry c in
     let g = s .pre .0 in
-    let found = c .before .before .before .before .fill-table .ensures in record {
+    let found = after-fill-table c .fill-table .ensures in record {
       table = found;
       count = rw (c .count-all .ensures) (counted (g .few) (g .moments) found);
       small = rw (c .count-all .ensures) (pairs-small found);
