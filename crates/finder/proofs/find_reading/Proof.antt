@@ -13,7 +13,6 @@ use Rattle.finder.proofs.find_reading.Statement.{statement}
 use Rattle.finder.proofs.find_reading.Tie as tie
 
 -- the places of the code that the proof speaks of
-<<<<<<< HEAD
 abbrev entry : tie.After-judge-facts → tie.Start
 entry c = c .before .before .before .before .before .before
 
@@ -26,22 +25,6 @@ clear c = sym (ap (λ (r : Refusal). r .number) (judged c .judge-facts .ensures 
 
 passed : (c : tie.Else2) → let s = entry (judged c) .args in Passed (s .job .now) (s .starts .now) (judged c .judge-facts .result)
 passed c = judged c .judge-facts .ensures .passed (clear c)
-=======
-abbrev entry : tie.After-enum-told → tie.Start
-entry c = c .before .before .before .before .before .before .before .before
-
-abbrev after-shared-slice-known2 : tie.After-enum-told → tie.After-shared-slice-known2
-after-shared-slice-known2 c = c .before .before .before .before .before .before
-
-abbrev else1 : tie.After-seek-arg → tie.Else1
-else1 c = c .before .before .before .before .before
-
-abbrev after-check-plan : tie.After-seek-arg → tie.After-check-plan
-after-check-plan c = c .before .before .before .before
-
-abbrev after-enum-told2 : tie.After-slice-known2 → tie.After-enum-told2
-after-enum-told2 c = c .before .before .before .before .before
->>>>>>> e4222400857c6d62b4c2a16a08079d790d1a7ad2
 
 returns : tie.Need-returns
 returns c =
@@ -51,7 +34,6 @@ returns c =
 returns-2 : tie.Need-returns-2
 unfolding checkAnswer
 returns-2 c =
-<<<<<<< HEAD
     let j = c .before .before .before .before in
     let s = entry j .args in
     let is = j .judge-facts .ensures .refusal in
@@ -59,22 +41,11 @@ returns-2 c =
     let same = c .answer-of2 .ensures ∙ ap (λ (r : Refusal). answerOf r 0 0) is in
     let words = j .before .before .before .before .shared-slice-known2 in
     (row .0, (subst InRange (sym same) (check-range (s .job .now) (s .starts .now) (λ i. omega (arith, words .given i)) (s .facts .now)), row .1))
-=======
-    let start = entry c in
-    let e = c .before .before .check-plan .ensures in (
-      check-refused _ _ _ _ (omega (arith, c .before .before .before .if1)) (c .before .before .check-plan .ensures) (c .enum-told .given .1),
-      (
-        subst InRange (sym e) (check-range (start .args .job .now) (start .args .starts .now) (λ i. omega (arith, after-shared-slice-known2 c .shared-slice-known2 .given i)) (start .args .facts .now)),
-        refused-length (c .enum-told .given .1),
-      ),
-    )
->>>>>>> e4222400857c6d62b4c2a16a08079d790d1a7ad2
 
 arrays-of-requires : tie.Need-arrays-of-requires
 arrays-of-requires c κs = passed c
 
 seek-requires : tie.Need-seek-requires
-<<<<<<< HEAD
 seek-requires c κs = let e = c .before .before in
     record { clear = job-clear _ _ (passed e .clear); represented = c .before .arrays-of .ensures; room = omega (arith, judged e .before .if1) }
 
@@ -83,17 +54,6 @@ returns-3 c =
     let k = c .before .before in
     let e = k .before .before .before in
     (then-sought _ _ _ _ (omega (arith, judged e .before .if1)) (clear e) (k .seek .ensures .0), k .seek .ensures .1)
-=======
-seek-requires c κs = record {
-  clear = job-clear _ _ (plan-none _ _ _ (after-check-plan c .check-plan .ensures) (c .before .before .enum-told2 .given .1));
-  represented = c .before .arrays-of .ensures;
-  room = omega (arith, else1 c .if1);
-}
-
-returns-3 : tie.Need-returns-3
-returns-3 c =
-    (then-sought _ _ _ _ (omega (arith, else1 (c .before .before .before) .if1)) (after-check-plan (c .before .before .before) .check-plan .ensures) (after-enum-told2 c .enum-told2 .given .1) (c .before .before .seek .ensures .0), c .before .before .seek .ensures .1)
->>>>>>> e4222400857c6d62b4c2a16a08079d790d1a7ad2
 
 pub find-reading-spec : {M : Type 1} → statement M
 find-reading-spec =
