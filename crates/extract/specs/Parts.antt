@@ -12,7 +12,7 @@ use Rattle.model.specs.Arrays.{procedureAt, trajectoryAt}
 use Rattle.model.specs.Table.{InTable}
 use Rattle.model.specs.declared.Triple.{Triple}
 use Rattle.sets.specs.Set.{TaskSet, memberCount, member}
-use Rattle.sets.specs.Ends.{Placed}
+use Rattle.sets.specs.Rows.{Placed}
 use Rattle.reading.specs.Forms.{Readable}
 use Rattle.reading.specs.Reading.{whole, Reading}
 use Rattle.reading.specs.Table.{Found}

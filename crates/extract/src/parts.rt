@@ -6,7 +6,7 @@ ghost use lib.ListN.{length, getD};
 ghost use Rattle.words.specs.Fields.{holds, memberNode};
 ghost use Rattle.model.specs.Arrays.{membersAt, conditionsAt};
 ghost use Rattle.model.specs.Table.{InTable};
-ghost use Rattle.sets.specs.Ends.{taskSetOf, Placeable};
+ghost use Rattle.sets.specs.Rows.{taskSetOf, Placeable};
 ghost use Rattle.extract.specs.Search.{Within, CutAt, CutReady, StartAt, StartReady};
 ghost use Rattle.extract.specs.Parts.{noParts, onePart, twoParts, PlacedParts, Choosable, Chosen, Unseen, procedureBy, trajectoryBy};
 use crate::search;

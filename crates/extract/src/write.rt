@@ -90,13 +90,14 @@ fn write_passes(
     let mut end = at;
     while m < e {
         let c = search::cut(table, y, p, m, e, 0, 0, m + 1);
+        let k = c.first;
         let pass = Triple {
             node: y,
             begin: m,
-            end: c.first,
+            end: k,
         };
         end = write_reading(words, places, values, last, table, pass, end, buffer);
-        m = c.first;
+        m = k;
     }
     end
 }
