@@ -1,11 +1,11 @@
 -- The members of the sets that the operations make, by the relation `In`. Assumes nothing.
-use Prim.Native.Nat.{ℕ, _+_, _^_, _≤_, _<_, max}
-use mathlib.Core.Path.{_≡_, sym, _∙_}
+use Prim.Native.Nat.{ℕ, zero, suc, _+_, _^_, _≤_, _<_, max}
+use mathlib.Core.Path.{_≡_, refl, sym, _∙_}
 use mathlib.Core.Bool.{true, _&&_, _||_}
 use mathlib.Core.Logic.{_↔_, _⊎_, inl, inr, ⊎-elim}
 use mathlib.Core.List.{List}
 use lib.Dec.{leb, ltb, eqb}
-use lib.ListN.{getD}
+use lib.ListN.{getD, replicate}
 use borrow.Author.Tests.{leb-true, ltb-true, eqb-true, le-leb, lt-ltb, eq-eqb}
 use Rattle.bitset.specs.Members.{has, IsSetOf, In, Max, InSomeRow}
 use Rattle.words.proofs.Choices.{both-true}
@@ -66,3 +66,9 @@ in-max h k = (
   λ t. let m = h k .0 (t .yes) in (m .i, m .j, m .is-max, record { yes = m .in-a }, record { yes = m .in-b }),
   λ m. record { yes = h k .1 (record { i = m .0; j = m .1; in-a = m .3 .yes; in-b = m .4 .yes; is-max = m .2 }) },
 )
+
+-- an array of empty sets
+pub empty-entry : (k i : ℕ) → getD (replicate k zero) i 0 ≡ 0
+empty-entry zero i = refl
+empty-entry (suc k) zero = refl
+empty-entry (suc k) (suc i) = empty-entry k i

@@ -9,7 +9,7 @@ use native.Mathlib.Omega.{arith}
 use lib.Dec.{eqb, leb}
 use lib.ListN.{length, getD}
 use borrow.Author.Tests.{eqb-true, eq-eqb, leb-true, le-leb}
-use Rattle.sets.specs.Ends.{entryAt}
+use Rattle.sets.specs.Rows.{entryAt}
 use Rattle.words.specs.Tests.{implies}
 use Rattle.words.proofs.Choices.{implies-true}
 use Rattle.words.specs.Fields.{fails, holds, conditionFormula, conditionI, conditionJ, conditionM, conditionN}

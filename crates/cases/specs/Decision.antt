@@ -5,7 +5,7 @@ use mathlib.Core.Bool.{Bool, true, false, _&&_, _||_}
 use mathlib.Core.List.{List, [], _∷_}
 use lib.Dec.{eqb, leb}
 use lib.ListN.{length, getD}
-use Rattle.sets.specs.Ends.{entryAt}
+use Rattle.sets.specs.Rows.{entryAt}
 use Rattle.words.specs.Tests.{implies}
 use Rattle.words.specs.Fields.{fails, holds, conditionFormula, conditionI, conditionJ, conditionM, conditionN}
 use Rattle.model.specs.Trajectory.{Trajectory}

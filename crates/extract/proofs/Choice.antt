@@ -9,7 +9,7 @@ use Rattle.words.specs.Scan.{concatBelow}
 use Rattle.words.specs.Fields.{holds, memberNode, readingWord}
 use Rattle.model.specs.Trajectory.{Trajectory}
 use Rattle.model.specs.Procedure.{Procedure}
-use Rattle.sets.specs.Ends.{taskSetOf, entryAt, Placeable, Placed}
+use Rattle.sets.specs.Rows.{taskSetOf, entryAt, Placeable, Placed}
 use Rattle.model.specs.Table.{InTable}
 use Rattle.model.specs.Forms.{Form, Act, Test, Sequence, Choice, If, StartWindow, EndWindow, Set, Reserved, formAt, fieldX, fieldY, fieldM, fieldN, childrenAs, Below}
 use Rattle.reading.specs.Forms.{taskSet}

@@ -16,7 +16,7 @@ use Rattle.words.proofs.Choices.{both-true}
 use Rattle.bitset.proofs.Bools.{not-both, both}
 use Rattle.bitset.proofs.Digits.{has-zero, has-past}
 use Rattle.bitset.proofs.Ends.{lowest-le}
-use Rattle.extract.specs.Search.{Meets, FirstMeets, CutAt, Ends, StartAt}
+use Rattle.extract.specs.Search.{Meets, FirstMeets, CutAt, EndPair, StartAt}
 
 -- ---- a begin that meets
 
@@ -58,24 +58,24 @@ pub nonempty : (x k : ℕ) → has x k ≡ true → 0 < x
 nonempty x k h = by-cases (ℕ-discrete x 0) (λ z. not-both (ap (λ (w : ℕ). has w k) (sym z) ∙ h) (has-zero k)) (λ z. omega arith)
 
 module _ {xs ys e : ℕ} (m : Max xs ys e) where
-  pub ends-first : {l : ℕ} → has xs e ≡ true → Lowest ys l → Ends xs ys e e l
+  pub ends-first : {l : ℕ} → has xs e ≡ true → Lowest ys l → EndPair xs ys e e l
   ends-first h l = let g = lowest-le l (m .in-b) in record { first = record { yes = h }; second = record { yes = l .member }; greater = omega (arith, m .is-max) }
 
-  pub ends-second : {k : ℕ} → has xs e ≡ false → Lowest xs k → Ends xs ys e k e
+  pub ends-second : {k : ℕ} → has xs e ≡ false → Lowest xs k → EndPair xs ys e k e
   ends-second {k} h l =
       let g = lowest-le l (m .in-a) in
       let other : m .i ≡ e → ⊥ = λ q. not-both (ap (has xs) (sym q) ∙ m .in-a) h in
       let q : m .j ≡ e = omega (arith, m .is-max) in
       record { first = record { yes = l .member }; second = record { yes = ap (has ys) (sym q) ∙ m .in-b }; greater = omega (arith, m .is-max) }
 
-pub ends-max : {xs ys e k l : ℕ} → Ends xs ys e k l → Max xs ys e
+pub ends-max : {xs ys e k l : ℕ} → EndPair xs ys e k l → Max xs ys e
 ends-max {k = k} {l = l} s = record { i = k; j = l; in-a = s .first .yes; in-b = s .second .yes; is-max = s .greater }
 
 module _ {table : List ℕ} {x y b e least most m : ℕ} where
   pub start-meets : {k l : ℕ} → StartAt table x y b e least most k m l → Meets (rowAt table x b) table y (b + least) (b + most) e m
   start-meets s = record { from = s .early; upto = s .late; moment = s .begin; max = ends-max (s .ends) }
 
-  pub start-at : {k l : ℕ} → Meets (rowAt table x b) table y (b + least) (b + most) e m → Ends (rowAt table x b) (rowAt table y m) e k l
+  pub start-at : {k l : ℕ} → Meets (rowAt table x b) table y (b + least) (b + most) e m → EndPair (rowAt table x b) (rowAt table y m) e k l
       → StartAt table x y b e least most k m l
   start-at f s = record { early = f .from; late = f .upto; begin = f .moment; ends = s }
 

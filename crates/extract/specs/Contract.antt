@@ -12,7 +12,7 @@ use Rattle.model.specs.declared.Triple.{Triple}
 use Rattle.reading.specs.Reading.{whole, Reading}
 use Rattle.lengths.specs.Children.{NamedOnce}
 use Rattle.lengths.specs.Bound.{lengthBound}
-use Rattle.extract.specs.Parts.{Prepared}
+use Rattle.extract.specs.Parts.{Prepared, Unseen, procedureBy, trajectoryBy}
 
 -- there is room from `at` on for every list of words that R allows
 abbrev pub Room : (List ℕ → Type 0) → ℕ → ℕ → Type 0
@@ -34,6 +34,10 @@ pub record Writable (R : Procedure → Trajectory → Triple → List ℕ → Ty
   pub within : t .begin ≤ T .last
   pub found : InTable table (t .node) (t .begin) (t .end)
   pub room : Room (R P T t) at size
+
+-- the same of the arrays, with what the writer does not see
+abbrev pub WritableBy : (Procedure → Trajectory → Triple → List ℕ → Type 0) → List ℕ → List ℕ → List ℕ → ℕ → List ℕ → Triple → ℕ → ℕ → Unseen → Type 0
+WritableBy R words places values last table t at size u = Writable R (procedureBy words places u) (trajectoryBy values last u) (length words) places table t at size
 
 -- words that R allows stand in the buffer from `at` up to `end`, and all else is as it was
 -- (`sets` stores a list's elements one after the other; `lib.Seq.sets-eq` gives it as take at .. ++ words ++ drop end ..)

@@ -12,7 +12,7 @@ use Rattle.model.specs.Arrays.{procedureAt, trajectoryAt}
 use Rattle.model.specs.Table.{InTable}
 use Rattle.model.specs.declared.Triple.{Triple}
 use Rattle.sets.specs.Set.{TaskSet, memberCount, member}
-use Rattle.sets.specs.Ends.{Placed}
+use Rattle.sets.specs.Rows.{Placed}
 use Rattle.reading.specs.Forms.{Readable}
 use Rattle.reading.specs.Reading.{whole, Reading}
 use Rattle.reading.specs.Table.{Found}
@@ -80,3 +80,10 @@ procedureBy words places u = procedureAt words places (u .count)
 
 abbrev pub trajectoryBy : List ℕ → ℕ → Unseen → Trajectory
 trajectoryBy values last u = trajectoryAt (u .starts) (u .durations) values last
+
+-- a triple whose parts can be chosen, and a choice of them, of the arrays
+abbrev pub ChoosableBy : List ℕ → List ℕ → List ℕ → ℕ → List ℕ → Triple → Unseen → Type 0
+ChoosableBy words places values last table t u = Choosable (procedureBy words places u) (trajectoryBy values last u) (length words) places table t
+
+abbrev pub ChosenBy : List ℕ → List ℕ → List ℕ → ℕ → List ℕ → Triple → Parts → Unseen → Type 0
+ChosenBy words places values last table t r u = Chosen (procedureBy words places u) (trajectoryBy values last u) table (t .node) (t .begin) (t .end) r

@@ -51,7 +51,7 @@ pub record CutReady (table : List ℕ) (x y b e least most from : ℕ) : Type 0 
   pub some : (k : ℕ) × (m : ℕ) × CutAt table x y b e least most from k m
 
 -- k is one of xs, l one of ys, and e the greater
-pub record Ends (xs ys e k l : ℕ) : Type 0 where
+pub record EndPair (xs ys e k l : ℕ) : Type 0 where
   pub first : In xs k
   pub second : In ys l
   pub greater : e ≡ max k l
@@ -61,7 +61,7 @@ pub record StartAt (table : List ℕ) (x y b e least most k m l : ℕ) : Type 0 
   pub early : b + least ≤ m
   pub late : m ≤ b + most
   pub begin : m < 64
-  pub ends : Ends (rowAt table x b) (rowAt table y m) e k l
+  pub ends : EndPair (rowAt table x b) (rowAt table y m) e k l
 
 -- what a search for it asks: there is one
 pub record StartReady (table : List ℕ) (x y b e least most : ℕ) : Type 0 where

@@ -6,9 +6,9 @@ ghost use lib.ListN.{length, getD};
 ghost use Rattle.words.specs.Fields.{holds, memberNode};
 ghost use Rattle.model.specs.Arrays.{membersAt, conditionsAt};
 ghost use Rattle.model.specs.Table.{InTable};
-ghost use Rattle.sets.specs.Ends.{taskSetOf, Placeable};
+ghost use Rattle.sets.specs.Rows.{taskSetOf, Placeable};
 ghost use Rattle.extract.specs.Search.{Within, CutAt, CutReady, StartAt, StartReady};
-ghost use Rattle.extract.specs.Parts.{noParts, onePart, twoParts, PlacedParts, Choosable, Chosen, Unseen, procedureBy, trajectoryBy};
+ghost use Rattle.extract.specs.Parts.{noParts, onePart, twoParts, PlacedParts, Unseen, ChoosableBy, ChosenBy};
 use crate::search;
 use model::Triple;
 
@@ -172,8 +172,9 @@ pub fn choose_parts(
     table: &[u64],
     triple: Triple,
 ) -> Parts
-    requires { ⌜ ((u : Unseen) × Choosable (procedureBy (now words) (now places) u) (trajectoryBy (now values) last u) (length (now words)) (now places) (now table) triple) ⌝ }
-    ensures { λ r. ⌜ ((u : Unseen) → Choosable (procedureBy (now (words .entry)) (now (places .entry)) u) (trajectoryBy (now (values .entry)) last u) (length (now (words .entry))) (now (places .entry)) (now (table .entry)) triple → Chosen (procedureBy (now (words .entry)) (now (places .entry)) u) (trajectoryBy (now (values .entry)) last u) (now (table .entry)) (triple .node) (triple .begin) (triple .end) r) ⌝ }
+    requires { ⌜ ((u : Unseen) × ChoosableBy (now words) (now places) (now values) last (now table) triple u) ⌝ }
+    ensures { λ r. ⌜ ((u : Unseen) → ChoosableBy (now (words .entry)) (now (places .entry)) (now (values .entry)) last (now (table .entry)) triple u
+        → ChosenBy (now (words .entry)) (now (places .entry)) (now (values .entry)) last (now (table .entry)) triple r u) ⌝ }
 {
     let p = triple.node;
     let b = triple.begin;

@@ -4,7 +4,7 @@ ghost use mathlib.Core.Logic.{_⊎_};
 ghost use Prim.Native.Nat.{_<_};
 ghost use Rattle.bitset.specs.Members.{Max};
 ghost use Rattle.model.specs.Table.{InTable};
-ghost use Rattle.extract.specs.Search.{Within, MeetReady, FirstMeets, CutAt, CutReady, Ends};
+ghost use Rattle.extract.specs.Search.{Within, MeetReady, FirstMeets, CutAt, CutReady, EndPair};
 
 // Two moments.
 pub struct Pair {
@@ -68,7 +68,7 @@ pub fn cut(
 // An end of each of the sets xs and ys, of which e is the greater. There are such.
 pub fn ends(xs: u64, ys: u64, e: usize) -> Pair
     requires { ⌜ (e < 64) × Max xs ys e ⌝ }
-    ensures { λ r. ⌜ Ends xs ys e (r .first) (r .second) ⌝ }
+    ensures { λ r. ⌜ EndPair xs ys e (r .first) (r .second) ⌝ }
 {
     if bitset::has(xs, e as u32) {
         return Pair {

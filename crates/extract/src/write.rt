@@ -4,7 +4,7 @@ ghost use mathlib.Core.Path.{_≡_};
 ghost use lib.ListN.{length};
 ghost use Rattle.model.specs.Forms.{While, formAt};
 ghost use Rattle.extract.specs.Parts.{Unseen, procedureBy, trajectoryBy};
-ghost use Rattle.extract.specs.Contract.{Full, Rest, Writable, Written};
+ghost use Rattle.extract.specs.Contract.{Full, Rest, WritableBy, Written};
 use crate::parts;
 use crate::search;
 use model::Triple;
@@ -20,8 +20,8 @@ pub fn write_reading(
     at: usize,
     buffer: &mut [u32],
 ) -> usize
-    requires { ⌜ ((u : Unseen) × Writable Full (procedureBy (now words) (now places) u) (trajectoryBy (now values) last u) (length (now words)) (now places) (now table) triple at (length (now buffer))) ⌝ }
-    ensures { λ r. ⌜ ((u : Unseen) → Writable Full (procedureBy (now (words .entry)) (now (places .entry)) u) (trajectoryBy (now (values .entry)) last u) (length (now (words .entry))) (now (places .entry)) (now (table .entry)) triple at (length (now (buffer .entry))) → Written (Full (procedureBy (now (words .entry)) (now (places .entry)) u) (trajectoryBy (now (values .entry)) last u) triple) (now (buffer .entry)) at (now (buffer .exit)) r) ⌝ }
+    requires { ⌜ ((u : Unseen) × WritableBy Full (now words) (now places) (now values) last (now table) triple at (length (now buffer)) u) ⌝ }
+    ensures { λ r. ⌜ ((u : Unseen) → WritableBy Full (now (words .entry)) (now (places .entry)) (now (values .entry)) last (now (table .entry)) triple at (length (now (buffer .entry))) u → Written (Full (procedureBy (now (words .entry)) (now (places .entry)) u) (trajectoryBy (now (values .entry)) last u) triple) (now (buffer .entry)) at (now (buffer .exit)) r) ⌝ }
 {
     let p = triple.node;
     let b = triple.begin;
@@ -45,8 +45,8 @@ fn write_parts(
     at: usize,
     buffer: &mut [u32],
 ) -> usize
-    requires { ⌜ ((u : Unseen) × Writable Rest (procedureBy (now words) (now places) u) (trajectoryBy (now values) last u) (length (now words)) (now places) (now table) triple at (length (now buffer)) × (formAt (procedureBy (now words) (now places) u) (triple .node) ≡ While → ⊥)) ⌝ }
-    ensures { λ r. ⌜ ((u : Unseen) → Writable Rest (procedureBy (now (words .entry)) (now (places .entry)) u) (trajectoryBy (now (values .entry)) last u) (length (now (words .entry))) (now (places .entry)) (now (table .entry)) triple at (length (now (buffer .entry))) → (formAt (procedureBy (now (words .entry)) (now (places .entry)) u) (triple .node) ≡ While → ⊥) → Written (Rest (procedureBy (now (words .entry)) (now (places .entry)) u) (trajectoryBy (now (values .entry)) last u) triple) (now (buffer .entry)) at (now (buffer .exit)) r) ⌝ }
+    requires { ⌜ ((u : Unseen) × WritableBy Rest (now words) (now places) (now values) last (now table) triple at (length (now buffer)) u × (formAt (procedureBy (now words) (now places) u) (triple .node) ≡ While → ⊥)) ⌝ }
+    ensures { λ r. ⌜ ((u : Unseen) → WritableBy Rest (now (words .entry)) (now (places .entry)) (now (values .entry)) last (now (table .entry)) triple at (length (now (buffer .entry))) u → (formAt (procedureBy (now (words .entry)) (now (places .entry)) u) (triple .node) ≡ While → ⊥) → Written (Rest (procedureBy (now (words .entry)) (now (places .entry)) u) (trajectoryBy (now (values .entry)) last u) triple) (now (buffer .entry)) at (now (buffer .exit)) r) ⌝ }
 {
     let parts = parts::choose_parts(words, places, values, last, table, triple);
     let number = parts.count;
@@ -78,8 +78,8 @@ fn write_passes(
     at: usize,
     buffer: &mut [u32],
 ) -> usize
-    requires { ⌜ ((u : Unseen) × Writable Rest (procedureBy (now words) (now places) u) (trajectoryBy (now values) last u) (length (now words)) (now places) (now table) triple at (length (now buffer)) × (formAt (procedureBy (now words) (now places) u) (triple .node) ≡ While)) ⌝ }
-    ensures { λ r. ⌜ ((u : Unseen) → Writable Rest (procedureBy (now (words .entry)) (now (places .entry)) u) (trajectoryBy (now (values .entry)) last u) (length (now (words .entry))) (now (places .entry)) (now (table .entry)) triple at (length (now (buffer .entry))) → formAt (procedureBy (now (words .entry)) (now (places .entry)) u) (triple .node) ≡ While → Written (Rest (procedureBy (now (words .entry)) (now (places .entry)) u) (trajectoryBy (now (values .entry)) last u) triple) (now (buffer .entry)) at (now (buffer .exit)) r) ⌝ }
+    requires { ⌜ ((u : Unseen) × WritableBy Rest (now words) (now places) (now values) last (now table) triple at (length (now buffer)) u × (formAt (procedureBy (now words) (now places) u) (triple .node) ≡ While)) ⌝ }
+    ensures { λ r. ⌜ ((u : Unseen) → WritableBy Rest (now (words .entry)) (now (places .entry)) (now (values .entry)) last (now (table .entry)) triple at (length (now (buffer .entry))) u → formAt (procedureBy (now (words .entry)) (now (places .entry)) u) (triple .node) ≡ While → Written (Rest (procedureBy (now (words .entry)) (now (places .entry)) u) (trajectoryBy (now (values .entry)) last u) triple) (now (buffer .entry)) at (now (buffer .exit)) r) ⌝ }
 {
     let p = triple.node;
     let b = triple.begin;
@@ -90,13 +90,14 @@ fn write_passes(
     let mut end = at;
     while m < e {
         let c = search::cut(table, y, p, m, e, 0, 0, m + 1);
+        let k = c.first;
         let pass = Triple {
             node: y,
             begin: m,
-            end: c.first,
+            end: k,
         };
         end = write_reading(words, places, values, last, table, pass, end, buffer);
-        m = c.first;
+        m = k;
     }
     end
 }

@@ -9,7 +9,7 @@ use Rattle.bitset.specs.Members.{In}
 use Rattle.model.specs.Trajectory.{Trajectory}
 use Rattle.model.specs.Procedure.{Procedure}
 use Rattle.sets.specs.Set.{TaskSet, member, SetRule}
-use Rattle.sets.specs.Ends.{SetReady, SetRows}
+use Rattle.sets.specs.Rows.{SetReady, SetRows}
 use Rattle.model.specs.Table.{InTable, rowAt}
 use Rattle.sets.proofs.Stored.{rule-map}
 use Rattle.model.specs.Forms.{Form, Act, Test, Sequence, Choice, If, While, StartWindow, EndWindow, Set, Reserved, formAt}

@@ -11,6 +11,7 @@ use Rattle.model.specs.Table.{InTable, rowAt}
 use Rattle.bitset.specs.Members.{In}
 use Rattle.bitset.proofs.Bools.{not-both}
 use Rattle.bitset.proofs.Digits.{has-zero}
+use Rattle.bitset.proofs.In.{empty-entry}
 use Rattle.model.specs.Trajectory.{Trajectory}
 use Rattle.model.specs.Procedure.{Procedure}
 use Rattle.model.specs.Forms.{Set, formAt, children, Below}
@@ -89,11 +90,6 @@ module _ {P : Procedure} {T : Trajectory} {p : ℕ} {before : List ℕ} where
         here c q e = rw (q, getD-set-same t (p * 64 + b) r 0 (omega (arith, g .room, g .moments, h .size))) (Iff·trans (new e) (rule b (omega arith) l e))
 
 -- ---- the nodes, one after the other
-
-empty-entry : (k i : ℕ) → getD (replicate k zero) i 0 ≡ 0
-empty-entry zero i = refl
-empty-entry (suc k) zero = refl
-empty-entry (suc k) (suc i) = empty-entry k i
 
 -- a new table is empty
 pub blank : (k : ℕ) → k ≡ 4096 → Blank (replicate k 0)

@@ -4,7 +4,7 @@ ghost use Prim.Native.Nat.{_<_};
 ghost use lib.ListN.{length, getD};
 ghost use Rattle.model.specs.Forms.{Set, formAt};
 ghost use Rattle.model.specs.Arrays.{alone, membersAt, conditionsAt, procedureAt, trajectoryAt};
-ghost use Rattle.sets.specs.Ends.{taskSetOf, SetReady, SetRows};
+ghost use Rattle.sets.specs.Rows.{taskSetOf, SetReady, SetRows};
 ghost use Rattle.reading.specs.Forms.{Readable};
 ghost use Rattle.reading.specs.Table.{NodeReady, NodeRows, Blank, Found, Tabulated};
 

@@ -11,7 +11,7 @@ use lib.Seq.{getD-set-same, getD-set-other}
 use Rattle.bitset.specs.Members.{In}
 use Rattle.sets.specs.Set.{TaskSet, memberCount, member}
 use Rattle.sets.specs.Cover.{Some, Spans, Attained}
-use Rattle.sets.specs.Ends.{entryAt}
+use Rattle.sets.specs.Rows.{entryAt}
 use Rattle.sets.specs.Search.{EndSets, Begun, Completed}
 use Rattle.sets.proofs.Search.{end-of}
 

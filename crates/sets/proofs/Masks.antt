@@ -12,7 +12,7 @@ use Rattle.bitset.specs.Members.{In}
 use Rattle.model.specs.Forms.{ConditionForm, BeginAfterBegin, BeginAfterEnd, HoldsBefore, HoldsAfter, HoldsBetween, ReservedCondition, conditionForm}
 use Rattle.words.specs.Fields.{conditionFormula, conditionI, conditionJ, conditionM, conditionN}
 use Rattle.sets.specs.Set.{TaskSet, member, MetAs, MetAt}
-use Rattle.sets.specs.Ends.{entryAt}
+use Rattle.sets.specs.Rows.{entryAt}
 use Rattle.sets.specs.Search.{asked, Later, Allowed, EndOf, EndSets, Asks, Narrowed}
 
 -- ---- one condition more

@@ -12,7 +12,7 @@ use Rattle.bitset.specs.Members.{In}
 use Rattle.words.specs.Fields.{memberNode, conditionI, conditionJ}
 use Rattle.model.specs.Forms.{ConditionForm, conditionForm}
 use Rattle.sets.specs.Set.{Placing, SetRule, Formed}
-use Rattle.sets.specs.Ends.{taskSetOf, Placed}
+use Rattle.sets.specs.Rows.{taskSetOf, Placed}
 use Rattle.model.specs.Arrays.{valueIn}
 use Rattle.model.specs.Table.{InTable}
 use Rattle.sets.specs.Search.{asked, Allowed, SearchReady, SomeBegin, Allows, Possible, OwnRows}

@@ -16,7 +16,7 @@ use Rattle.bitset.proofs.Digits.{has-zero}
 use Rattle.words.specs.Fields.{conditionI, memberNode}
 use Rattle.sets.specs.Set.{TaskSet, memberCount, member, MetAt, SetRule, Formed}
 use Rattle.sets.specs.Cover.{Some, Coverable, Covering}
-use Rattle.sets.specs.Ends.{entryAt, Placed}
+use Rattle.sets.specs.Rows.{entryAt, Placed}
 use Rattle.model.specs.Table.{InTable}
 use Rattle.sets.specs.Search.{EndOf, EndSets, Begun, Completed, SearchReady, Searching}
 use Rattle.sets.proofs.Laws.{gain-as}

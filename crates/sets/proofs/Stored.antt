@@ -9,7 +9,7 @@ use lib.ListN.{length, getD, set, length-set}
 use lib.Seq.{getD-set-same, getD-set-other}
 use Rattle.bitset.specs.Members.{In}
 use Rattle.sets.specs.Set.{TaskSet, memberCount, member, SetRule}
-use Rattle.sets.specs.Ends.{SetRows}
+use Rattle.sets.specs.Rows.{SetRows}
 use Rattle.model.specs.Table.{InTable}
 
 -- the rule asks R of the members' rows alone

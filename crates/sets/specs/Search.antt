@@ -8,7 +8,7 @@ use Rattle.bitset.specs.Members.{In}
 use Rattle.words.specs.Fields.{memberNode, conditionI, conditionJ}
 use Rattle.model.specs.Forms.{ConditionForm, BeginAfterBegin, BeginAfterEnd, HoldsBefore, HoldsAfter, HoldsBetween, ReservedCondition, conditionForm}
 use Rattle.sets.specs.Set.{TaskSet, memberCount, member, MetAt, SetRule, Formed}
-use Rattle.sets.specs.Ends.{entryAt}
+use Rattle.sets.specs.Rows.{entryAt}
 use Rattle.model.specs.Table.{InTable}
 
 -- a condition asks of member i either its begin or its end: the one that it asks

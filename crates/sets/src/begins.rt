@@ -7,7 +7,7 @@ ghost use lib.ListN.{length, getD};
 ghost use Rattle.bitset.specs.Members.{In};
 ghost use Rattle.words.specs.Fields.{memberNode};
 ghost use Rattle.sets.specs.Cover.{Some};
-ghost use Rattle.sets.specs.Ends.{taskSetOf, entryAt};
+ghost use Rattle.sets.specs.Rows.{taskSetOf, entryAt};
 ghost use Rattle.model.specs.Table.{InTable};
 ghost use Rattle.sets.specs.Search.{EndSets, Begun, Completed, Searching, LastBegin};
 use crate::conditions;

@@ -5,7 +5,7 @@ ghost use mathlib.Core.Logic.{_↔_, _⊎_};
 ghost use Prim.Native.Nat.{ℕ, _<_, _≤_};
 ghost use Rattle.bitset.specs.Members.{In};
 ghost use Rattle.sets.specs.Cover.{Some, Needed, Coverable, Spans, Attained};
-ghost use Rattle.sets.specs.Ends.{entryAt};
+ghost use Rattle.sets.specs.Rows.{entryAt};
 
 // The ends of the members that begin before x.
 fn ends_before(begins: [u32; 4], ends: [u64; 4], count: usize, x: u32) -> u64

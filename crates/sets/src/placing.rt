@@ -3,7 +3,7 @@ ghost use Prim.Native.Nat.{ℕ, _+_, _<_, _≤_};
 ghost use lib.ListN.{length, set};
 ghost use Rattle.bitset.specs.Members.{Highest, In};
 ghost use Rattle.sets.specs.Set.{SetRule};
-ghost use Rattle.sets.specs.Ends.{taskSetOf, entryAt, Placed, Placeable};
+ghost use Rattle.sets.specs.Rows.{taskSetOf, entryAt, Placed, Placeable};
 ghost use Rattle.model.specs.Table.{InTable};
 ghost use Rattle.sets.specs.Search.{Completed, SearchReady, Searching};
 use crate::begins;

@@ -5,7 +5,7 @@ ghost use lib.ListN.{length, getD};
 ghost use Rattle.bitset.specs.Members.{In};
 ghost use Rattle.words.specs.Fields.{memberNode};
 ghost use Rattle.sets.specs.Set.{SetRule};
-ghost use Rattle.sets.specs.Ends.{taskSetOf, SetReady, SetRows};
+ghost use Rattle.sets.specs.Rows.{taskSetOf, SetReady, SetRows};
 ghost use Rattle.model.specs.Table.{InTable};
 ghost use Rattle.sets.specs.Search.{SearchReady, OwnRows};
 use crate::begins;

@@ -3,7 +3,7 @@ use mathlib.Core.Bool.{Bool, true, false, _||_, _&&_}
 use mathlib.Core.List.{List}
 use mathlib.Core.Logic.{_⊎_, inl, inr}
 use mathlib.Core.Path.{_≡_, refl, sym, ap, _∙_}
-use Prim.Native.Nat.{ℕ, zero, suc, _+_, _<_}
+use Prim.Native.Nat.{ℕ, _+_, _<_}
 use native.Mathlib.Omega.{arith}
 use borrow.Author.Tests.{eq-eqb, ne-eqb}
 use lib.Dec.{eqb}
@@ -11,6 +11,7 @@ use lib.ListN.{length, getD, drop, set, replicate, length-set}
 use lib.Seq.{getD-set-same, getD-set-other}
 use Rattle.bitset.specs.Members.{has, IsSetOf}
 use Rattle.bitset.proofs.Digits.{has-zero}
+use Rattle.bitset.proofs.In.{empty-entry}
 use Rattle.words.specs.Fields.{startMoment, startAction}
 use Rattle.words.specs.Scan.{any}
 use Rattle.words.proofs.Scan.{drop-next, any-end}
@@ -21,11 +22,6 @@ use Rattle.theory.specs.Trajectory.{isStartOf}
 pub record Started (starts : List ℕ) (i : ℕ) (sets : List ℕ) : Type 0 where
   pub long : length sets ≡ 64
   pub start : (a t : ℕ) → has (getD sets a 0) t ≡ any (isStartOf a t) (drop i starts)
-
-empty-entry : (k a : ℕ) → getD (replicate k zero) a 0 ≡ 0
-empty-entry zero a = refl
-empty-entry (suc k) zero = refl
-empty-entry (suc k) (suc a) = empty-entry k a
 
 pub started-none : (starts : List ℕ) → Started starts (length starts) (replicate 64 0)
 started-none starts = record {

@@ -10,8 +10,8 @@ use borrow.Fn.PlainCycle.{Measures, is, falls, and}
 use Rattle.model.specs.Forms.{While, formNumber, formAt}
 use Rattle.model.specs.declared.Triple.{Triple}
 use Rattle.model.proofs.Forms.{form-number}
-use Rattle.extract.specs.Parts.{Chosen, Unseen, procedureBy, trajectoryBy}
-use Rattle.extract.specs.Contract.{Rest, Writable, Written}
+use Rattle.extract.specs.Parts.{Unseen, procedureBy, trajectoryBy, ChosenBy}
+use Rattle.extract.specs.Contract.{Rest, WritableBy, Written}
 use Rattle.extract.proofs.Written.{written-none, written-under, written-length}
 use Rattle.extract.proofs.Steps.{Done, done-none, Halfway, resize, has-room, moments, place-inside, choosable, headed, part-moments, part-child, part-more, part-end, body-lower, pass-start, pass-ready, pass-child, pass-more, pass-end}
 use Rattle.extract.proofs.write.write_parts.Reads as parts
@@ -71,8 +71,8 @@ calls t = (word.Asked, word.Learnt, form-of.Asked, form-of.Learnt, passes-below 
 abbrev Inv-parts : parts-lts.InvT-loop
 Inv-parts words places values last table at buffer₀ number nodes begins ends end₀ i₀ buffer end i =
     (i ≤ number)
-    × ((u : Unseen) (t : Triple) → Writable Rest (procedureBy words places u) (trajectoryBy values last u) (length words) places table t at (length buffer₀)
-    → Chosen (procedureBy words places u) (trajectoryBy values last u) table (t .node) (t .begin) (t .end) (record { count = number; nodes = nodes; begins = begins; ends = ends })
+    × ((u : Unseen) (t : Triple) → WritableBy Rest words places values last table t at (length buffer₀) u
+    → ChosenBy words places values last table t (record { count = number; nodes = nodes; begins = begins; ends = ends }) u
     → Written (Done (procedureBy words places u) (trajectoryBy values last u) (record { count = number; nodes = nodes; begins = begins; ends = ends }) i) buffer₀ at buffer end)
 
 abbrev μ-loop-parts : parts-lts.MeasureT-loop
@@ -80,7 +80,7 @@ abbrev μ-loop-parts : parts-lts.MeasureT-loop
 
 abbrev Inv-passes : passes-lts.InvT-loop
 Inv-passes words places values last table at buffer₀ p b e place y m₀ end₀ buffer m end =
-    (u : Unseen) → Writable Rest (procedureBy words places u) (trajectoryBy values last u) (length words) places table (record { node = p; begin = b; end = e }) at (length buffer₀)
+    (u : Unseen) → WritableBy Rest words places values last table (record { node = p; begin = b; end = e }) at (length buffer₀) u
     → formAt (procedureBy words places u) p ≡ While
     → Halfway (procedureBy words places u) (trajectoryBy values last u) table (record { node = p; begin = b; end = e }) buffer₀ at m buffer end
 
@@ -191,7 +191,7 @@ module _ (t : ℕ) where
 
   -- the parts, by what makes the table right
   chosen : (k : Parted) → let a = start k .args in let u = start k .pre .1 .0 in
-      Chosen (procedureBy (a .words .now) (a .places .now) u) (trajectoryBy (a .values .now) (a .last) u) (a .table .now) (a .triple .node) (a .triple .begin) (a .triple .end) (k .choose-parts .result)
+      ChosenBy (a .words .now) (a .places .now) (a .values .now) (a .last) (a .table .now) (a .triple) (k .choose-parts .result) u
   chosen k = let (is, (u, s, other)) = start k .pre in k .choose-parts .ensures u (choosable s other)
 
   few : (l : Turn) → l .before .loop .i < 4

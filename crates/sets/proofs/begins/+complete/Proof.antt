@@ -12,7 +12,7 @@ use borrow.Fn.PlainCycle.{Measures, is, falls, and}
 use borrow.Author.Tests.{not-false}
 use Rattle.bitset.specs.Members.{In as In-mask}
 use Rattle.words.specs.Fields.{memberNode}
-use Rattle.sets.specs.Ends.{taskSetOf, entryAt}
+use Rattle.sets.specs.Rows.{taskSetOf, entryAt}
 use Rattle.model.specs.Table.{InTable}
 use Rattle.sets.specs.Search.{Searching}
 use Rattle.sets.proofs.Laws.{no-gain, gain-turn}

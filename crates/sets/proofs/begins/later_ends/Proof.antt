@@ -8,7 +8,7 @@ use lib.ListN.{length, getD, set, length-set}
 use lib.Seq.{getD-set-same, getD-set-other}
 use Rattle.bitset.specs.Members.{In}
 use Rattle.words.specs.Fields.{memberNode}
-use Rattle.sets.specs.Ends.{entryAt}
+use Rattle.sets.specs.Rows.{entryAt}
 use Rattle.model.specs.Table.{InTable}
 use Rattle.sets.specs.Search.{Begun}
 use Rattle.sets.proofs.Masks.{small-set}

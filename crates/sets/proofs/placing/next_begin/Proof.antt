@@ -8,7 +8,7 @@ use lib.ListN.{length, set, length-map}
 use lib.Seq.{getD-set-same}
 use Rattle.bitset.proofs.Bools.{not-both}
 use Rattle.words.specs.Fields.{memberNode}
-use Rattle.sets.specs.Ends.{taskSetOf, entryAt}
+use Rattle.sets.specs.Rows.{taskSetOf, entryAt}
 use Rattle.model.specs.Table.{InTable}
 use Rattle.sets.specs.Search.{Searching}
 use Rattle.sets.proofs.Laws.{from-none}

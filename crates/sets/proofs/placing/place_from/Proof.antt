@@ -6,7 +6,7 @@ use native.Mathlib.Omega.{arith}
 use lib.ListN.{length, set, length-set, length-map}
 use lib.Seq.{getD-set-same}
 use Rattle.words.specs.Fields.{memberNode}
-use Rattle.sets.specs.Ends.{taskSetOf, entryAt}
+use Rattle.sets.specs.Rows.{taskSetOf, entryAt}
 use Rattle.model.specs.Table.{InTable}
 use Rattle.sets.specs.Search.{Searching, Completed}
 use Rattle.sets.proofs.Search.{nothing-placed, node-rows, later-start, search-start, search-begin, search-next, some-end, placed-at}

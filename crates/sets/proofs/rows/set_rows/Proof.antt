@@ -5,7 +5,7 @@ use native.Mathlib.Omega.{arith}
 use lib.ListN.{length, length-map}
 use lib.Seq.{length-take-le}
 use Rattle.words.specs.Fields.{memberNode}
-use Rattle.sets.specs.Ends.{taskSetOf}
+use Rattle.sets.specs.Rows.{taskSetOf}
 use Rattle.model.specs.Arrays.{valueIn}
 use Rattle.sets.specs.Search.{Allowed, OwnRows}
 use Rattle.sets.proofs.Search.{node-rows}
