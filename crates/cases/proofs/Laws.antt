@@ -30,7 +30,7 @@ use Rattle.finder.specs.Find.{findRefusal, RootReading, Triples, Outcome, refus
 use Rattle.finder.specs.Find.{unread as without-reading, read as with-reading}
 use Rattle.finder.proofs.Job.{formed-job}
 use Rattle.finder.proofs.Refusals.{same-row}
-use Rattle.cases.specs.Cases.{Expected, refuses, unread, read, readIn, Case, triple, table, decided, same, listed, distinct, sound, complete, exactly, fits, rooted, rootWords, worded, answers, passes, all, Owed}
+use Rattle.cases.specs.Cases.{Expected, refuses, unread, read, readIn, Case, triple, table, decided, same, listed, distinct, sound, complete, exactly, fits, rooted, rootWords, worded, answers, passes, all, Owed, EachOwed}
 use Rattle.cases.proofs.Counts.{counted-once}
 use Rattle.cases.proofs.Words.{words-are}
 use Rattle.cases.proofs.Computed.{computed}
@@ -168,7 +168,6 @@ each-passes [] h c m = absurd (List·Memᴰ·not-nil m)
 each-passes (d ∷ cs) h c m = let (a, b) = both (passes d) (all cs) h in ⊎-elim (λ e. ap passes e ∙ a) (each-passes cs b c) (List·Memᴰ·cases-cons m)
 
 -- the law of the table: whatever find's contract allows for a case, with at least 4,096 words of buffer, is what the case is owed
-pub each-owed : (c : Case) → List·Memᴰ c table → {before after : List ℕ} {a : Answer} → 4096 ≤ length before
-    → Outcome (c .job) (c .starts) (c .facts) before a after → Owed (c .expected) a
+pub each-owed : EachOwed
 unfolding passes
 each-owed c m {before} room o = owed (c .job) (c .starts) (c .facts) before room (c .expected) (each-passes table computed c m) o

@@ -1,7 +1,7 @@
 -- The cases P1 to P9 as data: a job, a plan and the answer that find owes them.
-use Prim.Native.Nat.{ℕ, zero, suc, _+_, _*_, _-_}
+use Prim.Native.Nat.{ℕ, zero, suc, _+_, _*_, _-_, _≤_}
 use mathlib.Core.Bool.{Bool, true, false, _&&_, _||_, not}
-use mathlib.Core.List.{List, [], _∷_}
+use mathlib.Core.List.{List, [], _∷_, List·Memᴰ}
 use mathlib.Core.Path.{_≡_}
 use lib.Dec.{eqb, leb}
 use lib.ListN.{length}
@@ -16,6 +16,7 @@ use Rattle.model.specs.Procedure.{Procedure}
 use Rattle.job.specs.Procedure.{procedureOf}
 use Rattle.model.specs.Forms.{Form, Act, Test, Sequence, Choice, If, While, StartWindow, EndWindow, Set, Reserved, formAt, fieldX, fieldY}
 use Rattle.model.specs.declared.Triple.{Triple}
+use Rattle.finder.specs.Find.{Outcome}
 use Rattle.cases.specs.Decision.{each, reads}
 
 -- a row refuses, with number and position; or the plan passes, these triples have a reading, and the root has none, or one, or only
@@ -221,3 +222,9 @@ Owed (refuses n p) a = a ≡ Refused n p 0
 Owed (unread rs) a = a ≡ Refused 13 0 (length rs)
 Owed (read rs) a = (l : ℕ) × (a ≡ Accepted l (length rs))
 Owed (readIn l rs) a = a ≡ Accepted l (length rs)
+
+-- whatever find's contract allows for a case of the table is what the case is owed
+abbrev pub EachOwed : Type 0
+EachOwed =
+    (c : Case) → List·Memᴰ c table → {before after : List ℕ} {a : Answer} → 4096 ≤ length before
+    → Outcome (c .job) (c .starts) (c .facts) before a after → Owed (c .expected) a

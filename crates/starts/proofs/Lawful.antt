@@ -9,7 +9,7 @@ use borrow.Author.Tests.{ltb-false, le-ltb, lt-ltb, ne-eqb}
 use lib.ListN.{length}
 use Rattle.starts.specs.Rows.{ascends, wrongWord, endsLate, inHandAlready, clashes, needsUnmet, startRows, startsRefusal}
 use Rattle.starts.specs.Given.{StartsFormed}
-use Rattle.starts.specs.Lawful.{Lawful}
+use Rattle.starts.specs.Lawful.{Lawful, LawfulExactly}
 use Rattle.words.proofs.AnyBelow.{some-none, none-below}
 use Rattle.words.proofs.Lists.{each-of, each-at, pairs-of, pairs-at}
 use Rattle.starts.proofs.Rows.{NoneFits, no-row, and-row, rows-none, none-rows}
@@ -47,6 +47,6 @@ module _ (job starts : List ℕ) where
       (and-row (each-at (h .met))
       no-row))))
 
-  pub lawful : startsRefusal job starts .number ≡ 0 ↔ Lawful job starts
-  unfolding startsRefusal
-  lawful = (λ e. from (rows-none (startRows job starts) refl e), λ h. none-rows (to h))
+pub lawful : LawfulExactly
+unfolding startsRefusal
+lawful job starts = (λ e. from job starts (rows-none (startRows job starts) refl e), λ h. none-rows (to job starts h))

@@ -2,13 +2,14 @@
 -- (proofs/Lawful.antt) is the law against the rows.
 use mathlib.Core.Bool.{true, false}
 use mathlib.Core.List.{List}
+use mathlib.Core.Logic.{_↔_}
 use mathlib.Core.Path.{_≡_}
 use Prim.Native.Nat.{ℕ, _≤_, _<_}
 use Rattle.words.specs.Fields.{startMoment, startAction}
 use Rattle.job.specs.Parts.{lastMoment}
 use Rattle.history.specs.Actions.{finish}
 use Rattle.words.specs.Lists.{Each, Pairs}
-use Rattle.starts.specs.Rows.{isStart, restarts, clashing, unmetAt}
+use Rattle.starts.specs.Rows.{isStart, restarts, clashing, unmetAt, startsRefusal}
 
 pub record Lawful (job starts : List ℕ) : Type 0 where
   pub words : Each (λ s. isStart job s ≡ true) starts
@@ -17,3 +18,7 @@ pub record Lawful (job starts : List ℕ) : Type 0 where
   pub apart : Pairs (λ s s'. restarts job s s' ≡ false) starts
   pub agree : Pairs (λ s s'. clashing job s s' ≡ false) starts
   pub met : Each (λ s. unmetAt job starts (startMoment s) (startAction s) ≡ false) starts
+
+-- no row fits exactly where the starts are lawful
+abbrev pub LawfulExactly : Type 0
+LawfulExactly = (job starts : List ℕ) → startsRefusal job starts .number ≡ 0 ↔ Lawful job starts

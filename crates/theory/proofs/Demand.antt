@@ -15,11 +15,12 @@ use Rattle.answers.specs.declared.Answer.the-variants.{Accepted, Refused}
 use Rattle.answers.specs.Packed.{answerOf}
 use Rattle.answers.proofs.Rows.{or-none}
 use Rattle.facts.specs.Facts.{factsOf}
-use Rattle.theory.specs.Answers.{bufferRefusal, planRefusal, factsRefusal, Passes, checkRefusal, fillRefusal, checkAnswer, fillAnswer, written}
+use Rattle.theory.specs.Answers.{bufferRefusal, planRefusal, factsRefusal, fillRefusal, checkAnswer, fillAnswer, written}
+use Rattle.theory.specs.Demand.{PassesExactly, FilledPasses}
 use Rattle.answers.proofs.Rows.{or-passed}
 use Rattle.theory.proofs.Laws.{check-rows, equal-passes, passes-equal}
 
-pub passes-exactly : (job starts facts : List ℕ) → Passes job starts facts ↔ ((planRefusal job starts .number ≡ 0) × (facts ≡ factsOf job starts))
+pub passes-exactly : PassesExactly
 passes-exactly job starts facts = (
   λ e. let p = or-none (planRefusal job starts) (factsRefusal facts (factsOf job starts) 0) (rw check-rows at e) in (p .0, passes-equal facts (factsOf job starts) 0 (p .1)),
   λ h. rw (h .1) (ap (λ r. r .number) (check-rows job starts _ ∙ sym (or-passed (planRefusal job starts) _ (h .0)) ∙ equal-passes (factsOf job starts) 0)),
@@ -37,7 +38,7 @@ module _ (room : ℕ) (job starts : List ℕ) {l c : ℕ} (accepted : fillAnswer
       cases true t e = (eqb-true _ 0 t, cc)
       cases false t e = let z : _≡_ {A = ℕ} 0 1 = cc in absurd (omega arith)
 
-  pub filled-length : l ≡ length (factsOf job starts)
+  filled-length : l ≡ length (factsOf job starts)
   filled-length = parts .1
 
   plan-passes : planRefusal job starts .number ≡ 0
@@ -45,13 +46,14 @@ module _ (room : ℕ) (job starts : List ℕ) {l c : ℕ} (accepted : fillAnswer
   plan-passes = or-none (bufferRefusal room) (planRefusal job starts) (parts .0) .1
 
   -- the first l words of the buffer are that list
-  pub filled-words : (buffer : List ℕ) → take l (written (fillAnswer room job starts) (factsOf job starts) buffer) ≡ factsOf job starts
+  filled-words : (buffer : List ℕ) → take l (written (fillAnswer room job starts) (factsOf job starts) buffer) ≡ factsOf job starts
   filled-words buffer = rw (accepted, filled-length, take-length) (take-at (factsOf job starts) _ (length (factsOf job starts)) refl)
 
-  pub facts-pass : checkAnswer job starts (factsOf job starts) ≡ Accepted 0 0
+  facts-pass : checkAnswer job starts (factsOf job starts) ≡ Accepted 0 0
   unfolding checkAnswer
   facts-pass = ap (λ r. answerOf r 0 0) (check-rows job starts _ ∙ sym (or-passed (planRefusal job starts) _ plan-passes) ∙ equal-passes (factsOf job starts) 0)
 
-  -- check passes with what fill wrote
-  pub filled-passes : (buffer : List ℕ) → checkAnswer job starts (take l (written (fillAnswer room job starts) (factsOf job starts) buffer)) ≡ Accepted 0 0
-  filled-passes buffer = rw (filled-words buffer) facts-pass
+pub filled-passes : FilledPasses
+filled-passes room job starts buffer accepted =
+    let words = filled-words room job starts accepted buffer in
+    (words, rw words (facts-pass room job starts accepted))
