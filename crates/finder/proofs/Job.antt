@@ -28,7 +28,7 @@ use Rattle.theory.specs.Procedure.{procedureOf}
 use Rattle.theory.specs.Trajectory.{trajectoryOf}
 use Rattle.model.specs.Forms.{formNumber, childrenAs, children, Below}
 use Rattle.model.proofs.Forms.{form-number, below-at}
-use Rattle.reading.specs.Forms.{NodeFormed}
+use Rattle.reading.specs.Forms.{NodeReadable}
 use Rattle.lengths.specs.Children.{NamedOnce}
 use Rattle.lengths.proofs.Sums.{sum-cong}
 use Rattle.naming.specs.Naming.{childTimes}
@@ -51,7 +51,7 @@ module _ (job starts : List ℕ) (formed : WellFormed job) (p : ℕ) (h : p < no
       below-at (map memberNode (memberWords job p)) (λ i l. rw (List·getD-map memberNode (memberWords job p) i 0) (formed .set p h e .lower i (omega arith)))
   lower-by (suc (suc (suc (suc (suc (suc (suc (suc (suc n))))))))) e = tt
 
-  pub formed-job : NodeFormed (procedureOf job) (trajectoryOf job starts) p
+  pub formed-job : NodeReadable (procedureOf job) (trajectoryOf job starts) p
   unfolding procedureOf trajectoryOf
   formed-job = record {
     lower = lower-by (form (nodeWord job p)) refl;
