@@ -17,7 +17,7 @@ use Rattle.model.specs.Trajectory.{Trajectory}
 use Rattle.model.specs.Procedure.{Procedure}
 use Rattle.sets.specs.Set.{TaskSet, memberCount, member, MetAs, Met, Placing, SetRule, Formed}
 use Rattle.model.specs.Forms.{Form, Act, Test, Sequence, Choice, If, While, StartWindow, EndWindow, Set, Reserved, formAt, fieldX, fieldY, fieldM, fieldN, ConditionForm, BeginAfterBegin, BeginAfterEnd, HoldsBefore, HoldsAfter, HoldsBetween, ReservedCondition, conditionForm}
-use Rattle.reading.specs.Forms.{taskSet, NodeFormed}
+use Rattle.reading.specs.Forms.{taskSet, NodeReadable}
 use Rattle.reading.specs.Reading.{HasReading}
 use Rattle.reading.specs.Rule.{Rule}
 use Rattle.cases.specs.Decision.{some, each, through, metb, insideb, coveredb, conditionb, placingb, tried, setb, ruleb, reads}
@@ -302,7 +302,7 @@ nearer : {count n k p q c : ℕ} (b : ℕ) → n < 64 → p < count → p * 64 +
 nearer b small h d m (inl f) = (omega arith, omega arith)
 nearer b small h d m (inr f) = (omega (arith, f .0), omega (arith, f .0, f .1))
 
-pub decides : {P : Procedure} {T : Trajectory} → ((p : ℕ) → p < P .count → NodeFormed P T p) → T .last < 64
+pub decides : {P : Procedure} {T : Trajectory} → ((p : ℕ) → p < P .count → NodeReadable P T p) → T .last < 64
     → (k p b e : ℕ) → p < P .count → b ≤ T .last → p * 64 + (63 - b) < k → (reads k P T p b e ≡ true) ↔ HasReading P T p b e
 unfolding reads
 decides g small zero p b e h l d = absurd (omega arith)

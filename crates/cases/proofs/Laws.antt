@@ -18,8 +18,7 @@ use Rattle.job.proofs.WellFormed.{well-formed}
 use Rattle.facts.specs.Facts.{factsOf}
 use Rattle.starts.specs.Rows.{startsRefusal}
 use Rattle.theory.specs.Answers.{planRefusal, factsRefusal, checkRefusal}
-use Rattle.formulas.specs.Values.{andTable, orTable}
-use Rattle.theory.specs.Trajectory.{trajectoryOf}
+use Rattle.theory.specs.Trajectory.{planTrajectory, trajectoryOf}
 use Rattle.job.specs.Procedure.{procedureOf}
 use Rattle.reading.specs.Reading.{HasReading}
 use Rattle.model.specs.declared.Triple.{Triple}
@@ -62,13 +61,13 @@ distinct-law (r ∷ rs) h = let (a, b) = both (not (listed r rs)) (distinct rs) 
 -- ---- a job that is well formed: the test tells the readings, and the listed triples are those that have one
 
 module _ (job starts : List ℕ) (ok : jobRefusal job .number ≡ 0) where
-  decided-law : {p b e : ℕ} → p < nodeCount job → b ≤ lastMoment job → Tells (decided job starts p b e) (HasReading (procedureOf job) (trajectoryOf andTable orTable job starts) p b e)
+  decided-law : {p b e : ℕ} → p < nodeCount job → b ≤ lastMoment job → Tells (decided job starts p b e) (HasReading (procedureOf job) (planTrajectory job starts) p b e)
   unfolding decided procedureOf trajectoryOf
   decided-law {p} {b} {e} h l =
       let w = well-formed job ok in
       decides (formed-job job starts w) (omega (arith, w .few-moments)) (nodeCount job * 64) p b e h l (omega arith)
 
-  sound-law : (rs : List Triple) → sound job starts rs ≡ true → (s : Triple) → List·Memᴰ s rs → Read (procedureOf job) (trajectoryOf andTable orTable job starts) s
+  sound-law : (rs : List Triple) → sound job starts rs ≡ true → (s : Triple) → List·Memᴰ s rs → Read (procedureOf job) (planTrajectory job starts) s
   unfolding sound procedureOf trajectoryOf
   sound-law [] h s m = absurd (List·Memᴰ·not-nil m)
   sound-law (r ∷ rs) h s m =
@@ -76,10 +75,10 @@ module _ (job starts : List ℕ) (ok : jobRefusal job .number ≡ 0) where
       let (c, d) = both (leb (suc (r .node)) (nodeCount job) && leb (r .begin) (r .end)) (leb (r .end) (lastMoment job) && decided job starts (r .node) (r .begin) (r .end)) a in
       let (i, j) = and-law _ _ (le-law (suc (r .node)) (nodeCount job)) (le-law (r .begin) (r .end)) .0 c in
       let (k, l) = and-law _ _ (le-law (r .end) (lastMoment job)) Iff·rfl .0 d in
-      let here : Read (procedureOf job) (trajectoryOf andTable orTable job starts) r = (i, j, decided-law {p = r .node} {b = r .begin} {e = r .end} i (omega arith) .0 l) in
-      ⊎-elim (λ e. subst (λ (t : Triple). Read (procedureOf job) (trajectoryOf andTable orTable job starts) t) (sym e) here) (sound-law rs b s) (List·Memᴰ·cases-cons m)
+      let here : Read (procedureOf job) (planTrajectory job starts) r = (i, j, decided-law {p = r .node} {b = r .begin} {e = r .end} i (omega arith) .0 l) in
+      ⊎-elim (λ e. subst (λ (t : Triple). Read (procedureOf job) (planTrajectory job starts) t) (sym e) here) (sound-law rs b s) (List·Memᴰ·cases-cons m)
 
-  complete-law : (rs : List Triple) → complete job starts rs ≡ true → (s : Triple) → Read (procedureOf job) (trajectoryOf andTable orTable job starts) s → List·Memᴰ s rs
+  complete-law : (rs : List Triple) → complete job starts rs ≡ true → (s : Triple) → Read (procedureOf job) (planTrajectory job starts) s → List·Memᴰ s rs
   unfolding complete procedureOf trajectoryOf
   complete-law rs h s (i, j, k) =
       let n = lastMoment job in
@@ -95,7 +94,7 @@ module _ (job starts : List ℕ) (ok : jobRefusal job .number ≡ 0) where
       let (c, d) = both (sound job starts rs) (complete job starts rs) b in
       record { triples = rs; distinct = distinct-law rs a; exact = λ s. (sound-law rs c s, complete-law rs d s); many = refl }
 
-  root-law : Tells (rooted job starts) (HasReading (procedureOf job) (trajectoryOf andTable orTable job starts) (nodeCount job - 1) 0 (lastMoment job))
+  root-law : Tells (rooted job starts) (HasReading (procedureOf job) (planTrajectory job starts) (nodeCount job - 1) 0 (lastMoment job))
   unfolding rooted
   root-law = decided-law (omega (arith, well-formed job ok .some-nodes)) (omega arith)
 

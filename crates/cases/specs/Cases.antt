@@ -10,8 +10,7 @@ use Rattle.answers.specs.declared.Answer.{Answer}
 use Rattle.answers.specs.declared.Answer.the-variants.{Accepted, Refused}
 use Rattle.job.specs.Parts.{lastMoment, nodeCount}
 use Rattle.theory.specs.Answers.{checkRefusal}
-use Rattle.formulas.specs.Values.{andTable, orTable}
-use Rattle.theory.specs.Trajectory.{trajectoryOf}
+use Rattle.theory.specs.Trajectory.{planTrajectory}
 use Rattle.model.specs.Procedure.{Procedure}
 use Rattle.job.specs.Procedure.{procedureOf}
 use Rattle.model.specs.Forms.{Form, Act, Test, Sequence, Choice, If, While, StartWindow, EndWindow, Set, Reserved, formAt, fieldX, fieldY}
@@ -139,7 +138,7 @@ table = p1 ∷ p2 ∷ p3 ∷ p4 ∷ p5 ∷ p6 ∷ p7 ∷ p7late ∷ p8 ∷ p8soo
 
 -- node p of the case reads from b to e
 unfoldable pub decided : List ℕ → List ℕ → ℕ → ℕ → ℕ → Bool
-decided job starts p b e = reads (nodeCount job * 64) (procedureOf job) (trajectoryOf andTable orTable job starts) p b e
+decided job starts p b e = reads (nodeCount job * 64) (procedureOf job) (planTrajectory job starts) p b e
 
 abbrev pub same : Triple → Triple → Bool
 same s r = eqb (s .node) (r .node) && (eqb (s .begin) (r .begin) && eqb (s .end) (r .end))

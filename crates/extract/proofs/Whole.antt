@@ -9,7 +9,7 @@ use Rattle.model.specs.Table.{InTable}
 use Rattle.model.specs.Trajectory.{Trajectory}
 use Rattle.model.specs.Procedure.{Procedure}
 use Rattle.reading.specs.Reading.{whole, Reading}
-use Rattle.lengths.specs.Children.{NamedOnce}
+use Rattle.model.specs.Forms.{NamedOnce}
 use Rattle.lengths.specs.Bound.{lengthBound}
 use Rattle.lengths.proofs.Words.{lower}
 use Rattle.lengths.proofs.Length.{length-le, bound-4032}

@@ -10,7 +10,7 @@ use Rattle.model.specs.Procedure.{Procedure}
 use Rattle.model.specs.Table.{InTable}
 use Rattle.model.specs.declared.Triple.{Triple}
 use Rattle.reading.specs.Reading.{whole, Reading}
-use Rattle.lengths.specs.Children.{NamedOnce}
+use Rattle.model.specs.Forms.{NamedOnce}
 use Rattle.lengths.specs.Bound.{lengthBound}
 use Rattle.extract.specs.Parts.{Prepared, Unseen, procedureBy, trajectoryBy}
 

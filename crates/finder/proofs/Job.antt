@@ -9,18 +9,17 @@ use borrow.Author.Tests.{eq-eqb}
 use lib.ListN.{length-map, List·getD-map}
 use Rattle.words.specs.Fields.{form, memberNode}
 use Rattle.words.specs.Scan.{count}
-use Rattle.formulas.specs.Values.{andTable, orTable}
 use Rattle.job.specs.Refusal.{jobRefusal}
 use Rattle.job.specs.Parts.{nodeCount, nodeWord, memberWords}
 use Rattle.job.specs.Procedure.{procedureOf}
 use Rattle.job.specs.WellFormed.{WellFormed}
 use Rattle.job.proofs.Procedure.{set-children, own-children}
-use Rattle.theory.specs.Trajectory.{trajectoryOf}
+use Rattle.theory.specs.Trajectory.{planTrajectory, trajectoryOf}
 use Rattle.theory.proofs.Naming.{once-by-nodes}
 use Rattle.model.specs.Forms.{children, Below}
 use Rattle.model.proofs.Forms.{form-number, below-at}
-use Rattle.reading.specs.Forms.{NodeFormed}
-use Rattle.lengths.specs.Children.{NamedOnce}
+use Rattle.reading.specs.Forms.{NodeReadable}
+use Rattle.model.specs.Forms.{NamedOnce}
 
 -- a list whose elements are each below n
 below-each : {n : ℕ} (xs : List ℕ) → ((q : ℕ) → 0 < count q xs → q < n) → Below n xs
@@ -43,7 +42,7 @@ module _ (job starts : List ℕ) (formed : WellFormed job) (p : ℕ) (h : p < no
       own : (form (nodeWord job p) ≡ 8 → ⊥) → Below p (children (procedureOf job) p)
       own n = rw (own-children (procedureOf job) p n) (below-each _ (formed .node p h .lower))
 
-  pub formed-job : NodeFormed (procedureOf job) (trajectoryOf andTable orTable job starts) p
+  pub formed-job : NodeReadable (procedureOf job) (planTrajectory job starts) p
   unfolding procedureOf trajectoryOf
   formed-job = record {
     lower = lower;

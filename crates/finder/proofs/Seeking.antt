@@ -1,5 +1,5 @@
 -- What the table and the writer give of a plan that passes, in the job's own definitions. Assumes nothing.
-use mathlib.Core.Bool.{true, false}
+use mathlib.Core.Bool.{true, false, true≢false}
 use mathlib.Core.List.{List}
 use mathlib.Core.Path.{_≡_, sym, _∙_}
 use Prim.Native.Nat.{ℕ, _-_, _≤_, _<_}
@@ -7,14 +7,12 @@ use native.Mathlib.Nat.{le-refl}
 use native.Mathlib.Omega.{arith}
 use lib.ListN.{length}
 use Rattle.bitset.specs.Members.{has}
-use Rattle.words.proofs.Choices.{true-false}
 use Rattle.answers.specs.declared.Answer.the-variants.{Accepted, Refused}
 use Rattle.job.specs.Refusal.{jobRefusal}
 use Rattle.job.specs.Parts.{nodeCount, lastMoment}
 use Rattle.job.specs.WellFormed.{WellFormed}
 use Rattle.job.proofs.WellFormed.{well-formed}
-use Rattle.formulas.specs.Values.{andTable, orTable}
-use Rattle.theory.specs.Trajectory.{trajectoryOf}
+use Rattle.theory.specs.Trajectory.{planTrajectory, trajectoryOf}
 use Rattle.job.specs.Procedure.{procedureOf}
 use Rattle.model.specs.Arrays.{procedureIn, trajectoryIn}
 use Rattle.model.specs.Represents.{Represents}
@@ -24,13 +22,13 @@ use Rattle.reading.specs.Forms.{Readable}
 use Rattle.reading.specs.Table.{Found, Tabulated}
 use Rattle.reading.proofs.Transfer.{transfer}
 use Rattle.reading.proofs.Agreement.{extends, agrees-back, formed-there, found-same, counted-same}
-use Rattle.lengths.proofs.Named.{named-there}
+use Rattle.model.proofs.Named.{named-there}
 use Rattle.extract.specs.Contract.{Emittable, Emitted}
 use Rattle.extract.proofs.Whole.{emittable}
 use Rattle.finder.specs.Find.{RootReading, Triples, Searched, unread, read}
 use Rattle.finder.proofs.Job.{formed-job, once-job}
 
-module _ (job starts : List ℕ) (w : Arrays) (ok : jobRefusal job .number ≡ 0) (c : Represents job w (procedureOf job) (trajectoryOf andTable orTable job starts)) where
+module _ (job starts : List ℕ) (w : Arrays) (ok : jobRefusal job .number ≡ 0) (c : Represents job w (procedureOf job) (planTrajectory job starts)) where
   formed : WellFormed job
   formed = well-formed job ok
 
@@ -83,11 +81,11 @@ module _ (job starts : List ℕ) (w : Arrays) (ok : jobRefusal job .number ≡ 0
     pub no-reading : {before : List ℕ} → has (rowAt table (w .count - 1) 0) (w .last) ≡ false → Searched job starts before (Refused 13 0 r) before
     no-reading h = unread triples none
       where
-        there : Found (procedureOf job) (trajectoryOf andTable orTable job starts) table
+        there : Found (procedureOf job) (planTrajectory job starts) table
         there = found-same (c .agrees) (readable .formed) (t .table)
 
         none : (ws : List ℕ) → RootReading job starts ws → ⊥
         none ws rr =
             let some = some-node in
             let i = there .right (w .count - 1) 0 (w .last) (omega (arith, c .agrees .count)) (omega arith) .1 (omega (arith, c .agrees .last), (ws, rw (count-is, last-is) rr)) in
-            true-false (sym (i .yes) ∙ h)
+            true≢false (sym (i .yes) ∙ h)

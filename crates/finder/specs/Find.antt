@@ -9,8 +9,7 @@ use Rattle.answers.specs.declared.Answer.the-variants.{Accepted, Refused}
 use Rattle.answers.specs.Rows.{refusal, firstRow}
 use Rattle.job.specs.Parts.{lastMoment, nodeCount}
 use Rattle.theory.specs.Answers.{bufferRefusal, checkRows}
-use Rattle.formulas.specs.Values.{andTable, orTable}
-use Rattle.theory.specs.Trajectory.{trajectoryOf}
+use Rattle.theory.specs.Trajectory.{planTrajectory}
 use Rattle.job.specs.Procedure.{procedureOf}
 use Rattle.reading.specs.Reading.{whole, Reading}
 use Rattle.reading.specs.Count.{Counted}
@@ -24,11 +23,11 @@ findRefusal room job starts facts = firstRow (findRows room job starts facts)
 
 -- the words are a reading of the root from 0 to n
 abbrev pub RootReading : List ℕ → List ℕ → List ℕ → Type 0
-RootReading job starts ws = Reading (procedureOf job) (trajectoryOf andTable orTable job starts) whole (nodeCount job - 1) 0 (lastMoment job) ws
+RootReading job starts ws = Reading (procedureOf job) (planTrajectory job starts) whole (nodeCount job - 1) 0 (lastMoment job) ws
 
 -- c triples (node, begin, end) have a reading
 abbrev pub Triples : List ℕ → List ℕ → ℕ → Type 0
-Triples job starts c = Counted (procedureOf job) (trajectoryOf andTable orTable job starts) c
+Triples job starts c = Counted (procedureOf job) (planTrajectory job starts) c
 
 -- of a plan that passes: the answer, and the buffer afterwards
 pub data Searched (job starts before : List ℕ) : Answer → List ℕ → Type 0 where

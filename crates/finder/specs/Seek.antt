@@ -4,12 +4,11 @@ use mathlib.Core.Path.{_≡_}
 use Prim.Native.Nat.{ℕ, _≤_}
 use Rattle.job.specs.Refusal.{jobRefusal}
 use Rattle.job.specs.Procedure.{procedureOf}
-use Rattle.formulas.specs.Values.{andTable, orTable}
-use Rattle.theory.specs.Trajectory.{trajectoryOf}
+use Rattle.theory.specs.Trajectory.{planTrajectory}
 use Rattle.model.specs.Represents.{Represents}
 use Rattle.model.specs.declared.Arrays.{Arrays}
 
 pub record Seekable (job starts : List ℕ) (arrays : Arrays) (size : ℕ) : Type 0 where
   pub clear : jobRefusal job .number ≡ 0
-  pub represented : Represents job arrays (procedureOf job) (trajectoryOf andTable orTable job starts)
+  pub represented : Represents job arrays (procedureOf job) (planTrajectory job starts)
   pub room : 4096 ≤ size

@@ -34,8 +34,7 @@ fn seek(job: &[u32], starts: &[u32], arrays: Arrays, buffer: &mut [u32]) -> Answ
         last,
         &mut table,
     );
-    let root = table[(nodes - 1) * 64 + 0];
-    if bitset::has(root, last as u32) {
+    if reading::table::has_end(&table, nodes - 1, 0, last) {
         let length = extract::emit(job, &places, nodes, &values, last, &table, buffer);
         return Answer::Accepted { length, count };
     }

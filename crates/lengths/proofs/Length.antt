@@ -13,7 +13,7 @@ use Rattle.model.specs.Forms.{Form, Act, Test, Sequence, Choice, If, While, Sta
 use Rattle.reading.specs.Reading.{whole, Reading, act, test, sequence, first, second, taken, otherwise, loop, startWindow, endWindow, set}
 use Rattle.reading.proofs.Step.{onward}
 use Rattle.words.specs.Scan.{count}
-use Rattle.lengths.specs.Children.{NamedOnce}
+use Rattle.model.specs.Forms.{NamedOnce}
 use Rattle.lengths.specs.Bound.{isWhile, loopAbove, weight, lengthBound}
 use Rattle.lengths.proofs.Sums.{total, times-first, times-second, times-at, below-times, sum-le, total-cong, total-mul, joined-le}
 use Rattle.lengths.proofs.Tree.{Lower, branch, branch-is, root-is}

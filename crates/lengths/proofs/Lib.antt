@@ -5,4 +5,3 @@ pub mod Tree
 pub mod Words
 pub mod Loops
 pub mod Length
-pub mod Named

@@ -9,7 +9,7 @@ use native.Mathlib.Omega.{arith}
 use borrow.Author.Tests.{lt-ltb, le-ltb}
 use Rattle.model.specs.Procedure.{Procedure}
 use Rattle.model.specs.Forms.{formAt, children}
-use Rattle.lengths.specs.Children.{NamedOnce}
+use Rattle.model.specs.Forms.{NamedOnce}
 use Rattle.lengths.specs.Bound.{isWhile, isChild, loopWithin, loopAbove}
 use Rattle.words.specs.Scan.{anyBelow, count}
 use Rattle.lengths.proofs.Sums.{below-times, sum-two}

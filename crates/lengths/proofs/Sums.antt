@@ -41,11 +41,6 @@ times-at (x ∷ xs) (suc i) l = let h = times-at xs i (omega arith) in omega ari
 
 -- ---- sums below n
 
-pub sum-cong : {f g : ℕ → ℕ} (n : ℕ) → ((i : ℕ) → i < n → f i ≡ g i) → sumBelow f n ≡ sumBelow g n
-unfolding sumBelow
-sum-cong zero h = refl
-sum-cong (suc n) h = ap₂ _+_ (sum-cong n (λ i l. h i (omega arith))) (h n (omega arith))
-
 pub sum-le : {f : ℕ → ℕ} (n m : ℕ) → ((i : ℕ) → i < n → f i ≤ m) → sumBelow f n ≤ n * m
 unfolding sumBelow
 sum-le zero m h = zero-le

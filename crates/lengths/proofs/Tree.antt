@@ -9,8 +9,9 @@ use Rattle.model.specs.Procedure.{Procedure}
 use Rattle.words.specs.Scan.{count}
 use Rattle.model.specs.Forms.{children, Below}
 use Rattle.model.proofs.Forms.{below-le}
-use Rattle.lengths.specs.Children.{NamedOnce}
-use Rattle.lengths.proofs.Sums.{total, below-times, sum-cong, sum-both, total-cong, total-times}
+use Rattle.model.specs.Forms.{NamedOnce}
+use Rattle.bitset.proofs.Sums.{sum-cong}
+use Rattle.lengths.proofs.Sums.{total, below-times, sum-both, total-cong, total-times}
 
 -- children have lower numbers
 pub record Lower (P : Procedure) : Type 0 where

@@ -10,7 +10,7 @@ use Rattle.words.specs.Scan.{concatBelow}
 use Rattle.model.specs.Trajectory.{Trajectory}
 use Rattle.model.specs.Procedure.{Procedure}
 use Rattle.model.specs.Forms.{Form, Act, Test, Sequence, Choice, If, While, StartWindow, EndWindow, Set, formAt, fieldY, childrenAs, children, Below}
-use Rattle.reading.specs.Forms.{NodeFormed}
+use Rattle.reading.specs.Forms.{NodeReadable}
 use Rattle.reading.specs.Reading.{Mode, whole, passes, Reading, act, test, sequence, first, second, taken, otherwise, loop, done, pass, startWindow, endWindow, set}
 use Rattle.reading.proofs.Step.{onward}
 use Rattle.model.proofs.Forms.{at-below, below-le}
@@ -18,7 +18,7 @@ use Rattle.lengths.proofs.Sums.{total, total-mul, joined-le}
 use Rattle.lengths.proofs.Tree.{Lower, branch, branch-is}
 
 -- a procedure whose nodes are formed has children with lower numbers
-pub lower : {P : Procedure} {T : Trajectory} → ((p : ℕ) → p < P .count → NodeFormed P T p) → Lower P
+pub lower : {P : Procedure} {T : Trajectory} → ((p : ℕ) → p < P .count → NodeReadable P T p) → Lower P
 lower h = record { at = λ p l. h p l .lower }
 
 -- the words of two parts, of the sizes u and v, and the node's own

@@ -1,8 +1,11 @@
 -- The forms of a node and of a condition, a node's fields, and the nodes that it names as children.
 use Prim.Native.Nat.{ℕ, zero, suc, _<_}
 use mathlib.Core.Bool.{Bool, true, false}
+use mathlib.Core.Path.{_≡_}
 use mathlib.Core.List.{List, [], _∷_}
 use Rattle.words.specs.Fields.{form, nodeX, nodeY, nodeM, nodeN}
+use Rattle.words.specs.Scan.{count}
+use Rattle.bitset.specs.Members.{sumBelow}
 use Rattle.model.specs.Procedure.{Procedure}
 
 -- the forms by their numbers, 0 to 8; any other number is reserved, and nothing reads such a node
@@ -97,3 +100,7 @@ asksFormula HoldsBefore = true
 asksFormula HoldsAfter = true
 asksFormula HoldsBetween = true
 asksFormula ReservedCondition = false
+
+-- each node but the root is named as a child exactly once
+abbrev pub NamedOnce : Procedure → Type 0
+NamedOnce P = (q : ℕ) → suc q < P .count → sumBelow (λ p. count q (children P p)) (P .count) ≡ 1

@@ -12,7 +12,7 @@ use Rattle.model.specs.Forms.{Form, Act, Test, Sequence, Choice, If, While, Sta
 use Rattle.model.specs.Represents.{Asks, Agrees}
 use Rattle.model.specs.declared.Triple.{Triple}
 use Rattle.model.proofs.Forms.{same-form, same-children}
-use Rattle.reading.specs.Forms.{NodeFormed}
+use Rattle.reading.specs.Forms.{NodeReadable}
 use Rattle.reading.specs.Reading.{HasReading}
 use Rattle.reading.specs.Table.{Found, Tabulated}
 use Rattle.reading.specs.Count.{Read, Counted}
@@ -71,7 +71,7 @@ module _ {P : Procedure} {T : Trajectory} {P′ : Procedure} {T′ : Trajectory}
       here : {p : ℕ} → p < P′ .count → p < P .count
       here h = let q = x .count in omega arith
 
-  pub formed-there : ((p : ℕ) → p < P .count → NodeFormed P T p) → (p : ℕ) → p < P′ .count → NodeFormed P′ T′ p
+  pub formed-there : ((p : ℕ) → p < P .count → NodeReadable P T p) → (p : ℕ) → p < P′ .count → NodeReadable P′ T′ p
   formed-there formed p h =
       let q = x .count in
       let l : p < P .count = omega arith in
@@ -81,7 +81,7 @@ module _ {P : Procedure} {T : Trajectory} {P′ : Procedure} {T′ : Trajectory}
       }
 
 module _ {P : Procedure} {T : Trajectory} {P′ : Procedure} {T′ : Trajectory} (x : Agrees P T P′ T′)
-    (formed : (p : ℕ) → p < P .count → NodeFormed P T p) where
+    (formed : (p : ℕ) → p < P .count → NodeReadable P T p) where
   pub ends-same : {p b e : ℕ} → p < P .count → HasReading P T p b e ↔ HasReading P′ T′ p b e
   ends-same h = (
     ends-transfer (extends x) formed h,

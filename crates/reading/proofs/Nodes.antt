@@ -14,7 +14,7 @@ use Rattle.model.specs.Table.{InTable, rowAt}
 use Rattle.sets.proofs.Stored.{rule-map}
 use Rattle.model.specs.Forms.{Form, Act, Test, Sequence, Choice, If, While, StartWindow, EndWindow, Set, Reserved, formAt}
 use Rattle.model.proofs.Forms.{same-form, same-children, at-below}
-use Rattle.reading.specs.Forms.{taskSet, NodeFormed}
+use Rattle.reading.specs.Forms.{taskSet, NodeReadable}
 use Rattle.reading.specs.Rule.{Rule}
 use Rattle.reading.specs.Table.{NodeReady, NodeRows}
 
@@ -23,7 +23,7 @@ module _ (P P′ : Procedure) (T : Trajectory) (p : ℕ) (n : P′ .node p ≡ P
   abbrev Same : Form → Type 0
   Same k = k ≡ Set → (P′ .members p ≡ P .members p) × (P′ .conditions p ≡ P .conditions p)
 
-  same-formed : Same (formAt P p) → NodeFormed P T p → NodeFormed P′ T p
+  same-formed : Same (formAt P p) → NodeReadable P T p → NodeReadable P′ T p
   same-formed s g = record {
     lower = rw (same-children P P′ p n (λ f. s f .0)) (g .lower);
     set = λ f. let f′ = sym (same-form P P′ p n) ∙ f in let q = s f′ in rw (q .0, q .1) (g .set f′);
@@ -60,7 +60,7 @@ module _ (P P′ : Procedure) (T : Trajectory) (p : ℕ) (n : P′ .node p ≡ P
 -- a task set, filled as one
 module _ (P : Procedure) (T : Trajectory) (p : ℕ) (f : formAt P p ≡ Set) where
   -- its members have lower numbers
-  pub members-lower : NodeFormed P T p → (i : ℕ) → i < length (P .members p) → getD (P .members p) i 0 < p
+  pub members-lower : NodeReadable P T p → (i : ℕ) → i < length (P .members p) → getD (P .members p) i 0 < p
   members-lower h = at-below (P .members p) (rw f at (h .lower))
 
   pub set-ready : {t : List ℕ} → NodeReady P T p t → SetReady (taskSet P T p) p (length t)

@@ -15,7 +15,7 @@ use Rattle.bitset.proofs.In.{empty-entry}
 use Rattle.model.specs.Trajectory.{Trajectory}
 use Rattle.model.specs.Procedure.{Procedure}
 use Rattle.model.specs.Forms.{Set, formAt, children, Below}
-use Rattle.reading.specs.Forms.{NodeFormed, Readable}
+use Rattle.reading.specs.Forms.{NodeReadable, Readable}
 use Rattle.reading.specs.Reading.{HasReading}
 use Rattle.reading.specs.Rule.{Rule}
 use Rattle.reading.specs.Table.{Inside, RowReady, RowOf, NodeReady, NodeRows, Blank, Found}

@@ -15,7 +15,7 @@ use Rattle.sets.specs.Set.{TaskSet, memberCount, Placing, MetAs, Met, Formed}
 use Rattle.model.specs.Forms.{Act, While, formAt, fieldX, ConditionForm, BeginAfterBegin, BeginAfterEnd, HoldsBefore, HoldsAfter, HoldsBetween, ReservedCondition, conditionForm, asksFormula}
 use Rattle.model.specs.Represents.{Asks}
 use Rattle.model.proofs.Forms.{at-below}
-use Rattle.reading.specs.Forms.{NodeFormed}
+use Rattle.reading.specs.Forms.{NodeReadable}
 use Rattle.reading.specs.Reading.{Mode, whole, passes, Reading, act, test, sequence, first, second, taken, otherwise, loop, done, pass, startWindow, endWindow, set, HasReading}
 use Rattle.reading.proofs.Step.{onward}
 
@@ -74,7 +74,7 @@ abbrev InMode : Mode → Procedure → ℕ → Type 0
 InMode whole P p = Unit {0}
 InMode passes P p = formAt P p ≡ While
 
-module _ {P P′ : Procedure} {T T′ : Trajectory} (x : Extends P T P′ T′) (formed : (p : ℕ) → p < P .count → NodeFormed P T p) where
+module _ {P P′ : Procedure} {T T′ : Trajectory} (x : Extends P T P′ T′) (formed : (p : ℕ) → p < P .count → NodeReadable P T p) where
   kept : {o : Mode} {p b e : ℕ} {ws : List ℕ} → p < P .count → InMode o P p → e ≤ T .last → Reading P T o p b e ws → Reading P′ T′ o p b e ws
   kept {p = p} {b} h o l (act f s d) =
       let g = sym (x .node p h) in

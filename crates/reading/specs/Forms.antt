@@ -13,7 +13,7 @@ abbrev pub taskSet : Procedure → Trajectory → ℕ → TaskSet
 taskSet P T p = record { members = P .members p; conditions = P .conditions p; value = T .value; last = T .last }
 
 -- node p's children have lower numbers, and its task set is one
-pub record NodeFormed (P : Procedure) (T : Trajectory) (p : ℕ) : Type 0 where
+pub record NodeReadable (P : Procedure) (T : Trajectory) (p : ℕ) : Type 0 where
   pub lower : Below p (children P p)
   pub set : formAt P p ≡ Set → Formed (taskSet P T p)
 
@@ -22,4 +22,4 @@ pub record Readable (P : Procedure) (T : Trajectory) (size : ℕ) (places : List
   pub few : P .count ≤ 64
   pub moments : T .last < 64
   pub inside : (p : ℕ) → p < P .count → getD places p 0 < size
-  pub formed : (p : ℕ) → p < P .count → NodeFormed P T p
+  pub formed : (p : ℕ) → p < P .count → NodeReadable P T p

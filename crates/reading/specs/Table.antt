@@ -9,7 +9,7 @@ use Rattle.model.specs.Trajectory.{Trajectory}
 use Rattle.model.specs.Procedure.{Procedure}
 use Rattle.model.specs.Forms.{Set, formAt, children, Below}
 use Rattle.model.specs.Table.{rowAt, InTable}
-use Rattle.reading.specs.Forms.{NodeFormed}
+use Rattle.reading.specs.Forms.{NodeReadable}
 use Rattle.reading.specs.Reading.{HasReading}
 use Rattle.reading.specs.Rule.{Rule}
 use Rattle.reading.specs.Count.{Counted}
@@ -57,7 +57,7 @@ RowOf P T t p b r = (e : ℕ) → In r e ↔ Rule P T (InTable t) (formAt P p) p
 
 -- what filling the rows of node p needs: the rows of the lower nodes have ends within the moments alone
 pub record NodeReady (P : Procedure) (T : Trajectory) (p : ℕ) (t : List ℕ) : Type 0 where
-  pub formed : NodeFormed P T p
+  pub formed : NodeReadable P T p
   pub moments : T .last < 64
   pub room : p * 64 + 64 ≤ length t
   pub inside : (q b : ℕ) → q < p → b ≤ T .last → Inside t q b (T .last)
@@ -83,3 +83,10 @@ pub record Tabulated (P : Procedure) (T : Trajectory) (t : List ℕ) (r : ℕ) :
   pub table : Found P T t
   pub count : Counted P T r
   pub small : r < 2 ^ 24
+
+-- (p, b, e) is an entry of the table
+pub record Entry (t : List ℕ) (p b e : ℕ) : Type 0 where
+  pub node : p < 64
+  pub begin : b < 64
+  pub end : e < 64
+  pub size : length t ≡ 4096

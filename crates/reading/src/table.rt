@@ -2,11 +2,12 @@
 ghost use mathlib.Core.Path.{_≡_};
 ghost use Prim.Native.Nat.{_<_};
 ghost use lib.ListN.{length, getD};
+ghost use Rattle.model.specs.Table.{endIn};
 ghost use Rattle.model.specs.Forms.{Set, formAt};
 ghost use Rattle.model.specs.Arrays.{alone, membersAt, conditionsAt, procedureAt, trajectoryAt};
 ghost use Rattle.sets.specs.Rows.{taskSetOf, SetReady, SetRows};
 ghost use Rattle.reading.specs.Forms.{Readable};
-ghost use Rattle.reading.specs.Table.{NodeReady, NodeRows, Blank, Found, Tabulated};
+ghost use Rattle.reading.specs.Table.{NodeReady, NodeRows, Blank, Found, Tabulated, Entry};
 
 // Fills the rows of node p, which is no task set, begins descending: a loop's row rests on its later rows.
 fn fill_rows(
@@ -116,4 +117,12 @@ pub fn tabulate(
 {
     fill_table(words, places, count, starts, durations, values, last, table);
     bitset::count_all(table)
+}
+
+// Whether the table says that node p has the end e from b.
+pub fn has_end(table: &[u64], p: usize, b: usize, e: usize) -> bool
+    requires { ⌜ Entry (now table) p b e ⌝ }
+    ensures { λ r. ⌜ r ≡ endIn (now (table .entry)) p b e ⌝ }
+{
+    bitset::has(table[p * 64 + b], e as u32)
 }

@@ -13,6 +13,7 @@ use Rattle.words.specs.Fields.{ofKind, kind, form, isSet, memberNode}
 use Rattle.words.specs.Scan.{takeWhile, fromNth, count}
 use Rattle.words.proofs.Choices.{both-true, same-or-not}
 use Rattle.bitset.specs.Members.{sumBelow}
+use Rattle.bitset.proofs.Sums.{sum-cong}
 use Rattle.model.specs.Forms.{children}
 use Rattle.job.specs.Children.{nodeChildren, wordChildren}
 use Rattle.job.specs.Before.{before, countOfKind, named}
@@ -35,11 +36,6 @@ sum-first : (f : ℕ → ℕ) (n : ℕ) → sumBelow f (suc n) ≡ f 0 + sumBelo
 unfolding sumBelow
 sum-first f zero = omega arith
 sum-first f (suc n) = omega (arith, sum-first f n)
-
-sum-same : (f g : ℕ → ℕ) → ((i : ℕ) → f i ≡ g i) → (n : ℕ) → sumBelow f n ≡ sumBelow g n
-unfolding sumBelow
-sum-same f g e zero = refl
-sum-same f g e (suc n) = omega (arith, sum-same f g e n, e n)
 
 -- how often a node is named, with the first word apart
 named-cons : (v w : ℕ) (ws : List ℕ) (i : ℕ) → named v (before (w ∷ ws) (suc i)) ≡ count v (wordChildren w) + named v (before ws i)
@@ -129,12 +125,12 @@ module _ (v w : ℕ) (ws : List ℕ) where
   sum-node led h =
       let more : nodeCount (w ∷ ws) ≡ suc (nodeCount ws) = count-cons 6 w ws (length ws) ∙ rw h (omega arith) in
       ap (sumBelow (childTimes (w ∷ ws) v)) more ∙ sum-first (childTimes (w ∷ ws) v) (nodeCount ws)
-      ∙ rw (node-first h led, sum-same (λ p. childTimes (w ∷ ws) v (suc p)) (childTimes ws v) (node-next h) (nodeCount ws))
+      ∙ rw (node-first h led, sum-cong {f = λ p. childTimes (w ∷ ws) v (suc p)} {g = childTimes ws v} (nodeCount ws) (λ p l. node-next h p))
 
   sum-other : (kind w ≡ 6 → ⊥) → all ≡ rest
   sum-other h =
       let same : nodeCount (w ∷ ws) ≡ nodeCount ws = count-cons 6 w ws (length ws) ∙ rw (ne-eqb (kind w) 6 h) (omega arith) in
-      ap (sumBelow (childTimes (w ∷ ws) v)) same ∙ sum-same (childTimes (w ∷ ws) v) (childTimes ws v) (other-same h) (nodeCount ws)
+      ap (sumBelow (childTimes (w ∷ ws) v)) same ∙ sum-cong (nodeCount ws) (λ p l. other-same h p)
 
   -- so one word more keeps the law
   step : Led (w ∷ ws) → named v (before ws (length ws)) ≡ leads v ws + rest → named v (before (w ∷ ws) (suc (length ws))) ≡ leads v (w ∷ ws) + all

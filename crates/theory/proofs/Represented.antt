@@ -15,7 +15,7 @@ use Rattle.history.specs.Values.{valueAt}
 use Rattle.history.specs.Tables.{Durations}
 use Rattle.formulas.specs.Values.{andTable, orTable, formulaAt}
 use Rattle.job.specs.Procedure.{procedureOf}
-use Rattle.theory.specs.Trajectory.{isStartOf, trajectoryOf}
+use Rattle.theory.specs.Trajectory.{isStartOf, planTrajectory, trajectoryOf}
 use Rattle.model.specs.Procedure.{Procedure}
 use Rattle.model.specs.Trajectory.{Trajectory}
 use Rattle.model.specs.Forms.{formNumber, formAt, fieldX}
@@ -75,7 +75,7 @@ module _ (job starts : List ℕ) (w : Arrays) (formed : WellFormed job) (c : Car
         rw (a .3) ((rw conditions-are at (s .condition)) (a .0) (a .1) .formula (asks-number _ (a .2)))
     asked k (suc (suc (suc (suc (suc (suc (suc (suc (suc n))))))))) e a = absurd a
 
-  agrees : Agrees P T (procedureOf job) (trajectoryOf andTable orTable job starts)
+  agrees : Agrees P T (procedureOf job) (planTrajectory job starts)
   unfolding procedureOf trajectoryOf
   agrees = record {
     count = sym (c .count);
@@ -88,5 +88,5 @@ module _ (job starts : List ℕ) (w : Arrays) (formed : WellFormed job) (c : Car
     values = λ p k t h a l. sym (c .values k t (asked p (here h) k (form (P .node p)) refl a) (let q = c .last in omega arith));
   }
 
-  pub represents : Represents job w (procedureOf job) (trajectoryOf andTable orTable job starts)
+  pub represents : Represents job w (procedureOf job) (planTrajectory job starts)
   represents = record { inside = λ p h. c .places .inside p (here h); agrees = agrees }

@@ -8,7 +8,7 @@ use Rattle.words.specs.Scan.{any}
 use Rattle.model.specs.Trajectory.{Trajectory}
 use Rattle.job.specs.Parts.{lastMoment, duration}
 use Rattle.history.specs.Values.{valueAt}
-use Rattle.formulas.specs.Values.{formulaAt}
+use Rattle.formulas.specs.Values.{andTable, orTable, formulaAt}
 
 -- a start word is of action a at moment t
 abbrev pub isStartOf : ℕ → ℕ → ℕ → Bool
@@ -22,3 +22,7 @@ trajectoryOf conj disj job starts = record {
   duration = duration job;
   value = formulaAt conj disj job (valueAt job starts);
 }
+
+-- by the standard tables: 'and' is the lesser, 'or' the greater
+abbrev pub planTrajectory : List ℕ → List ℕ → Trajectory
+planTrajectory job starts = trajectoryOf andTable orTable job starts

@@ -1,8 +1,7 @@
 // What a plan that passed hands to the reading layer: its procedure and its trajectory as arrays.
 ghost use Rattle.job.specs.Procedure.{procedureOf};
-ghost use Rattle.formulas.specs.Values.{andTable, orTable};
 ghost use Rattle.model.specs.Represents.{Represents};
-ghost use Rattle.theory.specs.Trajectory.{trajectoryOf};
+ghost use Rattle.theory.specs.Trajectory.{planTrajectory};
 ghost use Rattle.theory.specs.Judged.{Passed};
 use crate::Plan;
 use crate::moments::start_moments;
@@ -12,7 +11,7 @@ use words::last_of;
 
 pub fn arrays_of(job: &[u32], starts: &[u32], plan: Plan) -> Arrays
     requires { ⌜ Passed (now job) (now starts) plan ⌝ }
-    ensures { λ r. ⌜ Represents (now (job .entry)) r (procedureOf (now (job .entry))) (trajectoryOf andTable orTable (now (job .entry)) (now (starts .entry))) ⌝ }
+    ensures { λ r. ⌜ Represents (now (job .entry)) r (procedureOf (now (job .entry))) (planTrajectory (now (job .entry)) (now (starts .entry))) ⌝ }
 {
     let index = plan.index;
     let formulas = index.formulas;

@@ -5,13 +5,12 @@ use mathlib.Core.List.{List}
 use native.Mathlib.Omega.{arith}
 use Rattle.bitset.specs.Members.{sumBelow}
 use Rattle.words.specs.Scan.{count}
 use Rattle.model.specs.Procedure.{Procedure}
 use Rattle.model.specs.Trajectory.{Trajectory}
-use Rattle.model.specs.Forms.{children}
+use Rattle.model.specs.Forms.{children, NamedOnce}
 use Rattle.model.specs.Represents.{Agrees}
 use Rattle.model.proofs.Forms.{same-children}
-use Rattle.lengths.specs.Children.{NamedOnce}
-use Rattle.lengths.proofs.Sums.{sum-cong}
+use Rattle.bitset.proofs.Sums.{sum-cong}
 
 pub named-there : {P : Procedure} {T : Trajectory} {P′ : Procedure} {T′ : Trajectory} → Agrees P T P′ T′ → NamedOnce P′ → NamedOnce P
 named-there {P} {P′ = P′} x once q h =

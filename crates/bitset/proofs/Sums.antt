@@ -1,0 +1,11 @@
+-- Sums over the numbers below n. Assumes nothing.
+use mathlib.Core.Path.{_≡_, refl, ap₂}
+use Prim.Native.Nat.{ℕ, zero, suc, _+_, _<_}
+use native.Mathlib.Omega.{arith}
+use Rattle.bitset.specs.Members.{sumBelow}
+
+-- of equal terms
+pub sum-cong : {f g : ℕ → ℕ} (n : ℕ) → ((i : ℕ) → i < n → f i ≡ g i) → sumBelow f n ≡ sumBelow g n
+unfolding sumBelow
+sum-cong zero h = refl
+sum-cong (suc n) h = ap₂ _+_ (sum-cong n (λ i l. h i (omega arith))) (h n (omega arith))
