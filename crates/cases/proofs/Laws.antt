@@ -169,4 +169,4 @@ each-passes (d ∷ cs) h c m = let (a, b) = both (passes d) (all cs) h in ⊎-el
 -- the law of the table: whatever find's contract allows for a case, with at least 4,096 words of buffer, is what the case is owed
 pub each-owed : EachOwed
 unfolding passes
-each-owed c m {before} room o = owed (c .job) (c .starts) (c .facts) before room (c .expected) (each-passes table computed c m) o
+each-owed c m before after a room o = owed (c .job) (c .starts) (c .facts) before room (c .expected) (each-passes table computed c m) o

@@ -225,5 +225,5 @@ Owed (readIn l rs) a = a ≡ Accepted l (length rs)
 -- whatever find's contract allows for a case of the table is what the case is owed
 abbrev pub EachOwed : Type 0
 EachOwed =
-    (c : Case) → List·Memᴰ c table → {before after : List ℕ} {a : Answer} → 4096 ≤ length before
+    (c : Case) → List·Memᴰ c table → (before after : List ℕ) (a : Answer) → 4096 ≤ length before
     → Outcome (c .job) (c .starts) (c .facts) before a after → Owed (c .expected) a

@@ -6,7 +6,6 @@ use Prim.Native.Nat.{ℕ, _-_, _≤_, _<_}
 use native.Mathlib.Nat.{le-refl}
 use native.Mathlib.Omega.{arith}
 use lib.ListN.{length}
-use Rattle.bitset.specs.Members.{has}
 use Rattle.answers.specs.declared.Answer.the-variants.{Accepted, Refused}
 use Rattle.job.specs.Refusal.{jobRefusal}
 use Rattle.job.specs.Parts.{nodeCount, lastMoment}
@@ -16,7 +15,7 @@ use Rattle.theory.specs.Trajectory.{planTrajectory, trajectoryOf}
 use Rattle.job.specs.Procedure.{procedureOf}
 use Rattle.model.specs.Arrays.{procedureIn, trajectoryIn}
 use Rattle.model.specs.Represents.{Represents}
-use Rattle.model.specs.Table.{rowAt}
+use Rattle.model.specs.Table.{endIn}
 use Rattle.model.specs.declared.Arrays.{Arrays}
 use Rattle.reading.specs.Forms.{Readable}
 use Rattle.reading.specs.Table.{Found, Tabulated}
@@ -64,7 +63,7 @@ module _ (job starts : List ℕ) (w : Arrays) (ok : jobRefusal job .number ≡ 0
     triples = counted-same (c .agrees) (readable .formed) (t .count)
 
     -- the root's last bit is set: the writer may go on
-    pub emit-ready : {size : ℕ} → has (rowAt table (w .count - 1) 0) (w .last) ≡ true → 4096 ≤ size
+    pub emit-ready : {size : ℕ} → endIn table (w .count - 1) 0 (w .last) ≡ true → 4096 ≤ size
         → Emittable (procedureIn job w) (trajectoryIn w) (length job) (w .places) table size
     emit-ready h l =
         emittable (record { ready = readable; found = t .table }) (named-there (c .agrees) (once-job job ok)) some-node (record { yes = h }) (omega arith)
@@ -78,7 +77,7 @@ module _ (job starts : List ℕ) (w : Arrays) (ok : jobRefusal job .number ≡ 0
         rw (e .buffer, e .counted) (read {ws = e .words} triples whole)
 
     -- the root's last bit is not set: no list of words is a reading
-    pub no-reading : {before : List ℕ} → has (rowAt table (w .count - 1) 0) (w .last) ≡ false → Searched job starts before (Refused 13 0 r) before
+    pub no-reading : {before : List ℕ} → endIn table (w .count - 1) 0 (w .last) ≡ false → Searched job starts before (Refused 13 0 r) before
     no-reading h = unread triples none
       where
         there : Found (procedureOf job) (planTrajectory job starts) table

@@ -54,6 +54,6 @@ module _ (room : ℕ) (job starts : List ℕ) {l c : ℕ} (accepted : fillAnswer
   facts-pass = ap (λ r. answerOf r 0 0) (check-rows job starts _ ∙ sym (or-passed (planRefusal job starts) _ plan-passes) ∙ equal-passes (factsOf job starts) 0)
 
 pub filled-passes : FilledPasses
-filled-passes room job starts buffer accepted =
+filled-passes room job starts buffer l c accepted =
     let words = filled-words room job starts accepted buffer in
     (words, rw words (facts-pass room job starts accepted))

@@ -16,6 +16,6 @@ PassesExactly =
 -- where fill accepts, the first words of the buffer are the list of facts, and with them check accepts
 abbrev pub FilledPasses : Type 0
 FilledPasses =
-    (room : ℕ) (job starts buffer : List ℕ) {l c : ℕ} → fillAnswer room job starts ≡ Accepted l c
+    (room : ℕ) (job starts buffer : List ℕ) (l c : ℕ) → fillAnswer room job starts ≡ Accepted l c
     → (take l (written (fillAnswer room job starts) (factsOf job starts) buffer) ≡ factsOf job starts)
     × (checkAnswer job starts (take l (written (fillAnswer room job starts) (factsOf job starts) buffer)) ≡ Accepted 0 0)
