@@ -3,7 +3,8 @@ use mathlib.Core.Path.{_≡_}
 use Prim.Native.Nat.{ℕ}
 use native.Mathlib.Omega.{arith}
 use Rattle.answers.specs.declared.Answer.{Answer}
-use Rattle.answers.specs.Packed.{InRange, packed, Unpacked}
+use Rattle.answers.specs.Packed.{packed, Unpacked}
+use Rattle.answers.specs.Code.Packed.{InRange}
 
 unpacked : (a : Answer) → InRange a → Unpacked (packed a) a
 unpacked a h =

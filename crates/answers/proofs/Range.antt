@@ -8,7 +8,8 @@ use lib.Dec.{eqb}
 use Rattle.answers.specs.declared.Refusal.{Refusal}
 use Rattle.answers.specs.declared.Answer.the-variants.{Accepted, Refused}
 use Rattle.answers.specs.Rows.{refusal, passed, row, firstRefusal, refusalAt, firstOf}
-use Rattle.answers.specs.Packed.{answerOf, InRange}
+use Rattle.answers.specs.Packed.{answerOf}
+use Rattle.answers.specs.Code.Packed.{InRange}
 
 -- the two fields that a refusal has
 pub record Fitting (r : Refusal) : Type 0 where

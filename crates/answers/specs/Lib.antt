@@ -1,3 +1,4 @@
 -- The definitions that the contracts of `answers` cite: Rows (refusals, row after row), Packed (the 64-bit number of an answer).
 pub mod Rows
 pub mod Packed
+pub mod Code

@@ -35,16 +35,6 @@ fields n p l c = n * 2 ^ 56 + p * 2 ^ 40 + l * 2 ^ 24 + c
 abbrev pub packed : Answer → ℕ
 packed a = fields (numberOf a) (positionOf a) (lengthOf a) (countOf a)
 
--- each field fits its bits: the range of an answer, said here once
-pub record Fits (n p l c : ℕ) : Type 0 where
-  pub number : n < 2 ^ 8
-  pub position : p < 2 ^ 16
-  pub length : l < 2 ^ 16
-  pub count : c < 2 ^ 24
-
-abbrev pub InRange : Answer → Type 0
-InRange a = Fits (numberOf a) (positionOf a) (lengthOf a) (countOf a)
-
 -- the number r has the four fields of a, as the C header reads them, and nothing else
 pub record Unpacked (r : ℕ) (a : Answer) : Type 0 where
   pub number : r / 2 ^ 56 ≡ numberOf a

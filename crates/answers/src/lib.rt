@@ -1,7 +1,8 @@
 // The answer of a call: rows of refusals one after the other, and the 64-bit number by which the host in C gets it.
 ghost use mathlib.Core.Path.{_≡_};
 ghost use Rattle.answers.specs.Rows.{refusal, passed, row, firstRefusal};
-ghost use Rattle.answers.specs.Packed.{answerOf, Fits, InRange, packed, fields};
+ghost use Rattle.answers.specs.Packed.{answerOf, packed, fields};
+ghost use Rattle.answers.specs.Code.Packed.{Fits, InRange};
 
 // A refusal's number and position; 0 and 0 for none.
 pub struct Refusal {

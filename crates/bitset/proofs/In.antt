@@ -7,7 +7,7 @@ use mathlib.Core.List.{List}
 use lib.Dec.{leb, ltb, eqb}
 use lib.ListN.{getD, replicate}
 use borrow.Author.Tests.{leb-true, ltb-true, eqb-true, le-leb, lt-ltb, eq-eqb}
-use Rattle.bitset.specs.Members.{has, IsSetOf, In, Max, InSomeRow}
+use Rattle.bitset.specs.Code.Members.{has, IsSetOf, In, Max, InSomeRow}
 use Rattle.words.proofs.Choices.{both-true}
 use Rattle.bitset.proofs.Bools.{not-both, or-cases, or-left, or-right, both}
 use Rattle.bitset.proofs.Digits.{has-zero, has-below}

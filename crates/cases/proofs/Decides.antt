@@ -9,18 +9,20 @@ use native.Mathlib.Omega.{arith}
 use lib.Dec.{eqb, leb}
 use lib.ListN.{length, getD}
 use borrow.Author.Tests.{eqb-true, eq-eqb, leb-true, le-leb}
-use Rattle.sets.specs.Rows.{entryAt}
+use Rattle.sets.specs.Code.Rows.{entryAt}
 use Rattle.words.specs.Tests.{implies}
 use Rattle.words.proofs.Choices.{implies-true}
 use Rattle.words.specs.Fields.{fails, holds, conditionFormula, conditionI, conditionJ, conditionM, conditionN}
 use Rattle.model.specs.Trajectory.{Trajectory}
 use Rattle.model.specs.Procedure.{Procedure}
-use Rattle.sets.specs.Set.{TaskSet, memberCount, member, MetAs, Met, Placing, SetRule, Formed}
+use Rattle.sets.specs.Set.{TaskSet, memberCount, MetAs, Met, Placing}
+use Rattle.sets.specs.Code.Set.{member, SetRule, Formed}
 use Rattle.model.specs.Forms.{Form, Act, Test, Sequence, Choice, If, While, StartWindow, EndWindow, Set, Reserved, formAt, fieldX, fieldY, fieldM, fieldN, ConditionForm, BeginAfterBegin, BeginAfterEnd, HoldsBefore, HoldsAfter, HoldsBetween, ReservedCondition, conditionForm}
-use Rattle.reading.specs.Forms.{taskSet, NodeReadable}
+use Rattle.reading.specs.Forms.{taskSet}
+use Rattle.reading.specs.Code.Forms.{NodeReadable}
 use Rattle.reading.specs.Reading.{HasReading}
-use Rattle.reading.specs.Rule.{Rule}
-use Rattle.cases.specs.Decision.{some, each, through, metb, insideb, coveredb, conditionb, placingb, tried, setb, ruleb, reads}
+use Rattle.reading.specs.Code.Rule.{Rule}
+use Rattle.cases.specs.Code.Decision.{some, each, through, metb, insideb, coveredb, conditionb, placingb, tried, setb, ruleb, reads}
 use Rattle.reading.proofs.Step.{step, Filled, carry}
 
 -- ---- tests

@@ -8,7 +8,7 @@ use Rattle.model.specs.Trajectory.{Trajectory}
 use Rattle.model.specs.Procedure.{Procedure}
 use Rattle.model.specs.Forms.{Form, Act, Test, Sequence, Choice, If, While, StartWindow, EndWindow, Set, formAt}
 use Rattle.reading.specs.Reading.{whole, Reading, act, test, sequence, first, second, taken, otherwise, loop, startWindow, endWindow, set}
-use Rattle.cases.specs.Cases.{joint, wordsAs, wordsFor}
+use Rattle.cases.specs.Code.Cases.{joint, wordsAs, wordsFor}
 
 joint-law : (x y i j n : ℕ) → joint x y ≡ suc n → ((m : ℕ) → x ≡ suc m → i ≡ suc m) → ((m : ℕ) → y ≡ suc m → j ≡ suc m) → suc (i + j) ≡ suc n
 joint-law zero y i j n h f g = absurd (omega arith)

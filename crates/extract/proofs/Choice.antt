@@ -9,17 +9,18 @@ use Rattle.words.specs.Scan.{concatBelow}
 use Rattle.words.specs.Fields.{holds, memberNode, readingWord}
 use Rattle.model.specs.Trajectory.{Trajectory}
 use Rattle.model.specs.Procedure.{Procedure}
-use Rattle.sets.specs.Rows.{taskSetOf, entryAt, Placeable, Placed}
-use Rattle.model.specs.Table.{InTable}
-use Rattle.model.specs.Forms.{Form, Act, Test, Sequence, Choice, If, StartWindow, EndWindow, Set, Reserved, formAt, fieldX, fieldY, fieldM, fieldN, childrenAs, Below}
+use Rattle.sets.specs.Code.Rows.{taskSetOf, entryAt, Placeable, Placed}
+use Rattle.model.specs.Code.Table.{InTable}
+use Rattle.model.specs.Forms.{Form, Act, Test, Sequence, Choice, If, StartWindow, EndWindow, Set, Reserved, formAt, fieldX, fieldY, fieldM, fieldN}
+use Rattle.model.specs.Code.Forms.{childrenAs, Below}
 use Rattle.reading.specs.Forms.{taskSet}
 use Rattle.reading.specs.Reading.{whole, Reading, act, test, sequence, first, second, taken, otherwise, startWindow, endWindow, set, HasReading}
-use Rattle.reading.specs.Rule.{Rule}
+use Rattle.reading.specs.Code.Rule.{Rule}
 use Rattle.reading.proofs.Step.{step, carry}
 use Rattle.reading.proofs.Nodes.{members-lower}
-use Rattle.extract.specs.Search.{CutAt, StartAt}
+use Rattle.extract.specs.Code.Search.{CutAt, StartAt}
 use Rattle.extract.specs.declared.parts.Parts.{Parts}
-use Rattle.extract.specs.Parts.{noParts, onePart, twoParts, PlacedParts, Prepared, Chosen}
+use Rattle.extract.specs.Code.Parts.{noParts, onePart, twoParts, PlacedParts, Prepared, Chosen}
 
 -- what holds of 0 and of 1 holds of each number below 2
 below-two : (F : ℕ → Type 0) → F 0 → F 1 → (i : ℕ) → i < 2 → F i

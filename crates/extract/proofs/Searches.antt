@@ -10,13 +10,13 @@ use native.Mathlib.Omega.{arith}
 use lib.Dec.{leb, ltb, eqb}
 use lib.Pow.{pow-pos}
 use borrow.Author.Tests.{leb-true, le-leb, lt-ltb, ne-eqb}
-use Rattle.model.specs.Table.{InTable, rowAt}
-use Rattle.bitset.specs.Members.{has, IsSetOf, In, Lowest, Dropped, Max}
+use Rattle.model.specs.Code.Table.{InTable, rowAt}
+use Rattle.bitset.specs.Code.Members.{has, IsSetOf, In, Lowest, Dropped, Max}
 use Rattle.words.proofs.Choices.{both-true}
 use Rattle.bitset.proofs.Bools.{not-both, both}
 use Rattle.bitset.proofs.Digits.{has-zero, has-past}
 use Rattle.bitset.proofs.Ends.{lowest-le}
-use Rattle.extract.specs.Search.{Meets, FirstMeets, CutAt, EndPair, StartAt}
+use Rattle.extract.specs.Code.Search.{Meets, FirstMeets, CutAt, EndPair, StartAt}
 
 -- ---- a begin that meets
 

@@ -11,7 +11,7 @@ use native.Mathlib.Omega.{arith}
 use lib.Dec.{eqb}
 use lib.ListN.{length, getD, length-append}
 use borrow.Author.Tests.{eq-eqb, ne-eqb}
-use Rattle.model.specs.Table.{InTable}
+use Rattle.model.specs.Code.Table.{InTable}
 use Rattle.words.specs.Scan.{concatBelow}
 use Rattle.words.specs.Fields.{readingWord}
 use Rattle.words.proofs.Choices.{true-false}
@@ -21,12 +21,12 @@ use Rattle.model.specs.Forms.{Form, While, formNumber, formAt, fieldY}
 use Rattle.model.specs.declared.Triple.{Triple}
 use Rattle.reading.specs.Reading.{whole, passes, Reading, act, test, sequence, first, second, taken, otherwise, loop, done, pass, startWindow, endWindow, set}
 use Rattle.reading.proofs.Step.{onward}
-use Rattle.lengths.specs.Bound.{isWhile}
+use Rattle.lengths.specs.Code.Bound.{isWhile}
 use Rattle.extract.specs.declared.parts.Parts.{Parts}
-use Rattle.extract.specs.Parts.{Prepared, Choosable, Chosen, nodeOf, beginOf, endOf, partOf}
-use Rattle.extract.specs.Search.{CutAt, CutReady}
+use Rattle.extract.specs.Code.Parts.{Prepared, Choosable, Chosen, nodeOf, beginOf, endOf, partOf}
+use Rattle.extract.specs.Code.Search.{CutAt, CutReady}
 use Rattle.extract.proofs.Choice.{end-last, moment}
-use Rattle.extract.specs.Contract.{Room, Full, Rest, Writable, Written}
+use Rattle.extract.specs.Code.Contract.{Room, Full, Rest, Writable, Written}
 use Rattle.extract.proofs.Written.{written-none, written-then, written-map}
 
 -- ---- readings taken apart

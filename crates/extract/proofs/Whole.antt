@@ -5,16 +5,16 @@ use mathlib.Core.List.{List}
 use native.Mathlib.Nat.{le-refl, le-trans}
 use native.Mathlib.Omega.{arith}
 use lib.ListN.{length}
-use Rattle.model.specs.Table.{InTable}
+use Rattle.model.specs.Code.Table.{InTable}
 use Rattle.model.specs.Trajectory.{Trajectory}
 use Rattle.model.specs.Procedure.{Procedure}
 use Rattle.reading.specs.Reading.{whole, Reading}
-use Rattle.model.specs.Forms.{NamedOnce}
-use Rattle.lengths.specs.Bound.{lengthBound}
+use Rattle.model.specs.Code.Forms.{NamedOnce}
+use Rattle.lengths.specs.Code.Bound.{lengthBound}
 use Rattle.lengths.proofs.Words.{lower}
 use Rattle.lengths.proofs.Length.{length-le, bound-4032}
-use Rattle.extract.specs.Parts.{Prepared}
-use Rattle.extract.specs.Contract.{Full, Writable, Written, Emittable, Emitted}
+use Rattle.extract.specs.Code.Parts.{Prepared}
+use Rattle.extract.specs.Code.Contract.{Full, Writable, Written, Emittable, Emitted}
 use Rattle.extract.proofs.Written.{written-parts}
 
 module _ {P : Procedure} {T : Trajectory} {job : ℕ} {places table : List ℕ} {size : ℕ} (s : Emittable P T job places table size) where

@@ -3,8 +3,8 @@
 ghost use mathlib.Core.List.{List};
 ghost use Prim.Native.Nat.{ℕ};
 ghost use lib.ListN.{length};
-ghost use Rattle.model.specs.Arrays.{procedureAt, trajectoryAt};
-ghost use Rattle.extract.specs.Contract.{Emittable, Emitted};
+ghost use Rattle.model.specs.Code.Arrays.{procedureAt, trajectoryAt};
+ghost use Rattle.extract.specs.Code.Contract.{Emittable, Emitted};
 use model::Triple;
 
 mod parts;

@@ -4,11 +4,11 @@ ghost use mathlib.Core.Logic.{_⊎_};
 ghost use Prim.Native.Nat.{ℕ, _<_, _≤_};
 ghost use lib.ListN.{length, getD};
 ghost use Rattle.words.specs.Fields.{holds, memberNode};
-ghost use Rattle.model.specs.Arrays.{membersAt, conditionsAt};
-ghost use Rattle.model.specs.Table.{InTable};
-ghost use Rattle.sets.specs.Rows.{taskSetOf, Placeable};
-ghost use Rattle.extract.specs.Search.{Within, CutAt, CutReady, StartAt, StartReady};
-ghost use Rattle.extract.specs.Parts.{noParts, onePart, twoParts, PlacedParts, Unseen, ChoosableBy, ChosenBy};
+ghost use Rattle.model.specs.Code.Arrays.{membersAt, conditionsAt};
+ghost use Rattle.model.specs.Code.Table.{InTable};
+ghost use Rattle.sets.specs.Code.Rows.{taskSetOf, Placeable};
+ghost use Rattle.extract.specs.Code.Search.{Within, CutAt, CutReady, StartAt, StartReady};
+ghost use Rattle.extract.specs.Code.Parts.{noParts, onePart, twoParts, PlacedParts, Unseen, ChoosableBy, ChosenBy};
 use crate::search;
 use model::Triple;
 

@@ -2,9 +2,9 @@
 ghost use mathlib.Core.Path.{_≡_};
 ghost use mathlib.Core.Logic.{_⊎_};
 ghost use Prim.Native.Nat.{_<_};
-ghost use Rattle.bitset.specs.Members.{Max};
-ghost use Rattle.model.specs.Table.{InTable};
-ghost use Rattle.extract.specs.Search.{Within, MeetReady, FirstMeets, CutAt, CutReady, EndPair};
+ghost use Rattle.bitset.specs.Code.Members.{Max};
+ghost use Rattle.model.specs.Code.Table.{InTable};
+ghost use Rattle.extract.specs.Code.Search.{Within, MeetReady, FirstMeets, CutAt, CutReady, EndPair};
 
 // Two moments.
 pub struct Pair {

@@ -3,8 +3,8 @@
 ghost use mathlib.Core.Path.{_≡_};
 ghost use lib.ListN.{length};
 ghost use Rattle.model.specs.Forms.{While, formAt};
-ghost use Rattle.extract.specs.Parts.{Unseen, procedureBy, trajectoryBy};
-ghost use Rattle.extract.specs.Contract.{Full, Rest, WritableBy, Written};
+ghost use Rattle.extract.specs.Code.Parts.{Unseen, procedureBy, trajectoryBy};
+ghost use Rattle.extract.specs.Code.Contract.{Full, Rest, WritableBy, Written};
 use crate::parts;
 use crate::search;
 use model::Triple;

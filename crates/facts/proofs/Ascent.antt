@@ -9,7 +9,7 @@ use lib.ListN.{length, getD}
 use Rattle.words.specs.Scan.{concatBelow}
 use Rattle.words.specs.Fields.{unknown, holds}
 use Rattle.job.specs.Parts.{headWord, fluents, lastMoment}
-use Rattle.job.specs.WellFormed.{WellFormed}
+use Rattle.job.specs.Code.WellFormed.{WellFormed}
 use Rattle.history.specs.Values.{valueAt}
 use Rattle.facts.specs.Facts.{factOf, factsAt, factsUpto, factsOf}
 use Rattle.history.proofs.Values.{pick-most}

@@ -13,11 +13,11 @@ use lib.Seq.{sets, length-sets}
 use Rattle.words.specs.Scan.{concatBelow}
 use Rattle.words.specs.Fields.{unknown, factWord}
 use Rattle.job.specs.Parts.{headWord, fluents, lastMoment}
-use Rattle.job.specs.WellFormed.{WellFormed}
+use Rattle.job.specs.Code.WellFormed.{WellFormed}
 use Rattle.history.specs.Values.{valueAt}
-use Rattle.history.specs.Tables.{History}
+use Rattle.history.specs.Code.Tables.{History}
 use Rattle.facts.specs.Facts.{factOf, factsAt, factsUpto, factsOf}
-use Rattle.facts.specs.Written.{rowFacts, Written, Filled}
+use Rattle.facts.specs.Code.Written.{rowFacts, Written, Filled}
 
 -- one list written after another
 sets-append : (vs ws l : List ℕ) (i : ℕ) → sets l i (vs ++ ws) ≡ sets (sets l i vs) (i + length vs) ws

@@ -2,10 +2,10 @@
 ghost use mathlib.Core.List.{List};
 ghost use Prim.Native.Nat.{ℕ, _+_, _<_, _≤_};
 ghost use lib.ListN.{length};
-ghost use Rattle.job.specs.WellFormed.{WellFormed};
-ghost use Rattle.history.specs.Tables.{History};
+ghost use Rattle.job.specs.Code.WellFormed.{WellFormed};
+ghost use Rattle.history.specs.Code.Tables.{History};
 ghost use Rattle.facts.specs.Facts.{factOf, factsUpto, factsOf};
-ghost use Rattle.facts.specs.Written.{rowFacts, Written, Filled, Fillable};
+ghost use Rattle.facts.specs.Code.Written.{rowFacts, Written, Filled, Fillable};
 use history::FLUENTS;
 use words::OPEN;
 use words::fact_word;

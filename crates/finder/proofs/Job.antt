@@ -6,13 +6,13 @@ use native.Mathlib.Omega.{arith}
 use Rattle.job.specs.Refusal.{jobRefusal}
 use Rattle.job.specs.Parts.{nodeCount}
 use Rattle.job.specs.Procedure.{procedureOf}
-use Rattle.job.specs.WellFormed.{WellFormed}
+use Rattle.job.specs.Code.WellFormed.{WellFormed}
 use Rattle.job.proofs.Procedure.{children-below, members-count}
 use Rattle.theory.specs.Trajectory.{planTrajectory, trajectoryOf}
 use Rattle.theory.proofs.Naming.{once-by-nodes}
-use Rattle.model.specs.Forms.{NamedOnce}
+use Rattle.model.specs.Code.Forms.{NamedOnce}
 use Rattle.model.proofs.Forms.{form-number}
-use Rattle.reading.specs.Forms.{NodeReadable}
+use Rattle.reading.specs.Code.Forms.{NodeReadable}
 
 pub formed-job : (job starts : List ℕ) → WellFormed job → (p : ℕ) → p < nodeCount job → NodeReadable (procedureOf job) (planTrajectory job starts) p
 unfolding procedureOf trajectoryOf

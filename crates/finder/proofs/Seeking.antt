@@ -9,20 +9,20 @@ use lib.ListN.{length}
 use Rattle.answers.specs.declared.Answer.the-variants.{Accepted, Refused}
 use Rattle.job.specs.Refusal.{jobRefusal}
 use Rattle.job.specs.Parts.{nodeCount, lastMoment}
-use Rattle.job.specs.WellFormed.{WellFormed}
+use Rattle.job.specs.Code.WellFormed.{WellFormed}
 use Rattle.job.proofs.WellFormed.{well-formed}
 use Rattle.theory.specs.Trajectory.{planTrajectory, trajectoryOf}
 use Rattle.job.specs.Procedure.{procedureOf}
-use Rattle.model.specs.Arrays.{procedureIn, trajectoryIn}
-use Rattle.model.specs.Represents.{Represents}
-use Rattle.model.specs.Table.{endIn}
+use Rattle.model.specs.Code.Arrays.{procedureIn, trajectoryIn}
+use Rattle.model.specs.Code.Represents.{Represents}
+use Rattle.model.specs.Code.Table.{endIn}
 use Rattle.model.specs.declared.Arrays.{Arrays}
-use Rattle.reading.specs.Forms.{Readable}
-use Rattle.reading.specs.Table.{Found, Tabulated}
+use Rattle.reading.specs.Code.Forms.{Readable}
+use Rattle.reading.specs.Code.Table.{Found, Tabulated}
 use Rattle.reading.proofs.Transfer.{transfer}
 use Rattle.reading.proofs.Agreement.{extends, agrees-back, formed-there, found-same, counted-same}
 use Rattle.model.proofs.Named.{named-there}
-use Rattle.extract.specs.Contract.{Emittable, Emitted}
+use Rattle.extract.specs.Code.Contract.{Emittable, Emitted}
 use Rattle.extract.proofs.Whole.{emittable}
 use Rattle.finder.specs.Find.{RootReading, Triples, Searched, unread, read}
 use Rattle.finder.proofs.Job.{formed-job, once-job}

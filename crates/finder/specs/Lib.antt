@@ -1,3 +1,3 @@
 -- What find answers and leaves behind: Find. Seek is what its search asks.
 pub mod Find
-pub mod Seek
+pub mod Code

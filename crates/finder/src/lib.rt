@@ -1,9 +1,10 @@
 // Finding a reading of a job's procedure in a plan.
 ghost use Prim.Native.Nat.{_≤_};
 ghost use lib.ListN.{length};
-ghost use Rattle.answers.specs.Packed.{InRange, lengthOf};
+ghost use Rattle.answers.specs.Packed.{lengthOf};
+ghost use Rattle.answers.specs.Code.Packed.{InRange};
 ghost use Rattle.finder.specs.Find.{Searched, Outcome};
-ghost use Rattle.finder.specs.Seek.{Seekable};
+ghost use Rattle.finder.specs.Code.Seek.{Seekable};
 use answers::Answer;
 use answers::answer_of;
 use answers::refuse;

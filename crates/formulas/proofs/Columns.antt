@@ -6,10 +6,11 @@ use native.Mathlib.Omega.{arith}
 use borrow.Author.Count.{below-more}
 use lib.ListN.{length, getD, set, replicate, length-set, length-replicate}
 use lib.Seq.{getD-set-same, getD-set-other}
-use Rattle.job.specs.Parts.{lastMoment, formulaCount}
+use Rattle.job.specs.Parts.{lastMoment}
+use Rattle.job.specs.Code.Parts.{formulaCount}
 use Rattle.history.proofs.Stores.{set-all, replicate-all}
 use Rattle.formulas.specs.Values.{formulaAt}
-use Rattle.formulas.specs.Table.{Small, ColumnAt, ColumnsBefore, FormulaTable}
+use Rattle.formulas.specs.Code.Table.{Small, ColumnAt, ColumnsBefore, FormulaTable}
 
 pub record Filling (conj disj job : List ℕ) (fluent : ℕ → ℕ → ℕ) (t k : ℕ) (values : List ℕ) : Type 0 where
   pub size : length values ≡ 4096

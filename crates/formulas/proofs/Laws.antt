@@ -9,13 +9,14 @@ use borrow.Author.Tests.{eqb-true, eqb-false, eq-eqb}
 use lib.Dec.{eqb}
 use lib.ListN.{getD}
 use Rattle.words.specs.Fields.{form, holds, formulaX, formulaY, atomFluent}
-use Rattle.job.specs.Parts.{headWord, fluents, lastMoment, formulaWord, formulaCount}
-use Rattle.job.specs.WellFormed.{WellFormed, Indexed}
+use Rattle.job.specs.Parts.{headWord, fluents, lastMoment, formulaWord}
+use Rattle.job.specs.Code.Parts.{formulaCount}
+use Rattle.job.specs.Code.WellFormed.{WellFormed, Indexed}
 use Rattle.history.specs.Values.{valueAt}
-use Rattle.history.specs.Tables.{History}
+use Rattle.history.specs.Code.Tables.{History}
 use Rattle.history.proofs.Values.{pick-most, value-most}
 use Rattle.formulas.specs.Values.{byTable, formValue, formulaBelow, formulaAt}
-use Rattle.formulas.specs.Table.{Connectives, tabled, Valued, Grounds, ColumnAt, FormulaTable}
+use Rattle.formulas.specs.Code.Table.{Connectives, tabled, Valued, Grounds, ColumnAt, FormulaTable}
 
 pick-when : (t : Bool) {a : ℕ} (b : ℕ) {m : ℕ} → (t ≡ true → a ≤ m) → b ≤ m → cond t a b ≤ m
 pick-when true b h l = h refl

@@ -11,7 +11,7 @@ use lib.Dec.{eqb, leb}
 use lib.ListN.{length, getD, List·getD-eq-default}
 use Rattle.words.proofs.Choices.{both-true}
 use Rattle.formulas.specs.Values.{andTable, orTable, byTable}
-use Rattle.formulas.specs.Table.{Small, Connectives}
+use Rattle.formulas.specs.Code.Table.{Small, Connectives}
 
 -- every number below n passes
 abbrev allBelow : (ℕ → Bool) → ℕ → Bool

@@ -11,9 +11,9 @@ use Rattle.words.specs.Fields.{unknown, startMoment, startAction}
 use Rattle.job.specs.Parts.{headWord, fluents, actions, lawsOf}
 use Rattle.history.specs.Actions.{makesFluent, lawValue, effect, finish, affects}
 use Rattle.history.specs.Values.{hidesFluent, nextValue, valueAt}
-use Rattle.history.specs.Tables.{Durations, Effects, Walkable, StateAt}
-use Rattle.history.specs.Stores.{Overlaid, Mapped}
-use Rattle.history.specs.Passes.{acts, leaves, changedBy, Passed}
+use Rattle.history.specs.Code.Tables.{Durations, Effects, Walkable, StateAt}
+use Rattle.history.specs.Code.Stores.{Overlaid, Mapped}
+use Rattle.history.specs.Code.Passes.{acts, leaves, changedBy, Passed}
 use Rattle.history.proofs.Stores.{any-gives, overlaid-hit, overlaid-open}
 
 -- the values that an action makes, from its laws

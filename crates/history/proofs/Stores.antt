@@ -12,7 +12,7 @@ use lib.Seq.{getD-set-same, getD-set-other}
 use Rattle.words.specs.Fields.{unknown}
 use Rattle.words.specs.Scan.{any, findOr}
 use Rattle.words.proofs.Scan.{drop-next, gives-end}
-use Rattle.history.specs.Stores.{Overlaid, Mapped, RowStored}
+use Rattle.history.specs.Code.Stores.{Overlaid, Mapped, RowStored}
 
 module _ {n : ℕ} {test : ℕ → ℕ → Bool} {gives : ℕ → ℕ → ℕ} {old : List ℕ} where
   -- no word

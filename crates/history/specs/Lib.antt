@@ -2,6 +2,4 @@
 -- at a moment), Tables (what the tables of actions and states are), Stores (what stores into them leave), Passes (the two passes of a step).
 pub mod Actions
 pub mod Values
-pub mod Tables
-pub mod Stores
-pub mod Passes
+pub mod Code

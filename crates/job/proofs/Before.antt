@@ -15,7 +15,7 @@ use Rattle.words.specs.Scan.{any, count}
 use Rattle.job.specs.Children.{wordChildren}
 use Rattle.job.specs.Before.{before, countOfKind, since, latest, named}
 use Rattle.job.specs.Refusal.{nameRefusal}
-use Rattle.job.specs.State.{Tied}
+use Rattle.job.specs.Code.State.{Tied}
 use Rattle.words.proofs.Choices.{indicator-le}
 
 pub before-suc : (job : List ℕ) (i : ℕ) → before job (suc i) ≡ getD job i 0 ∷ before job i

@@ -7,8 +7,9 @@ use lib.ListN.{getD, drop}
 use lib.Seq.{getD-drop, drop-drop}
 use Rattle.words.specs.Scan.{takeWhile}
 use Rattle.words.specs.Fields.{ofKind, durationOf}
-use Rattle.job.specs.Parts.{total, wordsFrom, wordOfKind, actions, duration, lawsOf, formulaWord, formulaCount}
-use Rattle.job.specs.WellFormed.{Indexed, WellFormed}
+use Rattle.job.specs.Parts.{total, wordsFrom, wordOfKind, actions, duration, lawsOf, formulaWord}
+use Rattle.job.specs.Code.Parts.{formulaCount}
+use Rattle.job.specs.Code.WellFormed.{Indexed, WellFormed}
 
 module _ {k : ℕ} {job places : List ℕ} (p : Indexed job k places) (j : ℕ) (h : j < total k job) where
   pub word-place : wordOfKind k job j ≡ getD job (getD places j 0) 0

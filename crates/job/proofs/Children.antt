@@ -13,7 +13,7 @@ use Rattle.model.specs.Forms.{formNumber, namedByForm}
 use Rattle.words.proofs.Scan.{count-here, count-later}
 use Rattle.job.specs.Children.{nodeChildren, wordChildren}
 use Rattle.job.specs.Parts.{nodeWord}
-use Rattle.job.specs.WellFormed.{NodeFormed}
+use Rattle.job.specs.Code.WellFormed.{NodeFormed}
 
 -- the forms that name X, Y, M
 abbrev namesX : ℕ → Bool

@@ -20,9 +20,9 @@ use Rattle.job.specs.Children.{nodeChildren}
 use Rattle.job.specs.Follow.{predecessor}
 use Rattle.job.specs.Before.{before, countOfKind}
 use Rattle.job.specs.Refusal.{jobRefusal}
-use Rattle.job.specs.Index.{positions}
+use Rattle.job.specs.Code.Index.{positions}
 use Rattle.job.specs.Parts.{headWord, fluents, actions, lastMoment, total, wordOfKind, duration, formulaWord, nodeWord}
-use Rattle.job.specs.WellFormed.{FormulaFormed, NodeFormed}
+use Rattle.job.specs.Code.WellFormed.{FormulaFormed, NodeFormed}
 use Rattle.words.specs.Scan.{every}
 use Rattle.words.proofs.Scan.{every-true}
 use Rattle.job.proofs.Follow.{first-head}

@@ -10,12 +10,13 @@ use lib.ListN.{length, length-map, List·getD-map}
 use Rattle.words.specs.Fields.{form, memberNode}
 use Rattle.words.specs.Scan.{count}
 use Rattle.model.specs.Procedure.{Procedure}
-use Rattle.model.specs.Forms.{formNumber, namedByForm, childrenAs, children, Below}
+use Rattle.model.specs.Forms.{formNumber, namedByForm}
+use Rattle.model.specs.Code.Forms.{childrenAs, children, Below}
 use Rattle.model.proofs.Forms.{below-at}
 use Rattle.job.specs.Children.{nodeChildren}
 use Rattle.job.specs.Parts.{nodeCount, nodeWord, memberWords}
 use Rattle.job.specs.Procedure.{procedureOf}
-use Rattle.job.specs.WellFormed.{WellFormed}
+use Rattle.job.specs.Code.WellFormed.{WellFormed}
 
 module _ (P : Procedure) (p : ℕ) where
   pub set-children : form (P .node p) ≡ 8 → children P p ≡ P .members p

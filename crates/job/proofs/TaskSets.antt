@@ -21,7 +21,7 @@ use Rattle.job.specs.Rules.{conditionShape, conditionRange}
 use Rattle.job.specs.Before.{before, countOfKind, since}
 use Rattle.job.specs.Refusal.{emptySet, jobRefusal}
 use Rattle.job.specs.Parts.{memberWords, conditionWords}
-use Rattle.job.specs.WellFormed.{ConditionFormed, SetFormed}
+use Rattle.job.specs.Code.WellFormed.{ConditionFormed, SetFormed}
 use Rattle.job.proofs.Before.{before-more, latest-more, count-more, count-since-more, count-grows}
 use Rattle.job.proofs.Follow.{set-member, set-before}
 use Rattle.job.proofs.Refusal.{within-limit, rule-passed, Clear, clear, end-clear}

@@ -12,7 +12,7 @@ use Rattle.answers.proofs.Rows.{first-none}
 use Rattle.job.specs.Before.{named}
 use Rattle.job.specs.Refusal.{nameRefusal, jobRefusal}
 use Rattle.job.specs.Parts.{total, nodeWord}
-use Rattle.job.specs.WellFormed.{WellFormed}
+use Rattle.job.specs.Code.WellFormed.{WellFormed}
 use Rattle.job.proofs.Refusal.{tests-passed, few, limits-formulas, limits-nodes, clear}
 use Rattle.job.proofs.Parts.{size, ranges, rule, ends, word, word-at, lasts, formula, node}
 use Rattle.job.proofs.Known.{known-front, known-once}

@@ -17,9 +17,9 @@ use Rattle.words.specs.Fields.{ofKind, kind}
 use Rattle.words.proofs.Choices.{same-or-not}
 use Rattle.job.specs.Before.{before, countOfKind}
 use Rattle.words.specs.Scan.{fromNth}
-use Rattle.job.specs.Index.{positions, placesUpto}
+use Rattle.job.specs.Code.Index.{positions, placesUpto}
 use Rattle.job.specs.Parts.{total}
-use Rattle.job.specs.WellFormed.{Indexed}
+use Rattle.job.specs.Code.WellFormed.{Indexed}
 use Rattle.job.proofs.Before.{count-more, count-none, count-grows}
 
 -- one more word stored after others

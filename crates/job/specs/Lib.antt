@@ -7,8 +7,6 @@ pub mod Rules
 pub mod Follow
 pub mod Before
 pub mod Refusal
-pub mod Index
 pub mod Parts
 pub mod Procedure
-pub mod WellFormed
-pub mod State
+pub mod Code

@@ -35,10 +35,6 @@ duration job a = durationOf (wordOfKind 3 job a)
 unfoldable pub lawsOf : List ℕ → ℕ → List ℕ
 lawsOf job a = takeWhile (ofKind 4) (drop 1 (wordsFrom 3 job a))
 
--- how many formulas there are, and the word of formula k
-abbrev pub formulaCount : List ℕ → ℕ
-formulaCount job = total 5 job
-
 unfoldable pub formulaWord : List ℕ → ℕ → ℕ
 formulaWord job k = wordOfKind 5 job k
 

@@ -5,7 +5,7 @@ ghost use lib.ListN.{length, getD};
 ghost use Rattle.answers.specs.Rows.{firstOf};
 ghost use Rattle.job.specs.Before.{before, named};
 ghost use Rattle.job.specs.Refusal.{nameRefusal, endRefusal};
-ghost use Rattle.job.specs.State.{Tied};
+ghost use Rattle.job.specs.Code.State.{Tied};
 use crate::State;
 use crate::rules;
 use answers::Refusal;

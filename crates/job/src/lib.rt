@@ -1,7 +1,7 @@
 // The job format: `check_job` gives the refusal that the document gives, and an index of the words of a job that passes.
 ghost use mathlib.Core.Path.{_≡_};
 ghost use Rattle.job.specs.Refusal.{jobRefusal};
-ghost use Rattle.job.specs.Index.{checkedOf};
+ghost use Rattle.job.specs.Code.Index.{checkedOf};
 use answers::Refusal;
 use job_end::end_refusal;
 use positions::index_words;

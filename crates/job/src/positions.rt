@@ -3,7 +3,7 @@ ghost use mathlib.Core.Path.{_≡_};
 ghost use Prim.Native.Nat.{_≤_};
 ghost use lib.ListN.{length};
 ghost use Rattle.job.specs.Before.{before, countOfKind};
-ghost use Rattle.job.specs.Index.{placesUpto, Indexable, indexUpto};
+ghost use Rattle.job.specs.Code.Index.{placesUpto, Indexable, indexUpto};
 use crate::ACTION;
 use crate::FORMULA;
 use crate::Index;

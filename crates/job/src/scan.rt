@@ -8,7 +8,7 @@ ghost use Rattle.job.specs.Rules.{sameFluent};
 ghost use Rattle.job.specs.Before.{before, since};
 ghost use Rattle.job.specs.Follow.{predecessor};
 ghost use Rattle.job.specs.Refusal.{refusalOf};
-ghost use Rattle.job.specs.State.{Tied};
+ghost use Rattle.job.specs.Code.State.{Tied};
 use crate::ACTION;
 use crate::CONDITION;
 use crate::FORMULA;

@@ -9,12 +9,12 @@ use native.Mathlib.Omega.{arith}
 use lib.ListN.{length, length-append}
 use Rattle.model.specs.Trajectory.{Trajectory}
 use Rattle.model.specs.Procedure.{Procedure}
-use Rattle.model.specs.Forms.{Form, Act, Test, Sequence, Choice, If, While, StartWindow, EndWindow, Set, formAt, fieldX, fieldY, fieldM, childrenAs, children}
+use Rattle.model.specs.Forms.{Form, Act, Test, Sequence, Choice, If, While, StartWindow, EndWindow, Set, formAt, fieldX, fieldY, fieldM}
+use Rattle.model.specs.Code.Forms.{childrenAs, children, NamedOnce}
 use Rattle.reading.specs.Reading.{whole, Reading, act, test, sequence, first, second, taken, otherwise, loop, startWindow, endWindow, set}
 use Rattle.reading.proofs.Step.{onward}
 use Rattle.words.specs.Scan.{count}
-use Rattle.model.specs.Forms.{NamedOnce}
-use Rattle.lengths.specs.Bound.{isWhile, loopAbove, weight, lengthBound}
+use Rattle.lengths.specs.Code.Bound.{isWhile, loopAbove, weight, lengthBound}
 use Rattle.lengths.proofs.Sums.{total, times-first, times-second, times-at, below-times, sum-le, total-cong, total-mul, joined-le}
 use Rattle.lengths.proofs.Tree.{Lower, branch, branch-is, root-is}
 use Rattle.lengths.proofs.Words.{nodes, words-le}

@@ -8,9 +8,9 @@ use native.Mathlib.Decide.{ℕ-discrete, decLt}
 use native.Mathlib.Omega.{arith}
 use borrow.Author.Tests.{lt-ltb, le-ltb}
 use Rattle.model.specs.Procedure.{Procedure}
-use Rattle.model.specs.Forms.{formAt, children}
-use Rattle.model.specs.Forms.{NamedOnce}
-use Rattle.lengths.specs.Bound.{isWhile, isChild, loopWithin, loopAbove}
+use Rattle.model.specs.Forms.{formAt}
+use Rattle.model.specs.Code.Forms.{children, NamedOnce}
+use Rattle.lengths.specs.Code.Bound.{isWhile, isChild, loopWithin, loopAbove}
 use Rattle.words.specs.Scan.{anyBelow, count}
 use Rattle.lengths.proofs.Sums.{below-times, sum-two}
 use Rattle.lengths.proofs.Tree.{Lower}

@@ -11,8 +11,8 @@ use borrow.Author.Tests.{eq-eqb, ne-eqb}
 use lib.Dec.{eqb}
 use Rattle.words.specs.Tests.{indicator}
 use Rattle.words.specs.Scan.{count, concatBelow}
-use Rattle.bitset.specs.Members.{sumBelow}
-use Rattle.model.specs.Forms.{Below}
+use Rattle.bitset.specs.Code.Members.{sumBelow}
+use Rattle.model.specs.Code.Forms.{Below}
 
 -- the sum of f over a list
 unfoldable pub total : (ℕ → ℕ) → List ℕ → ℕ

@@ -4,12 +4,11 @@ use mathlib.Core.Path.{_≡_, refl, sym, ap, ap₂, _∙_}
 use Prim.Native.Nat.{ℕ, zero, suc, _+_, _*_, _≤_, _<_}
 use native.Mathlib.Nat.{le-refl, le-of-eq, one-mul, add-mul}
 use native.Mathlib.Omega.{arith}
-use Rattle.bitset.specs.Members.{sumBelow}
+use Rattle.bitset.specs.Code.Members.{sumBelow}
 use Rattle.model.specs.Procedure.{Procedure}
 use Rattle.words.specs.Scan.{count}
-use Rattle.model.specs.Forms.{children, Below}
+use Rattle.model.specs.Code.Forms.{children, Below, NamedOnce}
 use Rattle.model.proofs.Forms.{below-le}
-use Rattle.model.specs.Forms.{NamedOnce}
 use Rattle.bitset.proofs.Sums.{sum-cong}
 use Rattle.lengths.proofs.Sums.{total, below-times, sum-both, total-cong, total-times}
 

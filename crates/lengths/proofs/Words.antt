@@ -9,8 +9,9 @@ use lib.ListN.{length, getD, length-append}
 use Rattle.words.specs.Scan.{concatBelow}
 use Rattle.model.specs.Trajectory.{Trajectory}
 use Rattle.model.specs.Procedure.{Procedure}
-use Rattle.model.specs.Forms.{Form, Act, Test, Sequence, Choice, If, While, StartWindow, EndWindow, Set, formAt, fieldY, childrenAs, children, Below}
-use Rattle.reading.specs.Forms.{NodeReadable}
+use Rattle.model.specs.Forms.{Form, Act, Test, Sequence, Choice, If, While, StartWindow, EndWindow, Set, formAt, fieldY}
+use Rattle.model.specs.Code.Forms.{childrenAs, children, Below}
+use Rattle.reading.specs.Code.Forms.{NodeReadable}
 use Rattle.reading.specs.Reading.{Mode, whole, passes, Reading, act, test, sequence, first, second, taken, otherwise, loop, done, pass, startWindow, endWindow, set}
 use Rattle.reading.proofs.Step.{onward}
 use Rattle.model.proofs.Forms.{at-below, below-le}

@@ -1,2 +1,2 @@
 -- How long a reading can be: Bound (the sum over all nodes).
-pub mod Bound
+pub mod Code

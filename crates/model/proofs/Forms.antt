@@ -7,7 +7,8 @@ use native.Mathlib.Omega.{arith}
 use lib.ListN.{length, getD}
 use Rattle.words.specs.Fields.{form}
 use Rattle.model.specs.Procedure.{Procedure}
-use Rattle.model.specs.Forms.{Form, Act, Test, Sequence, Choice, If, While, StartWindow, EndWindow, Set, Reserved, formNumber, formAt, childrenAs, children, Below, ReservedCondition, conditionNumber, asksFormula}
+use Rattle.model.specs.Forms.{Form, Act, Test, Sequence, Choice, If, While, StartWindow, EndWindow, Set, Reserved, formNumber, formAt, ReservedCondition, conditionNumber}
+use Rattle.model.specs.Code.Forms.{childrenAs, children, Below, asksFormula}
 
 -- the number of a form; the reserved ones have the first of theirs
 abbrev pub numberOf : Form → ℕ

@@ -3,12 +3,12 @@ use Prim.Native.Nat.{ℕ, _<_}
 use mathlib.Core.Path.{_≡_, sym, ap, _∙_}
 use mathlib.Core.List.{List}
 use native.Mathlib.Omega.{arith}
-use Rattle.bitset.specs.Members.{sumBelow}
+use Rattle.bitset.specs.Code.Members.{sumBelow}
 use Rattle.words.specs.Scan.{count}
 use Rattle.model.specs.Procedure.{Procedure}
 use Rattle.model.specs.Trajectory.{Trajectory}
-use Rattle.model.specs.Forms.{children, NamedOnce}
-use Rattle.model.specs.Represents.{Agrees}
+use Rattle.model.specs.Code.Forms.{children, NamedOnce}
+use Rattle.model.specs.Code.Represents.{Agrees}
 use Rattle.model.proofs.Forms.{same-children}
 use Rattle.bitset.proofs.Sums.{sum-cong}
 

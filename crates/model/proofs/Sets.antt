@@ -9,7 +9,7 @@ use Rattle.words.specs.Fields.{ofKind}
 use Rattle.words.specs.Scan.{takeWhile}
 use Rattle.words.proofs.Scan.{takeWhile-take, takeWhile-fits, dropWhile-drop}
 use Rattle.model.specs.declared.SetCounts.{SetCounts}
-use Rattle.model.specs.Arrays.{membersAt, conditionsAt, SetWords}
+use Rattle.model.specs.Code.Arrays.{membersAt, conditionsAt, SetWords}
 
 -- a part of a list, from its start up to its end
 part : (ws : List ℕ) (a k : ℕ) → take (a + k - a) (drop a ws) ≡ take k (drop a ws)

@@ -1,11 +1,7 @@
 -- The forms of a node and of a condition, a node's fields, and the nodes that it names as children.
-use Prim.Native.Nat.{ℕ, zero, suc, _<_}
-use mathlib.Core.Bool.{Bool, true, false}
-use mathlib.Core.Path.{_≡_}
+use Prim.Native.Nat.{ℕ, zero, suc}
 use mathlib.Core.List.{List, [], _∷_}
 use Rattle.words.specs.Fields.{form, nodeX, nodeY, nodeM, nodeN}
-use Rattle.words.specs.Scan.{count}
-use Rattle.bitset.specs.Members.{sumBelow}
 use Rattle.model.specs.Procedure.{Procedure}
 
 -- the forms by their numbers, 0 to 8; any other number is reserved, and nothing reads such a node
@@ -54,27 +50,6 @@ namedByForm EndWindow w = nodeX w ∷ nodeY w ∷ []
 namedByForm Set w = []
 namedByForm Reserved w = []
 
--- the children of node p: those that its word names, or the members of its task set
-abbrev pub childrenAs : Procedure → Form → ℕ → List ℕ
-childrenAs P Set p = P .members p
-childrenAs P Act p = []
-childrenAs P Test p = []
-childrenAs P Sequence p = namedByForm Sequence (P .node p)
-childrenAs P Choice p = namedByForm Choice (P .node p)
-childrenAs P If p = namedByForm If (P .node p)
-childrenAs P While p = namedByForm While (P .node p)
-childrenAs P StartWindow p = namedByForm StartWindow (P .node p)
-childrenAs P EndWindow p = namedByForm EndWindow (P .node p)
-childrenAs P Reserved p = []
-
-abbrev pub children : Procedure → ℕ → List ℕ
-children P p = childrenAs P (formAt P p) p
-
--- every number of the list is below n
-abbrev pub Below : ℕ → List ℕ → Type 0
-Below n [] = Unit {0}
-Below n (x ∷ xs) = (x < n) × Below n xs
-
 -- the forms of a condition by their numbers, 0 to 4: member j begins in a window after member i's begin or end; a formula holds through a
 -- window before i's begin, after i's end, or between i's end and j's begin. Any other number is reserved, and no such condition is met.
 pub data ConditionForm : Type 0 where
@@ -91,16 +66,3 @@ conditionNumber (suc (suc (suc (suc (suc k))))) = ReservedCondition
 -- the form of a condition word
 abbrev pub conditionForm : ℕ → ConditionForm
 conditionForm w = conditionNumber (form w)
-
--- it asks for its formula's value
-abbrev pub asksFormula : ConditionForm → Bool
-asksFormula BeginAfterBegin = false
-asksFormula BeginAfterEnd = false
-asksFormula HoldsBefore = true
-asksFormula HoldsAfter = true
-asksFormula HoldsBetween = true
-asksFormula ReservedCondition = false
-
--- each node but the root is named as a child exactly once
-abbrev pub NamedOnce : Procedure → Type 0
-NamedOnce P = (q : ℕ) → suc q < P .count → sumBelow (λ p. count q (children P p)) (P .count) ≡ 1

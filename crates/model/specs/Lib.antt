@@ -4,6 +4,4 @@
 pub mod Trajectory
 pub mod Procedure
 pub mod Forms
-pub mod Arrays
-pub mod Represents
-pub mod Table
+pub mod Code

@@ -2,7 +2,7 @@
 // many words of a task set follow its node's own.
 ghost use Prim.Native.Nat.{_<_};
 ghost use lib.ListN.{length};
-ghost use Rattle.model.specs.Arrays.{SetWords};
+ghost use Rattle.model.specs.Code.Arrays.{SetWords};
 
 // Node p's word stands at places[p] of the job, and after it those of its members and conditions; starts[a] is the set of the moments at
 // which action a starts; values has the value of formula k at moment t at k * 64 + t.

@@ -7,14 +7,15 @@ use mathlib.Core.List.{List}
 use native.Mathlib.Omega.{arith}
 use Rattle.model.specs.Trajectory.{Trajectory}
 use Rattle.model.specs.Procedure.{Procedure}
-use Rattle.sets.specs.Set.{TaskSet, Formed}
+use Rattle.sets.specs.Set.{TaskSet}
+use Rattle.sets.specs.Code.Set.{Formed}
 use Rattle.model.specs.Forms.{Form, Act, Test, Sequence, Choice, If, While, StartWindow, EndWindow, Set, Reserved, formAt}
-use Rattle.model.specs.Represents.{Asks, Agrees}
+use Rattle.model.specs.Code.Represents.{Asks, Agrees}
 use Rattle.model.specs.declared.Triple.{Triple}
 use Rattle.model.proofs.Forms.{same-form, same-children}
-use Rattle.reading.specs.Forms.{NodeReadable}
+use Rattle.reading.specs.Code.Forms.{NodeReadable}
 use Rattle.reading.specs.Reading.{HasReading}
-use Rattle.reading.specs.Table.{Found, Tabulated}
+use Rattle.reading.specs.Code.Table.{Found, Tabulated}
 use Rattle.reading.specs.Count.{Read, Counted}
 use Rattle.reading.proofs.Transfer.{Extends, ends-transfer}
 

@@ -7,13 +7,13 @@ use mathlib.Core.List.{List, [], _∷_, _++_, List·Memᴰ, List·Memᴰ·head, 
 use native.Mathlib.Decide.{decLt}
 use native.Mathlib.Omega.{arith}
 use lib.ListN.{length, getD, length-append}
-use Rattle.model.specs.Table.{InTable}
+use Rattle.model.specs.Code.Table.{InTable}
 use Rattle.words.specs.Tests.{indicator}
-use Rattle.bitset.specs.Members.{has, In, countBelow, sumBelow, pairs, popCount}
+use Rattle.bitset.specs.Code.Members.{has, In, countBelow, sumBelow, pairs, popCount}
 use Rattle.bitset.proofs.Counts.{count-le}
 use Rattle.model.specs.Trajectory.{Trajectory}
 use Rattle.model.specs.Procedure.{Procedure}
-use Rattle.reading.specs.Table.{Found}
+use Rattle.reading.specs.Code.Table.{Found}
 use Rattle.model.specs.declared.Triple.{Triple}
 use Rattle.reading.specs.Count.{Distinct, none, more, Read, Counted}
 use Rattle.reading.proofs.Step.{onward}

@@ -5,18 +5,20 @@ use mathlib.Core.Logic.{_↔_, inl, Iff·rfl, Iff·trans}
 use mathlib.Core.List.{List}
 use native.Mathlib.Omega.{arith}
 use lib.ListN.{length, getD}
-use Rattle.bitset.specs.Members.{In}
+use Rattle.bitset.specs.Code.Members.{In}
 use Rattle.model.specs.Trajectory.{Trajectory}
 use Rattle.model.specs.Procedure.{Procedure}
-use Rattle.sets.specs.Set.{TaskSet, member, SetRule}
-use Rattle.sets.specs.Rows.{SetReady, SetRows}
-use Rattle.model.specs.Table.{InTable, rowAt}
+use Rattle.sets.specs.Set.{TaskSet}
+use Rattle.sets.specs.Code.Set.{member, SetRule}
+use Rattle.sets.specs.Code.Rows.{SetReady, SetRows}
+use Rattle.model.specs.Code.Table.{InTable, rowAt}
 use Rattle.sets.proofs.Stored.{rule-map}
 use Rattle.model.specs.Forms.{Form, Act, Test, Sequence, Choice, If, While, StartWindow, EndWindow, Set, Reserved, formAt}
 use Rattle.model.proofs.Forms.{same-form, same-children, at-below}
-use Rattle.reading.specs.Forms.{taskSet, NodeReadable}
-use Rattle.reading.specs.Rule.{Rule}
-use Rattle.reading.specs.Table.{NodeReady, NodeRows}
+use Rattle.reading.specs.Forms.{taskSet}
+use Rattle.reading.specs.Code.Forms.{NodeReadable}
+use Rattle.reading.specs.Code.Rule.{Rule}
+use Rattle.reading.specs.Code.Table.{NodeReady, NodeRows}
 
 -- Two procedures with the same word at p, and the same members and conditions where that is a task set's.
 module _ (P P′ : Procedure) (T : Trajectory) (p : ℕ) (n : P′ .node p ≡ P .node p) where

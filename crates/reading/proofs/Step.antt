@@ -7,11 +7,13 @@ use native.Mathlib.Decide.{decLt}
 use native.Mathlib.Omega.{arith}
 use Rattle.model.specs.Trajectory.{Trajectory}
 use Rattle.model.specs.Procedure.{Procedure}
-use Rattle.sets.specs.Set.{TaskSet, memberCount, member, SetRule}
-use Rattle.model.specs.Forms.{Form, Act, Test, Sequence, Choice, If, While, StartWindow, EndWindow, Set, Reserved, formAt, childrenAs, Below}
+use Rattle.sets.specs.Set.{TaskSet, memberCount}
+use Rattle.sets.specs.Code.Set.{member, SetRule}
+use Rattle.model.specs.Forms.{Form, Act, Test, Sequence, Choice, If, While, StartWindow, EndWindow, Set, Reserved, formAt}
+use Rattle.model.specs.Code.Forms.{childrenAs, Below}
 use Rattle.model.proofs.Forms.{at-below}
 use Rattle.reading.specs.Reading.{Mode, whole, passes, Reading, act, test, sequence, first, second, taken, otherwise, loop, done, pass, startWindow, endWindow, set, HasReading}
-use Rattle.reading.specs.Rule.{Rule}
+use Rattle.reading.specs.Code.Rule.{Rule}
 
 -- a reading ends no sooner than it begins
 pub onward : {P : Procedure} {T : Trajectory} {o : Mode} {p b e : ℕ} {ws : List ℕ} → Reading P T o p b e ws → b ≤ e

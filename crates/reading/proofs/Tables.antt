@@ -7,18 +7,19 @@ use native.Mathlib.Decide.{decLt}
 use native.Mathlib.Omega.{arith}
 use lib.ListN.{length, getD, set, length-set, replicate, length-replicate}
 use lib.Seq.{getD-set-same, getD-set-other}
-use Rattle.model.specs.Table.{InTable, rowAt}
-use Rattle.bitset.specs.Members.{In}
+use Rattle.model.specs.Code.Table.{InTable, rowAt}
+use Rattle.bitset.specs.Code.Members.{In}
 use Rattle.bitset.proofs.Bools.{not-both}
 use Rattle.bitset.proofs.Digits.{has-zero}
 use Rattle.bitset.proofs.In.{empty-entry}
 use Rattle.model.specs.Trajectory.{Trajectory}
 use Rattle.model.specs.Procedure.{Procedure}
-use Rattle.model.specs.Forms.{Set, formAt, children, Below}
-use Rattle.reading.specs.Forms.{NodeReadable, Readable}
+use Rattle.model.specs.Forms.{Set, formAt}
+use Rattle.model.specs.Code.Forms.{children, Below}
+use Rattle.reading.specs.Code.Forms.{NodeReadable, Readable}
 use Rattle.reading.specs.Reading.{HasReading}
-use Rattle.reading.specs.Rule.{Rule}
-use Rattle.reading.specs.Table.{Inside, RowReady, RowOf, NodeReady, NodeRows, Blank, Found}
+use Rattle.reading.specs.Code.Rule.{Rule}
+use Rattle.reading.specs.Code.Table.{Inside, RowReady, RowOf, NodeReady, NodeRows, Blank, Found}
 use Rattle.reading.proofs.Step.{onward, step, Filled, carry}
 
 -- two tables with the same row

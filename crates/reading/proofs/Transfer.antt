@@ -11,11 +11,13 @@ use Rattle.words.specs.Scan.{concatBelow}
 use Rattle.words.specs.Fields.{fails, unknown, holds, readingWord, conditionFormula, conditionI, conditionJ, conditionM, conditionN}
 use Rattle.model.specs.Trajectory.{Trajectory}
 use Rattle.model.specs.Procedure.{Procedure}
-use Rattle.sets.specs.Set.{TaskSet, memberCount, Placing, MetAs, Met, Formed}
-use Rattle.model.specs.Forms.{Act, While, formAt, fieldX, ConditionForm, BeginAfterBegin, BeginAfterEnd, HoldsBefore, HoldsAfter, HoldsBetween, ReservedCondition, conditionForm, asksFormula}
-use Rattle.model.specs.Represents.{Asks}
+use Rattle.sets.specs.Set.{TaskSet, memberCount, Placing, MetAs, Met}
+use Rattle.sets.specs.Code.Set.{Formed}
+use Rattle.model.specs.Forms.{Act, While, formAt, fieldX, ConditionForm, BeginAfterBegin, BeginAfterEnd, HoldsBefore, HoldsAfter, HoldsBetween, ReservedCondition, conditionForm}
+use Rattle.model.specs.Code.Forms.{asksFormula}
+use Rattle.model.specs.Code.Represents.{Asks}
 use Rattle.model.proofs.Forms.{at-below}
-use Rattle.reading.specs.Forms.{NodeReadable}
+use Rattle.reading.specs.Code.Forms.{NodeReadable}
 use Rattle.reading.specs.Reading.{Mode, whole, passes, Reading, act, test, sequence, first, second, taken, otherwise, loop, done, pass, startWindow, endWindow, set, HasReading}
 use Rattle.reading.proofs.Step.{onward}
 

@@ -7,12 +7,12 @@ use native.Mathlib.Decide.{ℕ-discrete}
 use native.Mathlib.Omega.{arith}
 use lib.Dec.{eqb}
 use borrow.Author.Tests.{ne-eqb}
-use Rattle.bitset.specs.Members.{has, IsSetOf, In, Lowest, Dropped}
+use Rattle.bitset.specs.Code.Members.{has, IsSetOf, In, Lowest, Dropped}
 use Rattle.words.proofs.Choices.{both-true}
 use Rattle.bitset.proofs.Bools.{not-both, both}
 use Rattle.bitset.proofs.Digits.{has-zero}
 use Rattle.bitset.proofs.In.{in-union}
-use Rattle.reading.specs.Table.{After}
+use Rattle.reading.specs.Code.Table.{After}
 
 -- what lies in a window after a member of ends is found already, or lies in one after a member that is left
 pub record Split (ends least most n found left : ℕ) : Type 0 where

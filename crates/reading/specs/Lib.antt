@@ -2,6 +2,5 @@
 -- ends), Count (how many triples have a reading), Forms (what the code asks of a procedure), Table (the table of ends).
 pub mod Forms
 pub mod Reading
-pub mod Rule
-pub mod Table
 pub mod Count
+pub mod Code

@@ -1,17 +1,16 @@
 -- What a reading (004's trace) is: node p is read from moment b to moment e, and ws are the words of the nodes that were used, each with
 -- its begin and end. Starts that no act uses are allowed; b ≤ e follows (`onward`, proofs/Step.antt), and so do the parts' places in b..e. The mode tells a whole reading of a node from the passes of a loop, so that a loop's own word stands once.
-use Prim.Native.Nat.{ℕ, zero, suc, _+_, _<_, _≤_, max}
+use Prim.Native.Nat.{ℕ, _+_, _<_, _≤_, max}
 use mathlib.Core.Bool.{true}
 use mathlib.Core.Path.{_≡_}
 use mathlib.Core.List.{List, [], _∷_, _++_}
-use native.Mathlib.Omega.{arith}
 use lib.ListN.{length, getD}
 use Rattle.words.specs.Scan.{concatBelow}
 use Rattle.words.specs.Fields.{fails, holds, readingWord}
 use Rattle.model.specs.Trajectory.{Trajectory}
 use Rattle.model.specs.Procedure.{Procedure}
 use Rattle.sets.specs.Set.{Placing}
-use Rattle.model.specs.Forms.{Form, Act, Test, Sequence, Choice, If, While, StartWindow, EndWindow, Set, formAt, fieldX, fieldY, fieldM, fieldN}
+use Rattle.model.specs.Forms.{Act, Test, Sequence, Choice, If, While, StartWindow, EndWindow, Set, formAt, fieldX, fieldY, fieldM, fieldN}
 use Rattle.reading.specs.Forms.{taskSet}
 
 pub data Mode : Type 0 where

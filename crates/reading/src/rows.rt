@@ -5,11 +5,11 @@ ghost use mathlib.Core.Path.{_≡_};
 ghost use mathlib.Core.Logic.{_↔_, _⊎_};
 ghost use Prim.Native.Nat.{ℕ, _+_, _*_, _<_, _≤_, max};
 ghost use lib.ListN.{length};
-ghost use Rattle.bitset.specs.Members.{has, In};
+ghost use Rattle.bitset.specs.Code.Members.{has, In};
 ghost use Rattle.words.specs.Fields.{fails, holds};
-ghost use Rattle.model.specs.Arrays.{alone, trajectoryAt};
-ghost use Rattle.model.specs.Table.{InTable};
-ghost use Rattle.reading.specs.Table.{TwoRows, RowsThrough, WindowReady, After, RowReady, RowOf};
+ghost use Rattle.model.specs.Code.Arrays.{alone, trajectoryAt};
+ghost use Rattle.model.specs.Code.Table.{InTable};
+ghost use Rattle.reading.specs.Code.Table.{TwoRows, RowsThrough, WindowReady, After, RowReady, RowOf};
 
 // The moments from `first` to `end`, none after `last`.
 fn window(first: usize, end: usize, last: usize) -> u64

@@ -2,12 +2,12 @@
 ghost use mathlib.Core.Path.{_≡_};
 ghost use Prim.Native.Nat.{_<_};
 ghost use lib.ListN.{length, getD};
-ghost use Rattle.model.specs.Table.{endIn};
+ghost use Rattle.model.specs.Code.Table.{endIn};
 ghost use Rattle.model.specs.Forms.{Set, formAt};
-ghost use Rattle.model.specs.Arrays.{alone, membersAt, conditionsAt, procedureAt, trajectoryAt};
-ghost use Rattle.sets.specs.Rows.{taskSetOf, SetReady, SetRows};
-ghost use Rattle.reading.specs.Forms.{Readable};
-ghost use Rattle.reading.specs.Table.{NodeReady, NodeRows, Blank, Found, Tabulated, Entry};
+ghost use Rattle.model.specs.Code.Arrays.{alone, membersAt, conditionsAt, procedureAt, trajectoryAt};
+ghost use Rattle.sets.specs.Code.Rows.{taskSetOf, SetReady, SetRows};
+ghost use Rattle.reading.specs.Code.Forms.{Readable};
+ghost use Rattle.reading.specs.Code.Table.{NodeReady, NodeRows, Blank, Found, Tabulated, Entry};
 
 // Fills the rows of node p, which is no task set, begins descending: a loop's row rests on its later rows.
 fn fill_rows(

@@ -8,9 +8,9 @@ use mathlib.Core.Path.{_≡_, subst}
 use mathlib.Core.Logic.{by-cases}
 use native.Mathlib.Decide.{decLe}
 use native.Mathlib.Omega.{arith}
-use Rattle.bitset.specs.Members.{Highest, In}
+use Rattle.bitset.specs.Code.Members.{Highest, In}
 use Rattle.bitset.proofs.Bools.{not-both}
-use Rattle.sets.specs.Cover.{Some, Reaches, Needed, Coverable, Covering}
+use Rattle.sets.specs.Code.Cover.{Some, Reaches, Needed, Coverable, Covering}
 
 module _ {count : ℕ} {bs Es : ℕ → ℕ} {b e : ℕ} (some : 0 < count)
     (after : (i : ℕ) → i < count → b ≤ bs i) (onward : (i x : ℕ) → i < count → In (Es i) x → bs i ≤ x) where

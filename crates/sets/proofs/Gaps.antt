@@ -8,11 +8,12 @@ use native.Mathlib.Nat.{le-refl}
 use native.Mathlib.Omega.{arith}
 use lib.ListN.{length, set}
 use lib.Seq.{getD-set-same, getD-set-other}
-use Rattle.bitset.specs.Members.{In}
-use Rattle.sets.specs.Set.{TaskSet, memberCount, member}
-use Rattle.sets.specs.Cover.{Some, Spans, Attained}
-use Rattle.sets.specs.Rows.{entryAt}
-use Rattle.sets.specs.Search.{EndSets, Begun, Completed}
+use Rattle.bitset.specs.Code.Members.{In}
+use Rattle.sets.specs.Set.{TaskSet, memberCount}
+use Rattle.sets.specs.Code.Set.{member}
+use Rattle.sets.specs.Code.Cover.{Some, Spans, Attained}
+use Rattle.sets.specs.Code.Rows.{entryAt}
+use Rattle.sets.specs.Code.Search.{EndSets, Begun, Completed}
 use Rattle.sets.proofs.Search.{end-of}
 
 -- ---- the begins from a on, one more

@@ -5,11 +5,11 @@ use mathlib.Core.Bool.{_||_}
 use mathlib.Core.Logic.{_↔_, _⊎_, inl, inr, by-cases, ⊎-elim}
 use native.Mathlib.Decide.{decLt}
 use native.Mathlib.Omega.{arith}
-use Rattle.bitset.specs.Members.{has, IsSetOf, In}
+use Rattle.bitset.specs.Code.Members.{has, IsSetOf, In}
 use Rattle.bitset.proofs.Bools.{not-both}
 use Rattle.bitset.proofs.Digits.{has-zero}
 use Rattle.bitset.proofs.In.{in-union}
-use Rattle.sets.specs.Cover.{Some}
+use Rattle.sets.specs.Code.Cover.{Some}
 
 pub some-none : {P : ℕ → Type 0} → Some 0 P → ⊥
 some-none s = let l = s .below in omega arith

@@ -8,12 +8,13 @@ use native.Mathlib.Omega.{arith}
 use borrow.Author.Count.{below-more}
 use lib.ListN.{length, getD, set}
 use lib.Seq.{getD-set-same, getD-set-other}
-use Rattle.bitset.specs.Members.{In}
+use Rattle.bitset.specs.Code.Members.{In}
 use Rattle.model.specs.Forms.{ConditionForm, BeginAfterBegin, BeginAfterEnd, HoldsBefore, HoldsAfter, HoldsBetween, ReservedCondition, conditionForm}
 use Rattle.words.specs.Fields.{conditionFormula, conditionI, conditionJ, conditionM, conditionN}
-use Rattle.sets.specs.Set.{TaskSet, member, MetAs, MetAt}
-use Rattle.sets.specs.Rows.{entryAt}
-use Rattle.sets.specs.Search.{asked, Later, Allowed, EndOf, EndSets, Asks, Narrowed}
+use Rattle.sets.specs.Set.{TaskSet, MetAs, MetAt}
+use Rattle.sets.specs.Code.Set.{member}
+use Rattle.sets.specs.Code.Rows.{entryAt}
+use Rattle.sets.specs.Code.Search.{asked, Later, Allowed, EndOf, EndSets, Asks, Narrowed}
 
 -- ---- one condition more
 

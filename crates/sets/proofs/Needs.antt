@@ -3,8 +3,8 @@ use Prim.Native.Nat.{ℕ, _+_, _-_, _≤_, _<_}
 use mathlib.Core.Logic.{_↔_}
 use native.Mathlib.Omega.{arith}
 use borrow.Author.Count.{below-more}
-use Rattle.bitset.specs.Members.{In}
-use Rattle.sets.specs.Cover.{Some, Reaches, Bridged, Needed}
+use Rattle.bitset.specs.Code.Members.{In}
+use Rattle.sets.specs.Code.Cover.{Some, Reaches, Bridged, Needed}
 
 -- r is the least member of m from x on, as far as e
 abbrev pub LeastAt : ℕ → ℕ → ℕ → ℕ → Type 0

@@ -8,14 +8,15 @@ use native.Mathlib.Omega.{arith}
 use borrow.Author.Count.{below-more}
 use lib.ListN.{length, getD, set, take, length-map, List·getD-map}
 use lib.Seq.{getD-take, length-take-le, getD-set-same, getD-set-other}
-use Rattle.bitset.specs.Members.{In}
+use Rattle.bitset.specs.Code.Members.{In}
 use Rattle.words.specs.Fields.{memberNode, conditionI, conditionJ}
 use Rattle.model.specs.Forms.{ConditionForm, conditionForm}
-use Rattle.sets.specs.Set.{Placing, SetRule, Formed}
-use Rattle.sets.specs.Rows.{taskSetOf, Placed}
-use Rattle.model.specs.Arrays.{valueIn}
-use Rattle.model.specs.Table.{InTable}
-use Rattle.sets.specs.Search.{asked, Allowed, SearchReady, SomeBegin, Allows, Possible, OwnRows}
+use Rattle.sets.specs.Set.{Placing}
+use Rattle.sets.specs.Code.Set.{SetRule, Formed}
+use Rattle.sets.specs.Code.Rows.{taskSetOf, Placed}
+use Rattle.model.specs.Code.Arrays.{valueIn}
+use Rattle.model.specs.Code.Table.{InTable}
+use Rattle.sets.specs.Code.Search.{asked, Allowed, SearchReady, SomeBegin, Allows, Possible, OwnRows}
 use Rattle.sets.proofs.Masks.{allowed-at, asked-at, asked-le}
 use Rattle.sets.proofs.Search.{met-same}
 

@@ -10,15 +10,16 @@ use native.Mathlib.Omega.{arith}
 use borrow.Author.Count.{below-more}
 use lib.ListN.{length, getD, set, length-map, List·getD-map}
 use lib.Seq.{getD-set-same, getD-set-other}
-use Rattle.bitset.specs.Members.{has, Highest, In}
+use Rattle.bitset.specs.Code.Members.{has, Highest, In}
 use Rattle.bitset.proofs.Bools.{not-both, either}
 use Rattle.bitset.proofs.Digits.{has-zero}
 use Rattle.words.specs.Fields.{conditionI, memberNode}
-use Rattle.sets.specs.Set.{TaskSet, memberCount, member, MetAt, SetRule, Formed}
-use Rattle.sets.specs.Cover.{Some, Coverable, Covering}
-use Rattle.sets.specs.Rows.{entryAt, Placed}
-use Rattle.model.specs.Table.{InTable}
-use Rattle.sets.specs.Search.{EndOf, EndSets, Begun, Completed, SearchReady, Searching}
+use Rattle.sets.specs.Set.{TaskSet, memberCount, MetAt}
+use Rattle.sets.specs.Code.Set.{member, SetRule, Formed}
+use Rattle.sets.specs.Code.Cover.{Some, Coverable, Covering}
+use Rattle.sets.specs.Code.Rows.{entryAt, Placed}
+use Rattle.model.specs.Code.Table.{InTable}
+use Rattle.sets.specs.Code.Search.{EndOf, EndSets, Begun, Completed, SearchReady, Searching}
 use Rattle.sets.proofs.Laws.{gain-as}
 use Rattle.sets.proofs.Cover.{coverable, covering}
 

@@ -7,10 +7,11 @@ use native.Mathlib.Omega.{arith}
 use borrow.Author.Count.{below-more}
 use lib.ListN.{length, getD, set, length-set}
 use lib.Seq.{getD-set-same, getD-set-other}
-use Rattle.bitset.specs.Members.{In}
-use Rattle.sets.specs.Set.{TaskSet, memberCount, member, SetRule}
-use Rattle.sets.specs.Rows.{SetRows}
-use Rattle.model.specs.Table.{InTable}
+use Rattle.bitset.specs.Code.Members.{In}
+use Rattle.sets.specs.Set.{TaskSet, memberCount}
+use Rattle.sets.specs.Code.Set.{member, SetRule}
+use Rattle.sets.specs.Code.Rows.{SetRows}
+use Rattle.model.specs.Code.Table.{InTable}
 
 -- the rule asks R of the members' rows alone
 pub rule-map : {s : TaskSet} {R S : ℕ → ℕ → ℕ → Type 0} {b e : ℕ} → ((i c d : ℕ) → i < memberCount s → c ≤ s .last → R (member s i) c d → S (member s i) c d)

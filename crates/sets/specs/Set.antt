@@ -16,9 +16,6 @@ pub record TaskSet : Type 0 where
 abbrev pub memberCount : TaskSet → ℕ
 memberCount s = length (s .members)
 
-abbrev pub member : TaskSet → ℕ → ℕ
-member s i = getD (s .members) i 0
-
 -- a condition of each form, on formula k with M and N, where member i begins at bi and ends at ei and member j begins at bj
 abbrev pub MetAs : ConditionForm → (ℕ → ℕ → ℕ) → ℕ → ℕ → ℕ → ℕ → ℕ → ℕ → ℕ → Type 0
 MetAs BeginAfterBegin value n k M N bi ei bj = (bi + M ≤ bj) × (bj ≤ bi + N)
@@ -47,18 +44,3 @@ pub record Placing (s : TaskSet) (b e : ℕ) (bs es : ℕ → ℕ) : Type 0 wher
   pub inside : (i : ℕ) → i < memberCount s → (b ≤ bs i) × (bs i ≤ es i) × (es i ≤ e)
   pub covers : Covers (memberCount s) bs es b e
   pub met : (c : ℕ) → c < length (s .conditions) → Met s (getD (s .conditions) c 0) bs es
-
--- the rule: there is a placing with which each member reads, by R
-pub record SetRule (s : TaskSet) (R : ℕ → ℕ → ℕ → Type 0) (b e : ℕ) : Type 0 where
-  pub begins : ℕ → ℕ
-  pub ends : ℕ → ℕ
-  pub reads : (i : ℕ) → i < memberCount s → R (member s i) (begins i) (ends i)
-  pub placing : Placing s b e begins ends
-
--- a set has 1 to 4 members, and at most 8 conditions, on members that it has
-pub record Formed (s : TaskSet) : Type 0 where
-  pub some : 0 < memberCount s
-  pub few : memberCount s ≤ 4
-  pub conditions : length (s .conditions) ≤ 8
-  pub moments : s .last < 64
-  pub named : (c : ℕ) → c < length (s .conditions) → (conditionI (getD (s .conditions) c 0) < memberCount s) × (conditionJ (getD (s .conditions) c 0) < memberCount s)

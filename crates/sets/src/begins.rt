@@ -4,12 +4,12 @@ ghost use mathlib.Core.Bool.{true};
 ghost use mathlib.Core.Logic.{_↔_, _⊎_};
 ghost use Prim.Native.Nat.{ℕ, _+_, _*_, _<_, _≤_};
 ghost use lib.ListN.{length, getD};
-ghost use Rattle.bitset.specs.Members.{In};
+ghost use Rattle.bitset.specs.Code.Members.{In};
 ghost use Rattle.words.specs.Fields.{memberNode};
-ghost use Rattle.sets.specs.Cover.{Some};
-ghost use Rattle.sets.specs.Rows.{taskSetOf, entryAt};
-ghost use Rattle.model.specs.Table.{InTable};
-ghost use Rattle.sets.specs.Search.{EndSets, Begun, Completed, Searching, LastBegin};
+ghost use Rattle.sets.specs.Code.Cover.{Some};
+ghost use Rattle.sets.specs.Code.Rows.{taskSetOf, entryAt};
+ghost use Rattle.model.specs.Code.Table.{InTable};
+ghost use Rattle.sets.specs.Code.Search.{EndSets, Begun, Completed, Searching, LastBegin};
 use crate::conditions;
 use crate::covering;
 

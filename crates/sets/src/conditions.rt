@@ -4,12 +4,12 @@ ghost use mathlib.Core.Bool.{true};
 ghost use mathlib.Core.Logic.{_↔_};
 ghost use Prim.Native.Nat.{ℕ, _+_, _*_, _<_, _≤_};
 ghost use lib.ListN.{length};
-ghost use Rattle.bitset.specs.Members.{has, In};
+ghost use Rattle.bitset.specs.Code.Members.{has, In};
 ghost use Rattle.words.specs.Fields.{holds};
 ghost use Rattle.model.specs.Forms.{conditionNumber};
 ghost use Rattle.sets.specs.Set.{MetAs, MetAt};
-ghost use Rattle.model.specs.Arrays.{valueIn};
-ghost use Rattle.sets.specs.Search.{asked, Later, Allowed, Narrowable, Narrowed, SomeBegin, Allows, Possible};
+ghost use Rattle.model.specs.Code.Arrays.{valueIn};
+ghost use Rattle.sets.specs.Code.Search.{asked, Later, Allowed, Narrowable, Narrowed, SomeBegin, Allows, Possible};
 
 // Whether formula k holds at each moment t from `from` on with t + off ≤ upto.
 fn holds_through(values: &[u8; 4096], k: usize, from: usize, off: usize, upto: usize) -> bool

@@ -3,9 +3,9 @@ ghost use mathlib.Core.Path.{_≡_};
 ghost use mathlib.Core.Bool.{true};
 ghost use mathlib.Core.Logic.{_↔_, _⊎_};
 ghost use Prim.Native.Nat.{ℕ, _<_, _≤_};
-ghost use Rattle.bitset.specs.Members.{In};
-ghost use Rattle.sets.specs.Cover.{Some, Needed, Coverable, Spans, Attained};
-ghost use Rattle.sets.specs.Rows.{entryAt};
+ghost use Rattle.bitset.specs.Code.Members.{In};
+ghost use Rattle.sets.specs.Code.Cover.{Some, Needed, Coverable, Spans, Attained};
+ghost use Rattle.sets.specs.Code.Rows.{entryAt};
 
 // The ends of the members that begin before x.
 fn ends_before(begins: [u32; 4], ends: [u64; 4], count: usize, x: u32) -> u64

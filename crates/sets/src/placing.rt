@@ -1,11 +1,11 @@
 // A placement, for whoever writes a reading.
 ghost use Prim.Native.Nat.{ℕ, _+_, _<_, _≤_};
 ghost use lib.ListN.{length, set};
-ghost use Rattle.bitset.specs.Members.{Highest, In};
-ghost use Rattle.sets.specs.Set.{SetRule};
-ghost use Rattle.sets.specs.Rows.{taskSetOf, entryAt, Placed, Placeable};
-ghost use Rattle.model.specs.Table.{InTable};
-ghost use Rattle.sets.specs.Search.{Completed, SearchReady, Searching};
+ghost use Rattle.bitset.specs.Code.Members.{Highest, In};
+ghost use Rattle.sets.specs.Code.Set.{SetRule};
+ghost use Rattle.sets.specs.Code.Rows.{taskSetOf, entryAt, Placed, Placeable};
+ghost use Rattle.model.specs.Code.Table.{InTable};
+ghost use Rattle.sets.specs.Code.Search.{Completed, SearchReady, Searching};
 use crate::begins;
 use crate::conditions;
 use crate::rows;

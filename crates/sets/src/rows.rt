@@ -2,12 +2,12 @@
 ghost use mathlib.Core.Logic.{_↔_};
 ghost use Prim.Native.Nat.{ℕ, _+_, _*_, _<_, _≤_};
 ghost use lib.ListN.{length, getD};
-ghost use Rattle.bitset.specs.Members.{In};
+ghost use Rattle.bitset.specs.Code.Members.{In};
 ghost use Rattle.words.specs.Fields.{memberNode};
-ghost use Rattle.sets.specs.Set.{SetRule};
-ghost use Rattle.sets.specs.Rows.{taskSetOf, SetReady, SetRows};
-ghost use Rattle.model.specs.Table.{InTable};
-ghost use Rattle.sets.specs.Search.{SearchReady, OwnRows};
+ghost use Rattle.sets.specs.Code.Set.{SetRule};
+ghost use Rattle.sets.specs.Code.Rows.{taskSetOf, SetReady, SetRows};
+ghost use Rattle.model.specs.Code.Table.{InTable};
+ghost use Rattle.sets.specs.Code.Search.{SearchReady, OwnRows};
 use crate::begins;
 use crate::conditions;
 

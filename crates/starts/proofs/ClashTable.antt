@@ -10,10 +10,10 @@ use lib.ListN.{length, getD, set, length-set}
 use lib.Seq.{getD-set-same, getD-set-other}
 use Rattle.words.specs.Tests.{indicator}
 use Rattle.job.specs.Parts.{fluents, actions}
-use Rattle.job.specs.WellFormed.{WellFormed}
+use Rattle.job.specs.Code.WellFormed.{WellFormed}
 use Rattle.starts.specs.Rows.{opposed, clash}
-use Rattle.starts.specs.Latest.{Clashes}
-use Rattle.starts.specs.Given.{Paired, Compared}
+use Rattle.starts.specs.Code.Latest.{Clashes}
+use Rattle.starts.specs.Code.Given.{Paired, Compared}
 
 -- two actions are opposed on a fluent where their effects in the table are
 pub opposed-read : {job effects : List ℕ} {a b : ℕ} → Paired job effects a b → (f : ℕ) → f < fluents job

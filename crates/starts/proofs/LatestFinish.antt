@@ -15,8 +15,8 @@ use Rattle.job.specs.Parts.{actions, lastMoment, duration}
 use Rattle.history.specs.Actions.{finish, inHand}
 use Rattle.starts.specs.Rows.{restarts, inHandAlready, together, clashing, clashes}
 use Rattle.words.specs.Scan.{anyBelow}
-use Rattle.starts.specs.Latest.{Unfinished, Latest, clashesAfter}
-use Rattle.starts.specs.Given.{Timed}
+use Rattle.starts.specs.Code.Latest.{Unfinished, Latest, clashesAfter}
+use Rattle.starts.specs.Code.Given.{Timed}
 use Rattle.words.proofs.AnyBelow.{some-none, some-hit, some-same}
 use Rattle.starts.proofs.StartsFormed.{right-word, finish-is, moments-ordered}
 

@@ -8,7 +8,7 @@ use native.Mathlib.Omega.{arith}
 use borrow.Author.Tests.{ltb-false, le-ltb, lt-ltb, ne-eqb}
 use lib.ListN.{length}
 use Rattle.starts.specs.Rows.{ascends, wrongWord, endsLate, inHandAlready, clashes, needsUnmet, startRows, startsRefusal}
-use Rattle.starts.specs.Given.{StartsFormed}
+use Rattle.starts.specs.Code.Given.{StartsFormed}
 use Rattle.starts.specs.Lawful.{Lawful, LawfulExactly}
 use Rattle.words.proofs.AnyBelow.{some-none, none-below}
 use Rattle.words.proofs.Lists.{each-of, each-at, pairs-of, pairs-at}

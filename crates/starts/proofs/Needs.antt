@@ -14,7 +14,7 @@ use Rattle.job.specs.Parts.{headWord, fluents, actions, lastMoment, lawsOf}
 use Rattle.job.proofs.ByPlace.{action-counted, laws-place}
 use Rattle.history.specs.Values.{valueAt}
 use Rattle.starts.specs.Rows.{unmet, unmetAt, needsUnmet}
-use Rattle.starts.specs.Given.{Recorded}
+use Rattle.starts.specs.Code.Given.{Recorded}
 use Rattle.starts.proofs.StartsFormed.{right-word}
 
 -- two tests that agree on the words of a list

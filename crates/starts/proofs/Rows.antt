@@ -12,7 +12,7 @@ use Rattle.answers.specs.declared.Refusal.{Refusal}
 use Rattle.answers.specs.Rows.{refusal, passed, firstRefusal, refusalAt, firstOf}
 use Rattle.answers.proofs.Rows.{or-none, first-start, first-more, first-found, first-none, or-assoc}
 use Rattle.starts.specs.Rows.{needsUnmet, startRows, numbered, rowsRefusal, startsRefusal}
-use Rattle.starts.specs.Given.{timeRows}
+use Rattle.starts.specs.Code.Given.{timeRows}
 
 -- a row's loop at word i of n: it fits none of the words before
 pub record Tried (number : ℕ) (test : ℕ → Bool) (n i : ℕ) : Type 0 where

@@ -12,13 +12,13 @@ use Rattle.words.specs.Fields.{kind, field, startMoment, startAction}
 use Rattle.words.proofs.Choices.{both-true}
 use Rattle.job.specs.Parts.{actions, lastMoment}
 use Rattle.history.specs.Actions.{finish}
-use Rattle.history.specs.Tables.{Durations, Named}
+use Rattle.history.specs.Code.Tables.{Durations, Named}
 use Rattle.history.proofs.Moments.{finish-tabled}
 use Rattle.answers.specs.declared.Refusal.{Refusal}
 use Rattle.answers.specs.Rows.{firstOf}
 use Rattle.answers.proofs.Rows.{or-none}
 use Rattle.starts.specs.Rows.{isStart, ascends, wrongWord, numbered, rowsRefusal, startsRefusal}
-use Rattle.starts.specs.Given.{timeRows, StartsFormed}
+use Rattle.starts.specs.Code.Given.{timeRows, StartsFormed}
 use Rattle.starts.proofs.Rows.{row-clear, starts-by-rows}
 
 -- what a right word says

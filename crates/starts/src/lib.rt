@@ -2,7 +2,7 @@
 ghost use mathlib.Core.Path.{_≡_};
 ghost use lib.ListN.{length};
 ghost use Rattle.starts.specs.Rows.{rowsRefusal};
-ghost use Rattle.starts.specs.Given.{timeRows, Tabled};
+ghost use Rattle.starts.specs.Code.Given.{timeRows, Tabled};
 
 mod clashes;
 mod order;

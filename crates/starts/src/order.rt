@@ -3,7 +3,7 @@ ghost use mathlib.Core.Path.{_≡_};
 ghost use Prim.Native.Nat.{_<_};
 ghost use lib.ListN.{length};
 ghost use Rattle.answers.specs.Rows.{firstOf};
-ghost use Rattle.job.specs.WellFormed.{WellFormed};
+ghost use Rattle.job.specs.Code.WellFormed.{WellFormed};
 ghost use Rattle.starts.specs.Rows.{isStart, ascends, wrongWord, numbered};
 use answers::Refusal;
 use answers::none;

@@ -5,7 +5,7 @@ ghost use lib.ListN.{length, getD};
 ghost use Rattle.words.specs.Fields.{startMoment, startAction};
 ghost use Rattle.answers.specs.Rows.{firstOf};
 ghost use Rattle.starts.specs.Rows.{endsLate, inHandAlready, numbered};
-ghost use Rattle.starts.specs.Given.{Timed};
+ghost use Rattle.starts.specs.Code.Given.{Timed};
 use answers::Refusal;
 use answers::none;
 use answers::refuse;

@@ -5,7 +5,7 @@ ghost use lib.ListN.{length, getD};
 ghost use Rattle.words.specs.Scan.{any};
 ghost use Rattle.answers.specs.Rows.{firstOf};
 ghost use Rattle.starts.specs.Rows.{unmet, needsUnmet, numbered};
-ghost use Rattle.starts.specs.Given.{Recorded};
+ghost use Rattle.starts.specs.Code.Given.{Recorded};
 use answers::Refusal;
 use answers::none;
 use answers::refuse;

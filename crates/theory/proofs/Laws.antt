@@ -16,7 +16,7 @@ use Rattle.answers.specs.Rows.{refusal, passed, firstRefusal}
 use Rattle.job.specs.Refusal.{jobRefusal}
 use Rattle.starts.specs.Rows.{startsRefusal}
 use Rattle.facts.specs.Facts.{factsOf}
-use Rattle.facts.specs.Written.{Filled}
+use Rattle.facts.specs.Code.Written.{Filled}
 use Rattle.theory.specs.Answers.{planRefusal, factsRefusal, checkRefusal}
 
 -- check's rows are those of the plan, and row 11 after them

@@ -12,9 +12,9 @@ use lib.ListN.{length, getD}
 use Rattle.words.specs.Fields.{ofKind, kind, form, isSet, memberNode}
 use Rattle.words.specs.Scan.{takeWhile, fromNth, count}
 use Rattle.words.proofs.Choices.{both-true, same-or-not}
-use Rattle.bitset.specs.Members.{sumBelow}
+use Rattle.bitset.specs.Code.Members.{sumBelow}
 use Rattle.bitset.proofs.Sums.{sum-cong}
-use Rattle.model.specs.Forms.{children}
+use Rattle.model.specs.Code.Forms.{children}
 use Rattle.job.specs.Children.{nodeChildren, wordChildren}
 use Rattle.job.specs.Before.{before, countOfKind, named}
 use Rattle.job.specs.Refusal.{jobRefusal}

@@ -8,9 +8,10 @@ use lib.ListN.{length}
 use Rattle.job.specs.declared.Checked.{Checked}
 use Rattle.job.specs.declared.Index.{Index}
 use Rattle.job.specs.Refusal.{jobRefusal}
-use Rattle.job.specs.Index.{placesUpto, checkedOf}
-use Rattle.job.specs.Parts.{total, formulaCount, nodeCount}
-use Rattle.job.specs.WellFormed.{WellFormed, Indexed}
+use Rattle.job.specs.Code.Index.{placesUpto, checkedOf}
+use Rattle.job.specs.Parts.{total, nodeCount}
+use Rattle.job.specs.Code.Parts.{formulaCount}
+use Rattle.job.specs.Code.WellFormed.{WellFormed, Indexed}
 use Rattle.job.proofs.WellFormed.{well-formed}
 use Rattle.answers.proofs.Rows.{or-none}
 use Rattle.starts.specs.Rows.{startsRefusal}

@@ -9,7 +9,7 @@ use lib.Dec.{eqb, ltb}
 use lib.ListN.{length, getD}
 use Rattle.answers.specs.declared.Refusal.{Refusal}
 use Rattle.answers.specs.Rows.{firstRefusal}
-use Rattle.answers.specs.Packed.{InRange}
+use Rattle.answers.specs.Code.Packed.{InRange}
 use Rattle.answers.proofs.Rows.{or-none}
 use Rattle.answers.proofs.Range.{Fitting, pick-fits, refusal-fits, passed-fits, or-fits, row-fits, answer-fits}
 use Rattle.job.specs.Refusal.{jobRefusal}

@@ -5,22 +5,23 @@ use mathlib.Core.Path.{_≡_, refl, sym, ap, _∙_}
 use Prim.Native.Nat.{ℕ, zero, suc, _*_, _+_, _<_, _≤_}
 use native.Mathlib.Omega.{arith}
 use lib.ListN.{getD}
-use Rattle.bitset.specs.Members.{has}
+use Rattle.bitset.specs.Code.Members.{has}
 use Rattle.words.specs.Fields.{ofKind, form, nodeX, memberNode}
 use Rattle.words.specs.Scan.{any, takeWhile, dropWhile}
-use Rattle.job.specs.Parts.{actions, lastMoment, formulaCount, nodeCount, nodeWord, memberWords, conditionWords}
-use Rattle.job.specs.WellFormed.{WellFormed, Indexed}
+use Rattle.job.specs.Parts.{actions, lastMoment, nodeCount, nodeWord, memberWords, conditionWords}
+use Rattle.job.specs.Code.Parts.{formulaCount}
+use Rattle.job.specs.Code.WellFormed.{WellFormed, Indexed}
 use Rattle.job.proofs.ByPlace.{word-place, words-after}
 use Rattle.history.specs.Values.{valueAt}
-use Rattle.history.specs.Tables.{Durations}
+use Rattle.history.specs.Code.Tables.{Durations}
 use Rattle.formulas.specs.Values.{andTable, orTable, formulaAt}
 use Rattle.job.specs.Procedure.{procedureOf}
 use Rattle.theory.specs.Trajectory.{isStartOf, planTrajectory, trajectoryOf}
 use Rattle.model.specs.Procedure.{Procedure}
 use Rattle.model.specs.Trajectory.{Trajectory}
 use Rattle.model.specs.Forms.{formNumber, formAt, fieldX}
-use Rattle.model.specs.Arrays.{membersAt, conditionsAt, procedureIn, trajectoryIn}
-use Rattle.model.specs.Represents.{Asks, Agrees, Represents}
+use Rattle.model.specs.Code.Arrays.{membersAt, conditionsAt, procedureIn, trajectoryIn}
+use Rattle.model.specs.Code.Represents.{Asks, Agrees, Represents}
 use Rattle.model.specs.declared.Arrays.{Arrays}
 use Rattle.model.proofs.Forms.{form-number, asks-number}
 

@@ -9,7 +9,7 @@ use borrow.Author.Tests.{eq-eqb, ne-eqb}
 use lib.Dec.{eqb}
 use lib.ListN.{length, getD, drop, set, replicate, length-set}
 use lib.Seq.{getD-set-same, getD-set-other}
-use Rattle.bitset.specs.Members.{has, IsSetOf}
+use Rattle.bitset.specs.Code.Members.{has, IsSetOf}
 use Rattle.bitset.proofs.Digits.{has-zero}
 use Rattle.bitset.proofs.In.{empty-entry}
 use Rattle.words.specs.Fields.{startMoment, startAction}

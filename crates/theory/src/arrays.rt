@@ -1,8 +1,8 @@
 // What a plan that passed hands to the reading layer: its procedure and its trajectory as arrays.
 ghost use Rattle.job.specs.Procedure.{procedureOf};
-ghost use Rattle.model.specs.Represents.{Represents};
+ghost use Rattle.model.specs.Code.Represents.{Represents};
 ghost use Rattle.theory.specs.Trajectory.{planTrajectory};
-ghost use Rattle.theory.specs.Judged.{Passed};
+ghost use Rattle.theory.specs.Code.Judged.{Passed};
 use crate::Plan;
 use crate::moments::start_moments;
 use formulas::standard_values;

@@ -2,7 +2,7 @@
 ghost use mathlib.Core.Path.{_≡_};
 ghost use Prim.Native.Nat.{ℕ};
 ghost use lib.ListN.{getD};
-ghost use Rattle.bitset.specs.Members.{has};
+ghost use Rattle.bitset.specs.Code.Members.{has};
 ghost use Rattle.words.specs.Scan.{any};
 ghost use Rattle.theory.specs.Trajectory.{isStartOf};
 use words::start_action;

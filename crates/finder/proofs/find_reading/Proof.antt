@@ -2,9 +2,10 @@
 use mathlib.Core.Path.{_≡_, sym, _∙_, ap, subst}
 use native.Mathlib.Omega.{arith}
 use Rattle.answers.specs.declared.Refusal.{Refusal}
-use Rattle.answers.specs.Packed.{answerOf, InRange}
+use Rattle.answers.specs.Packed.{answerOf}
+use Rattle.answers.specs.Code.Packed.{InRange}
 use Rattle.theory.specs.Answers.{checkRefusal, checkAnswer}
-use Rattle.theory.specs.Judged.{Passed}
+use Rattle.theory.specs.Code.Judged.{Passed}
 use Rattle.theory.proofs.Range.{check-range}
 use Rattle.theory.proofs.Passing.{job-clear}
 use Rattle.finder.proofs.Refusals.{short-buffer, row-refused, then-sought}

@@ -2,10 +2,10 @@
 use mathlib.Core.List.{List}
 use mathlib.Core.Path.{_≡_, _∙_}
 use Prim.Native.Nat.{ℕ, _-_, _<_, _≤_}
-use Rattle.job.specs.Parts.{formulaCount}
+use Rattle.job.specs.Code.Parts.{formulaCount}
 use Rattle.job.proofs.ByPlace.{formula-place}
 use Rattle.formulas.specs.Values.{formulaAt}
-use Rattle.formulas.specs.Table.{tabled}
+use Rattle.formulas.specs.Code.Table.{tabled}
 use Rattle.formulas.proofs.Laws.{formula-found, formula-most}
 use Rattle.formulas.proofs.Columns.{Filling, fill-start, fill-entry, fill-end}
 use native.Mathlib.Omega.{arith}

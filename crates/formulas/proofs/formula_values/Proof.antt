@@ -1,6 +1,6 @@
 -- `formulas::formula_values` meets its contract. The invariant: the columns before `t` are filled. Assumes nothing.
 use Prim.Native.Nat.{_+_, _-_, _≤_}
-use Rattle.formulas.specs.Table.{tabled, ColumnsBefore}
+use Rattle.formulas.specs.Code.Table.{tabled, ColumnsBefore}
 use Rattle.formulas.proofs.Columns.{columns-none, columns-all}
 use Rattle.formulas.proofs.Laws.{table-same}
 use native.Mathlib.Omega.{arith}

@@ -4,7 +4,7 @@ use native.Mathlib.Omega.{arith}
 use borrow.Author.Tests.{eq-eqb, ne-eqb}
 use borrow.Author.Needs.{needs}
 use Rattle.answers.specs.declared.Refusal.{Refusal}
-use Rattle.job.specs.Index.{checkedOf}
+use Rattle.job.specs.Code.Index.{checkedOf}
 use Rattle.job.proofs.Before.{count-none}
 use Rattle.job.proofs.Refusal.{clear, few, limits-actions, limits-formulas, limits-nodes}
 use Rattle.job.proofs.check_job.Statement.{statement}

@@ -1,6 +1,7 @@
 -- `planreader::check` meets its contract: the answer of `theory::check_plan`, which is in range, packed. Assumes nothing.
 use mathlib.Core.Path.{sym, ap, subst, _∙_}
-use Rattle.answers.specs.Packed.{InRange, packed}
+use Rattle.answers.specs.Packed.{packed}
+use Rattle.answers.specs.Code.Packed.{InRange}
 use Rattle.answers.proofs.Packed.{reads-back}
 use Rattle.theory.specs.Answers.{checkAnswer}
 use Rattle.theory.proofs.Range.{check-range}

@@ -1,7 +1,8 @@
 -- `planreader::fill` meets its contract: the answer of `theory::fill_plan`, which is in range, packed. Assumes nothing.
 use mathlib.Core.Path.{sym, ap, subst, _∙_}
 use lib.ListN.{length}
-use Rattle.answers.specs.Packed.{InRange, packed}
+use Rattle.answers.specs.Packed.{packed}
+use Rattle.answers.specs.Code.Packed.{InRange}
 use Rattle.answers.proofs.Packed.{reads-back}
 use Rattle.theory.specs.Answers.{fillAnswer}
 use Rattle.theory.proofs.Range.{fill-range}

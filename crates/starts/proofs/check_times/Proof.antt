@@ -1,6 +1,6 @@
 -- `starts::check_times` meets its contract: at each `return` the rows before fit no word. Assumes nothing.
 use mathlib.Core.Path.{_∙_}
-use Rattle.starts.specs.Given.{Timed}
+use Rattle.starts.specs.Code.Given.{Timed}
 use Rattle.starts.proofs.Rows.{rows-found, rows-next, rows-last}
 use Rattle.starts.proofs.StartsFormed.{row-passed}
 use borrow.Author.Needs.{needs}

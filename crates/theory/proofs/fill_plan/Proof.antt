@@ -7,7 +7,7 @@ use lib.Seq.{length-sets}
 use Rattle.answers.specs.declared.Refusal.{Refusal}
 use Rattle.answers.specs.Packed.{answerOf}
 use Rattle.facts.specs.Facts.{factsOf}
-use Rattle.facts.specs.Written.{Filled}
+use Rattle.facts.specs.Code.Written.{Filled}
 use Rattle.facts.proofs.Lists.{facts-fit}
 use Rattle.theory.specs.Answers.{planRefusal, fillRefusal, fillAnswer}
 use Rattle.answers.proofs.Rows.{answer-refused}

@@ -6,10 +6,10 @@ use lib.ListN.{length, replicate}
 use lib.Seq.{length-take-le, length-sets}
 use Rattle.answers.specs.declared.Refusal.{Refusal}
 use Rattle.facts.specs.Facts.{factsOf}
-use Rattle.facts.specs.Written.{Filled}
+use Rattle.facts.specs.Code.Written.{Filled}
 use Rattle.facts.proofs.Lists.{facts-fit}
 use Rattle.theory.specs.Answers.{planRefusal, factsRefusal}
-use Rattle.theory.specs.Judged.{Passed}
+use Rattle.theory.specs.Code.Judged.{Passed}
 use Rattle.answers.proofs.Rows.{or-refused, or-passed}
 use Rattle.theory.proofs.Laws.{check-rows, filled-front}
 use Rattle.theory.proofs.Passing.{plan-formed}

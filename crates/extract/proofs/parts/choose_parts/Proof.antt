@@ -8,7 +8,7 @@ use denote.Ref.{now}
 use Rattle.words.specs.Fields.{form, nodeX, nodeY, nodeM, nodeN}
 use Rattle.model.specs.Forms.{formNumber}
 use Rattle.model.proofs.Forms.{no-form}
-use Rattle.extract.specs.Search.{Within}
+use Rattle.extract.specs.Code.Search.{Within}
 use Rattle.extract.proofs.Choice.{end-last, act-chosen, test-chosen, reserved-chosen, choice-some, choice-chosen, if-chosen, sequence-some, sequence-chosen, end-some, end-chosen, start-some, start-chosen, set-some, set-chosen}
 use borrow.Author.Needs.{needs}
 use Rattle.extract.proofs.parts.choose_parts.Statement.{statement}

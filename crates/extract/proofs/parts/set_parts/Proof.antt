@@ -3,7 +3,7 @@ use mathlib.Core.Path.{_≡_, sym, ap, _∙_}
 use Prim.Native.Nat.{ℕ, _+_}
 use native.Mathlib.Omega.{arith}
 use lib.ListN.{length, take, drop, length-take, length-drop}
-use Rattle.model.specs.Arrays.{membersAt, conditionsAt}
+use Rattle.model.specs.Code.Arrays.{membersAt, conditionsAt}
 use Rattle.model.proofs.Sets.{members-part, conditions-part}
 use Rattle.extract.proofs.Choice.{placed-parts, few-members}
 use borrow.Author.Needs.{needs}

@@ -2,7 +2,7 @@
 -- left. Assumes nothing.
 use native.Mathlib.Omega.{arith}
 use borrow.Author.Needs.{needs}
-use Rattle.bitset.specs.Members.{popCount}
+use Rattle.bitset.specs.Code.Members.{popCount}
 use Rattle.extract.proofs.Searches.{Left, left-start, left-found, left-turn, left-none}
 use Rattle.extract.proofs.search.cut.Statement.{statement}
 use Rattle.extract.proofs.search.cut.Tie as tie

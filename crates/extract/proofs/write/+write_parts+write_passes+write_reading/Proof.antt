@@ -10,8 +10,8 @@ use borrow.Fn.PlainCycle.{Measures, is, falls, and}
 use Rattle.model.specs.Forms.{While, formNumber, formAt}
 use Rattle.model.specs.declared.Triple.{Triple}
 use Rattle.model.proofs.Forms.{form-number}
-use Rattle.extract.specs.Parts.{Unseen, procedureBy, trajectoryBy, ChosenBy}
-use Rattle.extract.specs.Contract.{Rest, WritableBy, Written}
+use Rattle.extract.specs.Code.Parts.{Unseen, procedureBy, trajectoryBy, ChosenBy}
+use Rattle.extract.specs.Code.Contract.{Rest, WritableBy, Written}
 use Rattle.extract.proofs.Written.{written-none, written-under, written-length}
 use Rattle.extract.proofs.Steps.{Done, done-none, Halfway, resize, has-room, moments, place-inside, choosable, headed, part-moments, part-child, part-more, part-end, body-lower, pass-start, pass-ready, pass-child, pass-more, pass-end}
 use Rattle.extract.proofs.write.write_parts.Reads as parts

@@ -2,7 +2,7 @@
 use mathlib.Core.List.{List}
 use Prim.Native.Nat.{ℕ, _+_, _-_, _≤_}
 use lib.ListN.{length, getD}
-use Rattle.facts.specs.Written.{Written}
+use Rattle.facts.specs.Code.Written.{Written}
 use Rattle.facts.proofs.Lists.{rowsFacts, rows-none, rows-more, rows-most, rows-filled, written-none, written-more, written-size}
 use native.Mathlib.Omega.{arith}
 use borrow.Author.Needs.{needs}

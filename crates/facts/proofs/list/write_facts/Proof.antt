@@ -1,7 +1,7 @@
 -- `facts::list::write_facts` meets its contract. The invariant: the facts of the fluents below `f` are written. Assumes nothing.
 use mathlib.Core.Path.{_≡_}
 use Prim.Native.Nat.{_-_, _≤_}
-use Rattle.facts.specs.Written.{rowFacts, Written}
+use Rattle.facts.specs.Code.Written.{rowFacts, Written}
 use Rattle.facts.proofs.Lists.{row-none, row-more, row-most, written-none, written-more, written-size}
 use native.Mathlib.Omega.{arith}
 use borrow.Author.Needs.{needs}

@@ -1,8 +1,8 @@
 -- `history::states::apply` meets its contract. The invariant: the bytes below `f` are made. Assumes nothing.
 use mathlib.Core.Path.{_≡_}
 use Prim.Native.Nat.{_≤_, _-_}
-use Rattle.history.specs.Stores.{Mapped}
-use Rattle.history.specs.Passes.{changedBy}
+use Rattle.history.specs.Code.Stores.{Mapped}
+use Rattle.history.specs.Code.Passes.{changedBy}
 use Rattle.history.proofs.Stores.{mapped-none, mapped-more}
 use native.Mathlib.Omega.{arith}
 use borrow.Author.Needs.{needs}

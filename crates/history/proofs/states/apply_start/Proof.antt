@@ -2,7 +2,7 @@
 use mathlib.Core.Path.{_≡_, sym, _∙_}
 use Rattle.job.specs.Parts.{fluents}
 use Rattle.history.specs.Actions.{affects}
-use Rattle.history.specs.Passes.{acts, leaves}
+use Rattle.history.specs.Code.Passes.{acts, leaves}
 use Rattle.history.proofs.Stores.{overlaid-skip}
 use Rattle.history.proofs.Moments.{acts-tabled, start-applied}
 use native.Mathlib.Omega.{arith}

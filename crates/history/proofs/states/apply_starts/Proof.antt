@@ -2,7 +2,7 @@
 use mathlib.Core.Path.{_≡_}
 use Prim.Native.Nat.{_-_, _≤_}
 use lib.ListN.{length, drop}
-use Rattle.history.specs.Passes.{Passed}
+use Rattle.history.specs.Code.Passes.{Passed}
 use Rattle.history.proofs.Stores.{overlaid-none, overlaid-back}
 use Rattle.history.proofs.Moments.{walkable-one}
 use native.Mathlib.Omega.{arith}

@@ -4,7 +4,7 @@ use mathlib.Core.List.{List}
 use Prim.Native.Nat.{ℕ, _+_, _-_, _≤_}
 use Rattle.job.specs.Parts.{fluents}
 use Rattle.history.specs.Values.{valueAt}
-use Rattle.history.specs.Tables.{StateAt}
+use Rattle.history.specs.Code.Tables.{StateAt}
 use Rattle.history.proofs.Stores.{Rows, rows-none, rows-more}
 use Rattle.history.proofs.Moments.{state-start}
 use native.Mathlib.Omega.{arith}

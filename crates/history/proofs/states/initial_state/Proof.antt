@@ -4,7 +4,7 @@ use Prim.Native.Nat.{_-_, _≤_}
 use lib.ListN.{length, drop, replicate}
 use Rattle.words.specs.Fields.{unknown, knownValue}
 use Rattle.history.specs.Values.{lists, initially, valueAt}
-use Rattle.history.specs.Stores.{Overlaid}
+use Rattle.history.specs.Code.Stores.{Overlaid}
 use Rattle.history.proofs.Stores.{overlaid-none, overlaid-back, overlaid-open}
 use native.Mathlib.Omega.{arith}
 use borrow.Author.Needs.{needs}

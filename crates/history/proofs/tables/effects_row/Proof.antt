@@ -4,7 +4,7 @@ use Prim.Native.Nat.{_-_, _≤_}
 use lib.ListN.{length, drop, replicate}
 use Rattle.words.specs.Fields.{unknown}
 use Rattle.history.specs.Actions.{makesFluent, lawValue}
-use Rattle.history.specs.Stores.{Overlaid}
+use Rattle.history.specs.Code.Stores.{Overlaid}
 use Rattle.history.proofs.Stores.{overlaid-none, overlaid-back}
 use native.Mathlib.Omega.{arith}
 use borrow.Author.Needs.{needs}

@@ -9,7 +9,7 @@ use Rattle.words.specs.Fields.{ofKind}
 use Rattle.words.specs.Scan.{takeWhile}
 use Rattle.words.proofs.Scan.{takeWhile-take, takeWhile-fits}
 use Rattle.job.specs.Parts.{actions, lawsOf}
-use Rattle.job.specs.WellFormed.{WellFormed, Indexed}
+use Rattle.job.specs.Code.WellFormed.{WellFormed, Indexed}
 use Rattle.job.proofs.ByPlace.{action-counted, laws-place}
 use Rattle.history.proofs.tables.laws_of.Statement.{statement}
 use Rattle.history.proofs.tables.laws_of.Tie as tie

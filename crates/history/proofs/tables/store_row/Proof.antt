@@ -1,7 +1,7 @@
 -- `history::tables::store_row` meets its contract. The invariant: the first `f` entries are stored. Assumes nothing.
 use Prim.Native.Nat.{_≤_, _-_}
 use mathlib.Core.Path.{_≡_}
-use Rattle.history.specs.Stores.{RowStored}
+use Rattle.history.specs.Code.Stores.{RowStored}
 use Rattle.history.proofs.Stores.{row-none, row-more}
 use native.Mathlib.Omega.{arith}
 use borrow.Author.Needs.{needs}

@@ -5,7 +5,7 @@ use mathlib.Core.Logic.{⊎-elim}
 use borrow.Author.Needs.{needs}
 use native.Mathlib.Omega.{arith}
 use Rattle.job.specs.Before.{before}
-use Rattle.job.specs.Index.{placesUpto}
+use Rattle.job.specs.Code.Index.{placesUpto}
 use Rattle.job.proofs.WordPositions.{Marked, marked-none, room, hit, miss}
 use Rattle.job.proofs.positions.place_words.Statement.{statement}
 use Rattle.job.proofs.positions.place_words.Tie as tie

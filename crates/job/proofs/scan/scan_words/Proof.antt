@@ -10,7 +10,7 @@ use Rattle.answers.specs.declared.Refusal.{Refusal}
 use Rattle.answers.specs.Rows.{firstOf, passed}
 use Rattle.job.specs.Refusal.{refusalOf}
 use Rattle.job.specs.declared.State.{State}
-use Rattle.job.specs.State.{Tied}
+use Rattle.job.specs.Code.State.{Tied}
 use Rattle.job.proofs.Before.{tied-start}
 use Rattle.answers.proofs.Rows.{first-start, first-more, first-found}
 use Rattle.job.proofs.scan.scan_words.Statement.{statement}

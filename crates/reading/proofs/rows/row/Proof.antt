@@ -4,8 +4,9 @@ use mathlib.Core.Path.{_≡_, sym, ap, _∙_}
 use native.Mathlib.Omega.{arith}
 use Rattle.words.specs.Fields.{form, nodeX, nodeY, nodeM, nodeN}
 use Rattle.bitset.proofs.In.{in-none}
-use Rattle.model.specs.Forms.{formNumber, childrenAs, Below}
-use Rattle.model.specs.Arrays.{alone}
+use Rattle.model.specs.Forms.{formNumber}
+use Rattle.model.specs.Code.Forms.{childrenAs, Below}
+use Rattle.model.specs.Code.Arrays.{alone}
 use Rattle.model.proofs.Forms.{no-form}
 use borrow.Author.Needs.{needs}
 use Rattle.reading.proofs.rows.row.Statement.{statement}

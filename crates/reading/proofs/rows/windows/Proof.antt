@@ -1,5 +1,5 @@
 -- `reading::rows::windows` meets its contract: each turn moves the window after the lowest member of `left` over; the measure is how many are left. Assumes nothing.
-use Rattle.bitset.specs.Members.{popCount}
+use Rattle.bitset.specs.Code.Members.{popCount}
 use native.Mathlib.Omega.{arith}
 use Rattle.reading.proofs.Windows.{Split, split-start, split-turn, split-end}
 use borrow.Author.Needs.{needs}

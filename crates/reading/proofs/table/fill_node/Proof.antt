@@ -6,7 +6,7 @@ use denote.Ref.{now}
 use Rattle.model.specs.Procedure.{Procedure}
 use Rattle.model.specs.Trajectory.{Trajectory}
 use Rattle.model.specs.Forms.{Set, formNumber, formAt}
-use Rattle.model.specs.Arrays.{alone, procedureAt, trajectoryAt}
+use Rattle.model.specs.Code.Arrays.{alone, procedureAt, trajectoryAt}
 use Rattle.model.proofs.Forms.{form-number}
 use Rattle.reading.proofs.Nodes.{same-ready, same-rows, set-ready, set-node}
 use borrow.Author.Needs.{needs}

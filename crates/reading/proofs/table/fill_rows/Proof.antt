@@ -1,6 +1,6 @@
 -- `reading::table::fill_rows` meets its contract. The invariant: the rows of p from b on are there. Assumes nothing.
 use Rattle.reading.proofs.Tables.{RowsFrom, rows-start, rows-end, row-ready, rows-more}
-use Rattle.model.specs.Arrays.{alone, trajectoryAt}
+use Rattle.model.specs.Code.Arrays.{alone, trajectoryAt}
 use native.Mathlib.Omega.{arith}
 use Prim.Native.Nat.{_+_, _≤_}
 use borrow.Author.Needs.{needs}

@@ -3,7 +3,7 @@ use Rattle.reading.proofs.Nodes.{same-ready, same-rows}
 use Rattle.reading.proofs.Tables.{Built, built-start, built-ready, built-more, built-end}
 use Rattle.model.specs.Procedure.{Procedure}
 use Rattle.model.specs.Trajectory.{Trajectory}
-use Rattle.model.specs.Arrays.{procedureAt, trajectoryAt}
+use Rattle.model.specs.Code.Arrays.{procedureAt, trajectoryAt}
 use mathlib.Core.Path.{refl, sym, _∙_}
 use Prim.Native.Nat.{ℕ, _-_, _≤_}
 use native.Mathlib.Omega.{arith}

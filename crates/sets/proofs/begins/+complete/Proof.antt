@@ -10,11 +10,11 @@ use lib.Seq.{getD-set-same}
 use borrow.Fn.Kinds.{In}
 use borrow.Fn.PlainCycle.{Measures, is, falls, and}
 use borrow.Author.Tests.{not-false}
-use Rattle.bitset.specs.Members.{In as In-mask}
+use Rattle.bitset.specs.Code.Members.{In as In-mask}
 use Rattle.words.specs.Fields.{memberNode}
-use Rattle.sets.specs.Rows.{taskSetOf, entryAt}
-use Rattle.model.specs.Table.{InTable}
-use Rattle.sets.specs.Search.{Searching}
+use Rattle.sets.specs.Code.Rows.{taskSetOf, entryAt}
+use Rattle.model.specs.Code.Table.{InTable}
+use Rattle.sets.specs.Code.Search.{Searching}
 use Rattle.sets.proofs.Laws.{no-gain, gain-turn}
 use Rattle.bitset.proofs.In.{in-union}
 use Rattle.sets.proofs.Search.{CompletedTo, to-none, turn, none, leaf-at, search-begin, search-next}

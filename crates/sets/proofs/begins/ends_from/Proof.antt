@@ -2,9 +2,9 @@
 use Prim.Native.Nat.{ℕ, _+_, _-_, _≤_}
 use mathlib.Core.Logic.{_↔_}
 use native.Mathlib.Omega.{arith}
-use Rattle.bitset.specs.Members.{In}
-use Rattle.model.specs.Table.{InTable}
-use Rattle.sets.specs.Search.{Begun}
+use Rattle.bitset.specs.Code.Members.{In}
+use Rattle.model.specs.Code.Table.{InTable}
+use Rattle.sets.specs.Code.Search.{Begun}
 use Rattle.sets.proofs.Laws.{gain}
 use Rattle.bitset.proofs.In.{in-none, in-more}
 use Rattle.sets.proofs.Gaps.{begun-none, begun-more, begun-upto}

@@ -6,11 +6,11 @@ use native.Mathlib.Omega.{arith}
 use borrow.Author.Count.{below-more}
 use lib.ListN.{length, getD, set, length-set}
 use lib.Seq.{getD-set-same, getD-set-other}
-use Rattle.bitset.specs.Members.{In}
+use Rattle.bitset.specs.Code.Members.{In}
 use Rattle.words.specs.Fields.{memberNode}
-use Rattle.sets.specs.Rows.{entryAt}
-use Rattle.model.specs.Table.{InTable}
-use Rattle.sets.specs.Search.{Begun}
+use Rattle.sets.specs.Code.Rows.{entryAt}
+use Rattle.model.specs.Code.Table.{InTable}
+use Rattle.sets.specs.Code.Search.{Begun}
 use Rattle.sets.proofs.Masks.{small-set}
 use Rattle.sets.proofs.Search.{none-small}
 use borrow.Author.Needs.{needs}

@@ -5,8 +5,8 @@ use mathlib.Core.List.{map}
 use native.Mathlib.Omega.{arith}
 use lib.ListN.{length, getD, set, length-map, List·getD-map}
 use Rattle.words.specs.Fields.{memberNode}
-use Rattle.sets.specs.Cover.{Attained}
-use Rattle.sets.specs.Rows.{entryAt}
+use Rattle.sets.specs.Code.Cover.{Attained}
+use Rattle.sets.specs.Code.Rows.{entryAt}
 use Rattle.sets.proofs.Masks.{small-set}
 use Rattle.sets.proofs.Gaps.{in-open, attains}
 use borrow.Author.Needs.{needs}

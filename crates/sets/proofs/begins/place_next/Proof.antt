@@ -5,9 +5,9 @@ use mathlib.Core.List.{map}
 use native.Mathlib.Omega.{arith}
 use lib.ListN.{length, getD, set, length-map, List·getD-map}
 use lib.Seq.{getD-set-other}
-use Rattle.bitset.specs.Members.{In}
+use Rattle.bitset.specs.Code.Members.{In}
 use Rattle.words.specs.Fields.{memberNode}
-use Rattle.sets.specs.Rows.{entryAt}
+use Rattle.sets.specs.Code.Rows.{entryAt}
 use Rattle.sets.proofs.Masks.{extend, small-set}
 use borrow.Author.Needs.{needs}
 use Rattle.sets.proofs.begins.place_next.Statement.{statement}

@@ -5,9 +5,9 @@ use mathlib.Core.Logic.{_↔_, _⊎_, inl, inr, ⊎-elim, by-cases}
 use native.Mathlib.Decide.{decLt}
 use native.Mathlib.Omega.{arith}
 use Rattle.bitset.proofs.Bools.{not-both}
-use Rattle.bitset.specs.Members.{In}
+use Rattle.bitset.specs.Code.Members.{In}
 use Rattle.sets.specs.Set.{MetAt}
-use Rattle.model.specs.Arrays.{valueIn}
+use Rattle.model.specs.Code.Arrays.{valueIn}
 use Rattle.sets.proofs.Laws.{gain, gain-yes, gain-no}
 use Rattle.bitset.proofs.In.{in-none, in-more, in-single}
 use borrow.Author.Needs.{needs}

@@ -2,9 +2,9 @@
 use Prim.Native.Nat.{ℕ, zero, suc}
 use mathlib.Core.Path.{_≡_, refl, sym, _∙_}
 use mathlib.Core.Logic.{_↔_}
-use Rattle.bitset.specs.Members.{has, In}
+use Rattle.bitset.specs.Code.Members.{has, In}
 use Rattle.model.specs.Forms.{conditionNumber}
-use Rattle.sets.specs.Search.{asked}
+use Rattle.sets.specs.Code.Search.{asked}
 use borrow.Author.Needs.{needs}
 use Rattle.sets.proofs.conditions.end_mask.Statement.{statement}
 use Rattle.sets.proofs.conditions.end_mask.Tie as tie

@@ -7,10 +7,10 @@ use native.Mathlib.Decide.{decLt}
 use native.Mathlib.Omega.{arith}
 use lib.ListN.{length, getD, set, length-set}
 use lib.Seq.{getD-set-same, getD-set-other}
-use Rattle.bitset.specs.Members.{In}
+use Rattle.bitset.specs.Code.Members.{In}
 use Rattle.sets.specs.Set.{MetAt}
-use Rattle.model.specs.Arrays.{valueIn}
-use Rattle.sets.specs.Search.{Allowed}
+use Rattle.model.specs.Code.Arrays.{valueIn}
+use Rattle.sets.specs.Code.Search.{Allowed}
 use borrow.Author.Needs.{needs}
 use Rattle.sets.proofs.conditions.fill_allowed.Statement.{statement}
 use Rattle.sets.proofs.conditions.fill_allowed.Tie as tie

@@ -6,7 +6,7 @@ use mathlib.Core.Logic.{by-cases}
 use native.Mathlib.Decide.{decLt}
 use native.Mathlib.Omega.{arith}
 use Rattle.words.specs.Fields.{holds}
-use Rattle.model.specs.Arrays.{valueIn}
+use Rattle.model.specs.Code.Arrays.{valueIn}
 use borrow.Author.Needs.{needs}
 use Rattle.sets.proofs.conditions.holds_through.Statement.{statement}
 use Rattle.sets.proofs.conditions.holds_through.Tie as tie

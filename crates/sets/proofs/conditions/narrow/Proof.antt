@@ -5,8 +5,8 @@ use mathlib.Core.Logic.{⊎-elim}
 use native.Mathlib.Omega.{arith}
 use lib.ListN.{length, length-set}
 use Rattle.bitset.proofs.Bools.{not-both}
-use Rattle.sets.specs.Rows.{entryAt}
-use Rattle.sets.specs.Search.{Narrowed}
+use Rattle.sets.specs.Code.Rows.{entryAt}
+use Rattle.sets.specs.Code.Search.{Narrowed}
 use Rattle.bitset.proofs.In.{in-both}
 use Rattle.sets.proofs.Masks.{narrow-more, narrow-skip}
 use borrow.Author.Needs.{needs}

@@ -4,8 +4,8 @@ use mathlib.Core.Path.{sym, _∙_}
 use mathlib.Core.Logic.{_↔_, ⊎-elim}
 use native.Mathlib.Omega.{arith}
 use lib.ListN.{length}
-use Rattle.bitset.specs.Members.{In}
-use Rattle.sets.specs.Search.{Possible}
+use Rattle.bitset.specs.Code.Members.{In}
+use Rattle.sets.specs.Code.Search.{Possible}
 use Rattle.bitset.proofs.In.{in-both, in-below}
 use Rattle.sets.proofs.Own.{possible-skip, possible-more}
 use borrow.Author.Needs.{needs}

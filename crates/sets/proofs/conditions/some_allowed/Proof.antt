@@ -3,9 +3,9 @@ use Prim.Native.Nat.{ℕ, _+_, _-_, _≤_, _<_}
 use mathlib.Core.Path.{_≡_, subst}
 use mathlib.Core.Logic.{_↔_}
 use native.Mathlib.Omega.{arith}
-use Rattle.bitset.specs.Members.{In}
+use Rattle.bitset.specs.Code.Members.{In}
 use Rattle.model.specs.Forms.{conditionNumber}
-use Rattle.sets.specs.Search.{SomeBegin}
+use Rattle.sets.specs.Code.Search.{SomeBegin}
 use Rattle.sets.proofs.Laws.{gain, gain-step}
 use Rattle.bitset.proofs.In.{in-none}
 use Rattle.sets.proofs.Own.{begin-none, begin-more}

@@ -2,9 +2,9 @@
 use Prim.Native.Nat.{ℕ, _-_, _≤_, _<_}
 use mathlib.Core.Logic.{_↔_, ⊎-elim}
 use native.Mathlib.Omega.{arith}
-use Rattle.bitset.specs.Members.{In}
-use Rattle.sets.specs.Cover.{Some, Reaches}
-use Rattle.sets.specs.Rows.{entryAt}
+use Rattle.bitset.specs.Code.Members.{In}
+use Rattle.sets.specs.Code.Cover.{Some, Reaches}
+use Rattle.sets.specs.Code.Rows.{entryAt}
 use Rattle.sets.proofs.Laws.{some-none, some-more}
 use Rattle.bitset.proofs.In.{in-union, in-none, in-more, in-both, in-from}
 use Rattle.sets.proofs.Needs.{reaches, all-more}

@@ -4,8 +4,8 @@ use mathlib.Core.Path.{_≡_, refl}
 use mathlib.Core.Bool.{true, false≢true}
 use mathlib.Core.Logic.{⊎-elim}
 use native.Mathlib.Omega.{arith}
-use Rattle.sets.specs.Cover.{Some}
-use Rattle.sets.specs.Rows.{entryAt}
+use Rattle.sets.specs.Code.Cover.{Some}
+use Rattle.sets.specs.Code.Rows.{entryAt}
 use Rattle.sets.proofs.Laws.{some-none, some-more}
 use borrow.Author.Needs.{needs}
 use Rattle.sets.proofs.covering.begins_at.Statement.{statement}

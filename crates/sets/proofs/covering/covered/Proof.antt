@@ -4,8 +4,8 @@ use mathlib.Core.Logic.{_↔_, ⊎-elim}
 use native.Mathlib.Omega.{arith}
 use borrow.Author.Tests.{not-true, not-false}
 use Rattle.bitset.proofs.Bools.{not-both}
-use Rattle.sets.specs.Cover.{Needed}
-use Rattle.sets.specs.Rows.{entryAt}
+use Rattle.sets.specs.Code.Cover.{Needed}
+use Rattle.sets.specs.Code.Rows.{entryAt}
 use Rattle.bitset.proofs.In.{in-none, in-both, in-from}
 use Rattle.sets.proofs.Needs.{all-more}
 use borrow.Author.Needs.{needs}

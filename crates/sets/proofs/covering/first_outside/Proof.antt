@@ -5,7 +5,7 @@ use mathlib.Core.Logic.{inl, inr, by-cases}
 use native.Mathlib.Decide.{decLt}
 use native.Mathlib.Omega.{arith}
 use borrow.Author.Tests.{not-true, not-false}
-use Rattle.bitset.specs.Members.{In}
+use Rattle.bitset.specs.Code.Members.{In}
 use Rattle.bitset.proofs.Bools.{not-both}
 use borrow.Author.Needs.{needs}
 use Rattle.sets.proofs.covering.first_outside.Statement.{statement}

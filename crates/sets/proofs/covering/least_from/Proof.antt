@@ -3,7 +3,7 @@ use Prim.Native.Nat.{ℕ, _≤_}
 use mathlib.Core.Path.{ap, _∙_}
 use mathlib.Core.Logic.{_↔_}
 use native.Mathlib.Omega.{arith}
-use Rattle.bitset.specs.Members.{has, In}
+use Rattle.bitset.specs.Code.Members.{has, In}
 use Rattle.bitset.proofs.Bools.{not-both}
 use Rattle.bitset.proofs.Digits.{has-zero}
 use Rattle.bitset.proofs.Ends.{lowest-le}

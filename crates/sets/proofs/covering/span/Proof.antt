@@ -5,7 +5,7 @@ use mathlib.Core.Bool.{false}
 use mathlib.Core.Logic.{by-cases}
 use native.Mathlib.Decide.{decLe}
 use native.Mathlib.Omega.{arith}
-use Rattle.bitset.specs.Members.{has, Highest, HighestUpto}
+use Rattle.bitset.specs.Code.Members.{has, Highest, HighestUpto}
 use Rattle.bitset.proofs.Bools.{not-both}
 use Rattle.bitset.proofs.In.{in-below, in-between, in-none}
 use borrow.Author.Needs.{needs}

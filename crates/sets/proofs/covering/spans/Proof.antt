@@ -2,9 +2,9 @@
 use Prim.Native.Nat.{ℕ, _-_, _≤_}
 use mathlib.Core.Logic.{_↔_}
 use native.Mathlib.Omega.{arith}
-use Rattle.bitset.specs.Members.{In}
-use Rattle.sets.specs.Cover.{Some, Spans}
-use Rattle.sets.specs.Rows.{entryAt}
+use Rattle.bitset.specs.Code.Members.{In}
+use Rattle.sets.specs.Code.Cover.{Some, Spans}
+use Rattle.sets.specs.Code.Rows.{entryAt}
 use Rattle.sets.proofs.Laws.{some-none, some-more, gain}
 use Rattle.bitset.proofs.In.{in-none, in-more}
 use borrow.Author.Needs.{needs}

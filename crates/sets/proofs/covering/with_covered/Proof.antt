@@ -2,7 +2,7 @@
 use Prim.Native.Nat.{ℕ}
 use mathlib.Core.Path.{subst}
 use mathlib.Core.Logic.{inl, inr, ⊎-elim}
-use Rattle.bitset.specs.Members.{In}
+use Rattle.bitset.specs.Code.Members.{In}
 use Rattle.sets.proofs.Laws.{gain}
 use Rattle.bitset.proofs.In.{in-union}
 use borrow.Author.Needs.{needs}

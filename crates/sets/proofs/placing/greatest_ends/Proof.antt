@@ -5,8 +5,8 @@ use native.Mathlib.Omega.{arith}
 use borrow.Author.Count.{below-more}
 use lib.ListN.{length, set, length-set}
 use lib.Seq.{getD-set-same, getD-set-other}
-use Rattle.bitset.specs.Members.{Highest}
-use Rattle.sets.specs.Rows.{entryAt}
+use Rattle.bitset.specs.Code.Members.{Highest}
+use Rattle.sets.specs.Code.Rows.{entryAt}
 use borrow.Author.Needs.{needs}
 use Rattle.sets.proofs.placing.greatest_ends.Statement.{statement}
 use Rattle.sets.proofs.placing.greatest_ends.Tie as tie

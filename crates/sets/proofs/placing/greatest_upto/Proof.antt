@@ -2,7 +2,7 @@
 use Prim.Native.Nat.{ℕ, _≤_}
 use mathlib.Core.Path.{_≡_, subst}
 use mathlib.Core.Bool.{false}
-use Rattle.bitset.specs.Members.{has, HighestUpto}
+use Rattle.bitset.specs.Code.Members.{has, HighestUpto}
 use Rattle.bitset.proofs.Bools.{not-both}
 use borrow.Author.Needs.{needs}
 use Rattle.sets.proofs.placing.greatest_upto.Statement.{statement}

@@ -8,9 +8,9 @@ use lib.ListN.{length, set, length-map}
 use lib.Seq.{getD-set-same}
 use Rattle.bitset.proofs.Bools.{not-both}
 use Rattle.words.specs.Fields.{memberNode}
-use Rattle.sets.specs.Rows.{taskSetOf, entryAt}
-use Rattle.model.specs.Table.{InTable}
-use Rattle.sets.specs.Search.{Searching}
+use Rattle.sets.specs.Code.Rows.{taskSetOf, entryAt}
+use Rattle.model.specs.Code.Table.{InTable}
+use Rattle.sets.specs.Code.Search.{Searching}
 use Rattle.sets.proofs.Laws.{from-none}
 use Rattle.sets.proofs.Search.{CompletedTo, to-none, turn, search-begin, search-next}
 use borrow.Author.Needs.{needs}

@@ -6,9 +6,9 @@ use native.Mathlib.Omega.{arith}
 use lib.ListN.{length, set, length-set, length-map}
 use lib.Seq.{getD-set-same}
 use Rattle.words.specs.Fields.{memberNode}
-use Rattle.sets.specs.Rows.{taskSetOf, entryAt}
-use Rattle.model.specs.Table.{InTable}
-use Rattle.sets.specs.Search.{Searching, Completed}
+use Rattle.sets.specs.Code.Rows.{taskSetOf, entryAt}
+use Rattle.model.specs.Code.Table.{InTable}
+use Rattle.sets.specs.Code.Search.{Searching, Completed}
 use Rattle.sets.proofs.Search.{nothing-placed, node-rows, later-start, search-start, search-begin, search-next, some-end, placed-at}
 use borrow.Author.Needs.{needs}
 use Rattle.sets.proofs.placing.place_from.Statement.{statement}

@@ -3,7 +3,7 @@ use Prim.Native.Nat.{_-_, _*_, _/_, _≤_}
 use mathlib.Core.Path.{_≡_, refl}
 use native.Mathlib.Omega.{arith}
 use lib.ListN.{length, length-set}
-use Rattle.sets.specs.Search.{OwnRows}
+use Rattle.sets.specs.Code.Search.{OwnRows}
 use Rattle.sets.proofs.Own.{own-more}
 use borrow.Author.Needs.{needs}
 use Rattle.sets.proofs.rows.fill_own.Statement.{statement}

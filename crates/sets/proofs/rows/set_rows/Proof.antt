@@ -5,9 +5,9 @@ use native.Mathlib.Omega.{arith}
 use lib.ListN.{length, length-map}
 use lib.Seq.{length-take-le}
 use Rattle.words.specs.Fields.{memberNode}
-use Rattle.sets.specs.Rows.{taskSetOf}
-use Rattle.model.specs.Arrays.{valueIn}
-use Rattle.sets.specs.Search.{Allowed, OwnRows}
+use Rattle.sets.specs.Code.Rows.{taskSetOf}
+use Rattle.model.specs.Code.Arrays.{valueIn}
+use Rattle.sets.specs.Code.Search.{Allowed, OwnRows}
 use Rattle.sets.proofs.Search.{node-rows}
 use Rattle.sets.proofs.Own.{own-rule, own-ready}
 use Rattle.sets.proofs.Stored.{RowsTo, rows-none, rows-more, rows-done}

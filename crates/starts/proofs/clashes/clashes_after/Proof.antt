@@ -1,7 +1,7 @@
 -- `starts::clashes::clashes_after` meets its contract. The invariant: no action below `a` clashes and is in hand. Assumes nothing.
 use Prim.Native.Nat.{_-_, _<_}
 use Rattle.job.specs.Parts.{actions}
-use Rattle.starts.specs.Latest.{clashesAfter}
+use Rattle.starts.specs.Code.Latest.{clashesAfter}
 use Rattle.words.proofs.AnyBelow.{Sought, sought-start, sought-more, sought-found, sought-end}
 use Rattle.starts.proofs.ClashTable.{clash-read}
 use borrow.Author.Needs.{needs}

@@ -4,7 +4,7 @@ use mathlib.Core.Path.{_≡_, sym, _∙_}
 use Prim.Native.Nat.{ℕ, _-_, _<_, _^_}
 use lib.ListN.{length, getD}
 use Rattle.starts.specs.Rows.{clashes}
-use Rattle.starts.specs.Latest.{Latest}
+use Rattle.starts.specs.Code.Latest.{Latest}
 use Rattle.starts.proofs.Rows.{Tried, tried-start, tried-more, tried-found, tried-end}
 use Rattle.starts.proofs.StartsFormed.{right-word}
 use Rattle.starts.proofs.LatestFinish.{latest-start, latest-more, latest-clash}

@@ -6,7 +6,7 @@ use lib.ListN.{length, getD}
 use lib.Dec.{ltb}
 use borrow.Author.Tests.{lt-ltb, le-ltb}
 use Rattle.starts.specs.Rows.{inHandAlready}
-use Rattle.starts.specs.Latest.{Latest}
+use Rattle.starts.specs.Code.Latest.{Latest}
 use Rattle.starts.proofs.Rows.{Tried, tried-start, tried-more, tried-found, tried-end}
 use Rattle.starts.proofs.LatestFinish.{latest-start, latest-more, latest-restart}
 use borrow.Author.Needs.{needs}

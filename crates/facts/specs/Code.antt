@@ -1,0 +1,2 @@
+-- What contracts between functions cite, and no public contract reaches.
+pub mod Written

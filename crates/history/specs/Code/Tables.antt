@@ -1,0 +1,51 @@
+-- Between functions: what the tables of the actions, a state's bytes and the history are, and that starts name actions of the job.
+use mathlib.Core.List.{List}
+use mathlib.Core.Path.{_≡_}
+use Prim.Native.Nat.{ℕ, _+_, _*_, _<_, _≤_}
+use lib.ListN.{length, getD}
+use Rattle.words.specs.Fields.{startAction}
+use Rattle.job.specs.Parts.{fluents, actions, lastMoment, duration}
+use Rattle.job.specs.Code.WellFormed.{WellFormed}
+use Rattle.history.specs.Actions.{effect}
+use Rattle.history.specs.Values.{valueAt}
+
+-- entry a has the duration of action a
+pub record Durations (job table : List ℕ) : Type 0 where
+  pub entry : (a : ℕ) → a < actions job → getD table a 0 ≡ duration job a
+  pub small : (a : ℕ) → getD table a 0 < 64
+
+-- entry a * 64 + f has the value that action a makes of fluent f
+pub record Effects (job table : List ℕ) : Type 0 where
+  pub size : length table ≡ 4096
+  pub entry : (a f : ℕ) → a < actions job → f < fluents job → getD table (a * 64 + f) 0 ≡ effect job a f
+
+-- the two tables of a job's actions
+pub record ActionTables (job lasts makes : List ℕ) : Type 0 where
+  pub durations : Durations job lasts
+  pub effects : Effects job makes
+
+-- the starts name actions of the job
+pub record Named (job starts : List ℕ) : Type 0 where
+  pub action : (i : ℕ) → i < length starts → startAction (getD starts i 0) < actions job
+
+-- what a walk of the states is made from
+pub record Walkable (job durations effects starts : List ℕ) : Type 0 where
+  pub well : WellFormed job
+  pub tables : ActionTables job durations effects
+  pub named : Named job starts
+
+-- the bytes of state are the values of the fluents at moment t
+pub record StateAt (job starts : List ℕ) (t : ℕ) (state : List ℕ) : Type 0 where
+  pub room : fluents job ≤ length state
+  pub value : (f : ℕ) → f < fluents job → getD state f 0 ≡ valueAt job starts t f
+
+-- a state from which a walk goes on
+pub record Steppable (job durations effects starts : List ℕ) (t : ℕ) (bytes : List ℕ) : Type 0 where
+  pub walk : Walkable job durations effects starts
+  pub soon : t < 64
+  pub state : StateAt job starts t bytes
+
+-- the history of a plan: entry t * 64 + f has the value of fluent f at moment t
+pub record History (job starts table : List ℕ) : Type 0 where
+  pub size : length table ≡ 4096
+  pub entry : (t f : ℕ) → t ≤ lastMoment job → f < fluents job → getD table (t * 64 + f) 0 ≡ valueAt job starts t f

@@ -1,0 +1,3 @@
+-- What contracts between functions cite, and no public contract reaches.
+pub mod Latest
+pub mod Given

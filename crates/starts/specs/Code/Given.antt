@@ -1,0 +1,50 @@
+-- Between functions: what passes between the functions of `starts` and their callers: the rows of a call, and what each asks.
+use mathlib.Core.Bool.{Bool, false}
+use mathlib.Core.List.{List}
+use mathlib.Core.Path.{_≡_}
+use Prim.Native.Nat.{ℕ, _<_}
+use lib.ListN.{length, take}
+use Rattle.job.specs.Parts.{actions}
+use Rattle.job.specs.Code.WellFormed.{WellFormed, Indexed}
+use Rattle.history.specs.Code.Tables.{Durations, Effects, History}
+use Rattle.starts.specs.Rows.{wrongWord, startRows}
+use Rattle.starts.specs.Code.Latest.{Clashes}
+
+-- the rows that read no state: 6 to 9
+abbrev pub timeRows : List ℕ → List ℕ → List (ℕ × (ℕ → Bool))
+timeRows job starts = take 4 (startRows job starts)
+
+-- row 6 fits no word
+pub record StartsFormed (job starts : List ℕ) : Type 0 where
+  pub right : (i : ℕ) → i < length starts → wrongWord job starts i ≡ false
+
+-- rows 6 to 9: a well-formed job with the tables of its actions
+pub record Tabled (job durations effects : List ℕ) : Type 0 where
+  pub formed : WellFormed job
+  pub lasts : Durations job durations
+  pub makes : Effects job effects
+
+-- rows 7 to 9: the starts of such a job, once row 6 fits none
+pub record Timed (job durations starts : List ℕ) : Type 0 where
+  pub formed : WellFormed job
+  pub lasts : Durations job durations
+  pub words : StartsFormed job starts
+
+-- row 9: two of its actions; one of them, with the table of the pairs that clash
+pub record Paired (job effects : List ℕ) (a b : ℕ) : Type 0 where
+  pub formed : WellFormed job
+  pub makes : Effects job effects
+  pub first : a < actions job
+  pub second : b < actions job
+
+pub record Compared (job table : List ℕ) (b : ℕ) : Type 0 where
+  pub formed : WellFormed job
+  pub entries : Clashes job table
+  pub action : b < actions job
+
+-- row 10: once row 6 fits no start, the positions of the job's actions and the history of the plan
+pub record Recorded (job places history starts : List ℕ) : Type 0 where
+  pub formed : WellFormed job
+  pub indexed : Indexed job 3 places
+  pub values : History job starts history
+  pub words : StartsFormed job starts
