@@ -1,9 +1,9 @@
 -- The test `reads` tells the readings, where it goes deep enough: one step for each row that a row can rest on. Assumes nothing.
 use Prim.Native.Nat.{ℕ, zero, suc, _+_, _-_, _*_, _≤_, _<_, max}
 use mathlib.Core.Bool.{Bool, true, false, _&&_, _||_, false≢true}
-use mathlib.Core.Path.{_≡_, refl, sym}
+use mathlib.Core.Path.{_≡_, refl}
 use mathlib.Core.Logic.{_⊎_, inl, inr, _↔_, ⊎-elim, Iff·trans, Iff·rfl, by-cases}
-use mathlib.Core.List.{List, [], _∷_}
+use mathlib.Core.List.{List, _∷_}
 use native.Mathlib.Decide.{decLt}
 use native.Mathlib.Omega.{arith}
 use lib.Dec.{eqb, leb}
@@ -16,7 +16,7 @@ use Rattle.words.specs.Fields.{fails, holds, conditionFormula, conditionI, cond
 use Rattle.model.specs.Trajectory.{Trajectory}
 use Rattle.model.specs.Procedure.{Procedure}
 use Rattle.sets.specs.Set.{TaskSet, memberCount, MetAs, Met, Placing}
-use Rattle.sets.specs.Code.Set.{member, SetRule, Formed}
+use Rattle.sets.specs.Code.Set.{SetRule, Formed}
 use Rattle.model.specs.Forms.{Form, Act, Test, Sequence, Choice, If, While, StartWindow, EndWindow, Set, Reserved, formAt, fieldX, fieldY, fieldM, fieldN, ConditionForm, BeginAfterBegin, BeginAfterEnd, HoldsBefore, HoldsAfter, HoldsBetween, ReservedCondition, conditionForm}
 use Rattle.reading.specs.Forms.{taskSet}
 use Rattle.reading.specs.Code.Forms.{NodeReadable}

@@ -3,7 +3,7 @@ use Prim.Native.Nat.{ℕ, zero, suc, _-_, _*_, _≤_, _<_}
 use mathlib.Core.Bool.{Bool, true, false, _&&_, _||_, not, false≢true}
 use mathlib.Core.Path.{_≡_, refl, sym, ap, _∙_, subst}
 use mathlib.Core.Logic.{⊎-elim, Iff·rfl, Iff·trans}
-use mathlib.Core.List.{List, [], _∷_, List·Memᴰ, List·Memᴰ·head, List·Memᴰ·tail, List·Memᴰ·cases-cons, List·Memᴰ·not-nil}
+use mathlib.Core.List.{List, _∷_, List·Memᴰ, List·Memᴰ·head, List·Memᴰ·tail, List·Memᴰ·cases-cons, List·Memᴰ·not-nil}
 use native.Mathlib.Omega.{arith}
 use lib.Dec.{eqb, leb}
 use lib.ListN.{length}
@@ -15,9 +15,7 @@ use Rattle.answers.proofs.Rows.{or-none}
 use Rattle.job.specs.Refusal.{jobRefusal}
 use Rattle.job.specs.Parts.{nodeCount, lastMoment}
 use Rattle.job.proofs.WellFormed.{well-formed}
-use Rattle.facts.specs.Facts.{factsOf}
-use Rattle.starts.specs.Rows.{startsRefusal}
-use Rattle.theory.specs.Answers.{planRefusal, factsRefusal, checkRefusal}
+use Rattle.theory.specs.Answers.{checkRefusal}
 use Rattle.theory.specs.Trajectory.{planTrajectory, trajectoryOf}
 use Rattle.job.specs.Procedure.{procedureOf}
 use Rattle.reading.specs.Reading.{HasReading}
@@ -25,8 +23,7 @@ use Rattle.model.specs.declared.Triple.{Triple}
 use Rattle.reading.specs.Count.{Distinct, none, more, Read}
 use Rattle.cases.specs.Code.Decision.{each}
 use Rattle.cases.proofs.Decides.{Tells, and-law, or-law, eq-law, le-law, each-law, decides}
-use Rattle.finder.specs.Find.{findRefusal, RootReading, Triples, Outcome, refused, sought}
-use Rattle.finder.specs.Find.{unread as without-reading, read as with-reading}
+use Rattle.finder.specs.Find.{findRefusal, RootReading, Triples, Outcome, refused, sought, unread as without-reading, read as with-reading}
 use Rattle.finder.proofs.Job.{formed-job}
 use Rattle.finder.proofs.Refusals.{same-row}
 use Rattle.cases.specs.Cases.{Expected, refuses, unread, read, readIn, Case, triple, table, Owed, EachOwed}

@@ -4,7 +4,7 @@ use Prim.Native.Nat.{ℕ, zero, suc, _+_, _-_, _≤_, _<_}
 use mathlib.Core.Path.{_≡_, refl, sym, ap, ap₂, _∙_}
 use mathlib.Core.Bool.{true, false, cond}
 use mathlib.Core.Logic.{by-cases}
-use mathlib.Core.List.{List, [], _∷_, _++_, append-assoc, append-nil}
+use mathlib.Core.List.{List, _∷_, _++_, append-assoc, append-nil}
 use native.Mathlib.Decide.{ℕ-discrete}
 use native.Mathlib.Numerals.{add-one}
 use native.Mathlib.Omega.{arith}
@@ -17,7 +17,7 @@ use Rattle.words.specs.Fields.{readingWord}
 use Rattle.words.proofs.Choices.{true-false}
 use Rattle.model.specs.Trajectory.{Trajectory}
 use Rattle.model.specs.Procedure.{Procedure}
-use Rattle.model.specs.Forms.{Form, While, formNumber, formAt, fieldY}
+use Rattle.model.specs.Forms.{Form, While, formAt, fieldY}
 use Rattle.model.specs.declared.Triple.{Triple}
 use Rattle.reading.specs.Reading.{whole, passes, Reading, act, test, sequence, first, second, taken, otherwise, loop, done, pass, startWindow, endWindow, set}
 use Rattle.reading.proofs.Step.{onward}
@@ -26,7 +26,7 @@ use Rattle.extract.specs.declared.parts.Parts.{Parts}
 use Rattle.extract.specs.Code.Parts.{Prepared, Choosable, Chosen, nodeOf, beginOf, endOf, partOf}
 use Rattle.extract.specs.Code.Search.{CutAt, CutReady}
 use Rattle.extract.proofs.Choice.{end-last, moment}
-use Rattle.extract.specs.Code.Contract.{Room, Full, Rest, Writable, Written}
+use Rattle.extract.specs.Code.Contract.{Full, Rest, Writable, Written}
 use Rattle.extract.proofs.Written.{written-none, written-then, written-map}
 
 -- ---- readings taken apart

@@ -1,7 +1,6 @@
 -- That each node but the root is named once goes over to a procedure with the same children. Assumes nothing.
-use Prim.Native.Nat.{ℕ, _<_}
-use mathlib.Core.Path.{_≡_, sym, ap, _∙_}
-use mathlib.Core.List.{List}
+use Prim.Native.Nat.{_<_}
+use mathlib.Core.Path.{sym, ap, _∙_}
 use native.Mathlib.Omega.{arith}
 use Rattle.bitset.specs.Code.Members.{sumBelow}
 use Rattle.words.specs.Scan.{count}

@@ -1,6 +1,6 @@
 -- Two procedures and trajectories that agree where a reading looks have the same readings, so the same table and the same count: the way
 -- from the arrays of the code to the job's own definitions. Assumes nothing.
-use Prim.Native.Nat.{ℕ, _≤_, _<_}
+use Prim.Native.Nat.{ℕ, _<_}
 use mathlib.Core.Path.{_≡_, sym, _∙_, subst}
 use mathlib.Core.Logic.{_↔_, inr, Iff·trans}
 use mathlib.Core.List.{List}

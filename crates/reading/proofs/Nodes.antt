@@ -8,7 +8,6 @@ use lib.ListN.{length, getD}
 use Rattle.bitset.specs.Code.Members.{In}
 use Rattle.model.specs.Trajectory.{Trajectory}
 use Rattle.model.specs.Procedure.{Procedure}
-use Rattle.sets.specs.Set.{TaskSet}
 use Rattle.sets.specs.Code.Set.{member, SetRule}
 use Rattle.sets.specs.Code.Rows.{SetReady, SetRows}
 use Rattle.model.specs.Code.Table.{InTable, rowAt}

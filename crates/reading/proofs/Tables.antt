@@ -1,6 +1,6 @@
 -- The table as it is filled: the rows of one node from the last begin down, and the nodes one after the other. Assumes nothing.
 use Prim.Native.Nat.{ℕ, zero, suc, _+_, _*_, _≤_, _<_}
-use mathlib.Core.Path.{_≡_, refl, sym, ap, _∙_, subst}
+use mathlib.Core.Path.{_≡_, refl, sym, _∙_, subst}
 use mathlib.Core.Logic.{_↔_, _⊎_, inl, inr, by-cases, Iff·trans}
 use mathlib.Core.List.{List}
 use native.Mathlib.Decide.{decLt}
@@ -16,7 +16,7 @@ use Rattle.model.specs.Trajectory.{Trajectory}
 use Rattle.model.specs.Procedure.{Procedure}
 use Rattle.model.specs.Forms.{Set, formAt}
 use Rattle.model.specs.Code.Forms.{children, Below}
-use Rattle.reading.specs.Code.Forms.{NodeReadable, Readable}
+use Rattle.reading.specs.Code.Forms.{Readable}
 use Rattle.reading.specs.Reading.{HasReading}
 use Rattle.reading.specs.Code.Rule.{Rule}
 use Rattle.reading.specs.Code.Table.{Inside, RowReady, RowOf, NodeReady, NodeRows, Blank, Found}

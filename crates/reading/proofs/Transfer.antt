@@ -11,7 +11,7 @@ use Rattle.words.specs.Scan.{concatBelow}
 use Rattle.words.specs.Fields.{fails, unknown, holds, readingWord, conditionFormula, conditionI, conditionJ, conditionM, conditionN}
 use Rattle.model.specs.Trajectory.{Trajectory}
 use Rattle.model.specs.Procedure.{Procedure}
-use Rattle.sets.specs.Set.{TaskSet, memberCount, Placing, MetAs, Met}
+use Rattle.sets.specs.Set.{TaskSet, Placing, MetAs}
 use Rattle.sets.specs.Code.Set.{Formed}
 use Rattle.model.specs.Forms.{Act, While, formAt, fieldX, ConditionForm, BeginAfterBegin, BeginAfterEnd, HoldsBefore, HoldsAfter, HoldsBetween, ReservedCondition, conditionForm}
 use Rattle.model.specs.Code.Forms.{asksFormula}

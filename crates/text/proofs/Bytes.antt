@@ -3,11 +3,11 @@ use Prim.Native.Nat.{ℕ, zero, suc, _+_, _*_, _/_, _<_, _≤_}
 use native.Mathlib.Nat.{zero-add}
 use native.Mathlib.Numerals.{add-one}
 use mathlib.Core.Path.{_≡_, refl, sym, _∙_}
-use mathlib.Core.List.{List, [], _∷_, _++_}
+use mathlib.Core.List.{List, _∷_, _++_}
 use native.Mathlib.Omega.{arith}
 use lib.ListN.{length, getD, take, drop, set}
 use lib.Seq.{paste-suc, getD-drop, length-take-le, take-all, take-at, drop-at}
-use Rattle.text.specs.Files.{wordOf, wordsOf}
+use Rattle.text.specs.Files.{wordsOf}
 use Rattle.text.specs.Code.Decoded.{wordOfBytes, Decoded}
 
 -- d with the first n elements of s over its own first n

@@ -2,7 +2,6 @@
 -- passes check. Assumes nothing.
 use mathlib.Core.Bool.{Bool, true, false, cond}
 use mathlib.Core.List.{List}
-use mathlib.Core.Logic.{_↔_}
 use mathlib.Core.Path.{_≡_, refl, ap, sym, _∙_}
 use Prim.Native.Nat.{ℕ}
 use native.Mathlib.Omega.{arith}
@@ -10,14 +9,12 @@ use borrow.Author.Tests.{eqb-true}
 use lib.Dec.{eqb}
 use lib.ListN.{length, take}
 use lib.Seq.{take-at, take-length}
-use Rattle.answers.specs.declared.Answer.{Answer}
 use Rattle.answers.specs.declared.Answer.the-variants.{Accepted, Refused}
 use Rattle.answers.specs.Packed.{answerOf}
-use Rattle.answers.proofs.Rows.{or-none}
+use Rattle.answers.proofs.Rows.{or-none, or-passed}
 use Rattle.facts.specs.Facts.{factsOf}
 use Rattle.theory.specs.Answers.{bufferRefusal, planRefusal, factsRefusal, fillRefusal, checkAnswer, fillAnswer, written}
 use Rattle.theory.specs.Demand.{PassesExactly, FilledPasses}
-use Rattle.answers.proofs.Rows.{or-passed}
 use Rattle.theory.proofs.Laws.{check-rows, equal-passes, passes-equal}
 
 pub passes-exactly : PassesExactly

@@ -19,7 +19,7 @@ use Rattle.job.specs.Procedure.{procedureOf}
 use Rattle.theory.specs.Trajectory.{isStartOf, planTrajectory, trajectoryOf}
 use Rattle.model.specs.Procedure.{Procedure}
 use Rattle.model.specs.Trajectory.{Trajectory}
-use Rattle.model.specs.Forms.{formNumber, formAt, fieldX}
+use Rattle.model.specs.Forms.{formNumber, fieldX}
 use Rattle.model.specs.Code.Arrays.{membersAt, conditionsAt, procedureIn, trajectoryIn}
 use Rattle.model.specs.Code.Represents.{Asks, Agrees, Represents}
 use Rattle.model.specs.declared.Arrays.{Arrays}

@@ -3,11 +3,5 @@ use borrow.Author.Needs.{needs}
 use Rattle.answers.proofs.row_of.Statement.{statement}
 use Rattle.answers.proofs.row_of.Tie as tie
 
-returns : tie.Need-returns
-returns c = rw (c .if1 .taken)
-
-returns-2 : tie.Need-returns-2
-returns-2 c = rw (c .before .if1 .left) (c .none .ensures)
-
 pub row-of-spec : {M : Type 1} → statement M
-row-of-spec = tie.close (tie.spec (λ c κs. search needs) returns returns-2)
+row-of-spec = tie.close (tie.spec (λ c κs. search needs) (λ c. rw (c .if1 .taken)) (λ c. rw (c .before .if1 .left) (c .none .ensures)))

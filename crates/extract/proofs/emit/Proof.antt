@@ -10,9 +10,6 @@ use Rattle.extract.proofs.emit.Tie as tie
 abbrev entry : tie.After-write-reading-arg → tie.Start
 entry c = c .before .before .before .before
 
-sub-root : tie.Need-sub-t9
-sub-root c = let (starts, durations, s) = c .before .before .before .pre in omega (arith, s .some)
-
 write-reading-requires : tie.Need-write-reading-requires
 write-reading-requires c κs =
     let a = entry c in
@@ -25,4 +22,4 @@ returns c = λ starts durations s.
     emit-emitted s refl (c .before .before .write-reading .ensures (record { count = a .args .count; starts = starts; durations = durations }) (emit-writable s))
 
 pub emit-spec : {M : Type 1} → statement M
-emit-spec = tie.close (tie.spec sub-root write-reading-requires (λ c. search needs) returns)
+emit-spec = tie.close (tie.spec (λ c. let (starts, durations, s) = c .before .before .before .pre in omega (arith, s .some)) write-reading-requires (λ c. search needs) returns)

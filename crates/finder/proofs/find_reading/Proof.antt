@@ -43,9 +43,6 @@ returns-2 c =
     let words = j .before .before .before .before .shared-slice-known2 in
     (row .0, (subst InRange (sym same) (check-range (s .job .now) (s .starts .now) (λ i. omega (arith, words .given i)) (s .facts .now)), row .1))
 
-arrays-of-requires : tie.Need-arrays-of-requires
-arrays-of-requires c κs = passed c
-
 seek-requires : tie.Need-seek-requires
 seek-requires c κs = let e = c .before .before in
     record { clear = job-clear _ _ (passed e .clear); represented = c .before .arrays-of .ensures; room = omega (arith, judged e .before .if1) }
@@ -59,5 +56,5 @@ returns-3 c =
 pub find-reading-spec : {M : Type 1} → statement M
 find-reading-spec =
     tie.close
-    (tie.spec (λ c κs. search needs) (λ c κs. search needs) returns (λ c κs. search needs) (λ c κs. search needs) returns-2 arrays-of-requires
+    (tie.spec (λ c κs. search needs) (λ c κs. search needs) returns (λ c κs. search needs) (λ c κs. search needs) returns-2 (λ c κs. passed c)
     seek-requires (λ c. search needs) returns-3)

@@ -1,5 +1,5 @@
 -- `finder::seek` meets its contract, by what the table and the writer give in the job's definitions. Assumes nothing.
-use mathlib.Core.Path.{_≡_, refl, sym, _∙_}
+use mathlib.Core.Path.{refl, sym, _∙_}
 use Prim.Native.Nat.{_≤_, _<_}
 use native.Mathlib.Omega.{arith}
 use Rattle.reading.proofs.Tables.{blank}
@@ -24,9 +24,6 @@ nodes f = let s = entry (f .before) .pre in (some-node _ _ _ (s .clear) (s .repr
 
 moments : (f : tie.After-tabulate) → entry (f .before) .args .arrays .last < 64
 moments f = let s = entry (f .before) .pre in few-moments _ _ _ (s .clear) (s .represented)
-
-tabulate-requires : tie.Need-tabulate-requires
-tabulate-requires c κs = let s = entry c .pre in (readable _ _ _ (s .clear) (s .represented), blank 4096 refl)
 
 has-end-requires : tie.Need-has-end-requires
 has-end-requires c κs =
@@ -65,5 +62,5 @@ returns-2 c =
 pub seek-spec : {M : Type 1} → statement M
 seek-spec =
     tie.close
-    (tie.spec (λ c. search needs) tabulate-requires (λ c. search needs) (λ c. omega (arith, nodes (c .before .before))) has-end-requires
+    (tie.spec (λ c. search needs) (λ c κs. let s = entry c .pre in (readable _ _ _ (s .clear) (s .represented), blank 4096 refl)) (λ c. search needs) (λ c. omega (arith, nodes (c .before .before))) has-end-requires
     (λ c. search needs) emit-requires (λ c. search needs) returns returns-2)

@@ -15,15 +15,6 @@ read-and c = c .before .before .before .before
 abbrev read-or : tie.After-by-table2 → tie.After-formula-y
 read-or c = c .before .before .before .before
 
-sub-result : tie.Need-sub-result
-sub-result c = entry (c .before .before) .pre .0 .most _
-
-by-table-requires : tie.Need-by-table-requires
-by-table-requires c κs = let small = entry (c .before .before .before) .pre .0 in (small .most _, small .most _)
-
-by-table-requires-2 : tie.Need-by-table-requires-2
-by-table-requires-2 c κs = let small = entry (c .before .before .before) .pre .0 in (small .most _, small .most _)
-
 returns : tie.Need-returns
 unfolding formValue
 returns c = rw (← c .before .before .before .form-of .ensures .0, c .match .keys1)
@@ -49,34 +40,10 @@ returns-5 c =
 pub form-value-spec : {M : Type 1} → statement M
 form-value-spec =
     tie.close
-    (tie.spec
-    (λ c κs. search needs)
-    (λ c κs. search needs)
-    (λ c κs. search needs)
-    (λ c. search needs)
-    (λ c κs. search needs)
-    (λ c. search needs)
-    (λ c. search needs)
-    (λ c. search needs)
-    (λ c. search needs)
-    (λ c. search needs)
-    sub-result
-    (λ c. search needs)
-    (λ c. search needs)
-    (λ c. search needs)
-    (λ c. search needs)
-    (λ c. search needs)
-    (λ c. search needs)
-    by-table-requires
-    (λ c. search needs)
-    (λ c. search needs)
-    (λ c. search needs)
-    (λ c. search needs)
-    (λ c. search needs)
-    (λ c. search needs)
-    by-table-requires-2
-    returns
-    returns-2
-    returns-3
-    returns-4
+    (tie.spec (λ c κs. search needs) (λ c κs. search needs) (λ c κs. search needs) (λ c. search needs) (λ c κs. search needs) (λ c. search needs)
+    (λ c. search needs) (λ c. search needs) (λ c. search needs) (λ c. search needs) (λ c. entry (c .before .before) .pre .0 .most _)
+    (λ c. search needs) (λ c. search needs) (λ c. search needs) (λ c. search needs) (λ c. search needs) (λ c. search needs)
+    (λ c κs. let small = entry (c .before .before .before) .pre .0 in (small .most _, small .most _)) (λ c. search needs) (λ c. search needs)
+    (λ c. search needs) (λ c. search needs) (λ c. search needs) (λ c. search needs)
+    (λ c κs. let small = entry (c .before .before .before) .pre .0 in (small .most _, small .most _)) returns returns-2 returns-3 returns-4
     returns-5)

@@ -18,12 +18,6 @@ abbrev μ-loop : tie.MeasureT-loop
 abbrev entry : tie.At-loop Inv-loop μ-loop → tie.Start Inv-loop μ-loop
 entry c = c .before .before .before .before
 
-loop-holds : tie.Need-loop-holds Inv-loop μ-loop
-loop-holds c = (omega arith, columns-none)
-
-loop-again : tie.Need-loop-again Inv-loop μ-loop
-loop-again c = (omega arith, c .fill-moment .ensures)
-
 returns : tie.Need-returns Inv-loop μ-loop
 returns c starts h =
     let start = entry (c .before) in
@@ -34,14 +28,5 @@ returns c starts h =
 pub formula-values-spec : {M : Type 1} → statement M
 formula-values-spec =
     tie.close
-    (tie.spec
-    Inv-loop
-    μ-loop
-    (λ c. search needs)
-    (λ c κs. search needs)
-    loop-holds
-    (λ c κs. search needs)
-    (λ c. search needs)
-    (λ c. search needs)
-    loop-again
-    returns)
+    (tie.spec Inv-loop μ-loop (λ c. search needs) (λ c κs. search needs) (λ c. (omega arith, columns-none)) (λ c κs. search needs)
+    (λ c. search needs) (λ c. search needs) (λ c. (omega arith, c .fill-moment .ensures)) returns)

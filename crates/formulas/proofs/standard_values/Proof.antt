@@ -4,8 +4,5 @@ use Rattle.formulas.proofs.Tables.{connectives}
 use Rattle.formulas.proofs.standard_values.Statement.{statement}
 use Rattle.formulas.proofs.standard_values.Tie as tie
 
-formula-values-requires : tie.Need-formula-values-requires
-formula-values-requires c κs = (connectives, c .before .before .before .pre)
-
 pub standard-values-spec : {M : Type 1} → statement M
-standard-values-spec = tie.close (tie.spec formula-values-requires (λ c. search needs))
+standard-values-spec = tie.close (tie.spec (λ c κs. (connectives, c .before .before .before .pre)) (λ c. search needs))

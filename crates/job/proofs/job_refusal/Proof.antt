@@ -15,9 +15,6 @@ else1 c = c .before .before .before
 abbrev after-scan-words : tie.After-end-refusal → tie.After-scan-words
 after-scan-words c = c .before .before .before .before
 
-returns : tie.Need-returns
-returns c = c .refuse .ensures ∙ sym (by-length _ (c .before .if1 .taken))
-
 returns-2 : tie.Need-returns-2
 returns-2 c =
     let e = c .before .before .before .scan-words .ensures .0 in
@@ -36,4 +33,4 @@ returns-3 c =
 pub job-refusal-spec : {M : Type 1} → statement M
 job-refusal-spec =
     tie.close
-    (tie.spec (λ c κs. search needs) returns (λ c κs. search needs) returns-2 end-refusal-requires returns-3)
+    (tie.spec (λ c κs. search needs) (λ c. c .refuse .ensures ∙ sym (by-length _ (c .before .if1 .taken))) (λ c κs. search needs) returns-2 end-refusal-requires returns-3)

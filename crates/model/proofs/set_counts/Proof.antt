@@ -12,16 +12,10 @@ use Rattle.model.proofs.set_counts.Tie as tie
 members-inside : (c : tie.After-run-length) → c .before .before .args .place + 1 + c .run-length .result ≤ length (now (c .before .before .args .words))
 members-inside c = let s = c .before .before in run-inside (now (s .args .words)) 7 (s .args .place + 1) (c .run-length .result) (omega (arith, s .pre)) (c .run-length .ensures)
 
-add-run-length : tie.Need-add-run-length
-add-run-length c = omega (arith, members-inside c, c .before .before .good)
-
-run-length-requires-2 : tie.Need-run-length-requires-2
-run-length-requires-2 c κs = members-inside c
-
 returns : tie.Need-returns
 returns c =
     let s = c .before .before .before in
     set-words (now (s .args .words)) (s .args .place) (c .before .run-length .result) (c .run-length2 .result) (s .pre) (c .before .run-length .ensures) (c .run-length2 .ensures)
 
 pub set-counts-spec : {M : Type 1} → statement M
-set-counts-spec = tie.close (tie.spec (λ c. search needs) (λ c κs. search needs) add-run-length run-length-requires-2 returns)
+set-counts-spec = tie.close (tie.spec (λ c. search needs) (λ c κs. search needs) (λ c. omega (arith, members-inside c, c .before .before .good)) (λ c κs. members-inside c) returns)

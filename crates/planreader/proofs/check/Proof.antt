@@ -14,11 +14,5 @@ in-range : (c : tie.After-check-plan) → InRange (checkAnswer (c .before .befor
 in-range c =
     check-range (c .before .before .before .before .args .job .now) (c .before .before .before .before .args .starts .now) (λ i. omega (arith, c .before .before .shared-slice-known2 .given i)) (c .before .before .before .before .args .facts .now)
 
-pack-requires : tie.Need-pack-requires
-pack-requires c κs = subst InRange (sym (c .check-plan .ensures)) (in-range c)
-
-returns : tie.Need-returns
-returns c = let e = c .pack .ensures ∙ ap packed (c .before .check-plan .ensures) in (e, reads-back e (in-range (c .before)))
-
 pub check-spec : {M : Type 1} → statement M
-check-spec = tie.close (tie.spec (λ c κs. search needs) pack-requires returns)
+check-spec = tie.close (tie.spec (λ c κs. search needs) (λ c κs. subst InRange (sym (c .check-plan .ensures)) (in-range c)) (λ c. let e = c .pack .ensures ∙ ap packed (c .before .check-plan .ensures) in (e, reads-back e (in-range (c .before)))))

@@ -15,13 +15,10 @@ in-range : (c : tie.After-slice-known2) → InRange (fillAnswer (length (c .befo
 in-range c =
     fill-range (c .before .before .before .before .before .before .before .args .job .now) (c .before .before .before .before .before .before .before .args .starts .now) (λ i. omega (arith, c .before .before .before .before .before .shared-slice-known2 .given i)) (length (c .before .before .before .before .before .before .before .args .buffer .now))
 
-pack-requires : tie.Need-pack-requires
-pack-requires c κs = subst InRange (sym (c .before .before .fill-plan .ensures .0)) (in-range c)
-
 returns : tie.Need-returns
 returns c = let made = c .before .before .before .fill-plan .ensures in
     let e = c .pack .ensures ∙ ap packed (made .0) in
     (e, (reads-back e (in-range (c .before)), rw (made .0) at (made .1)))
 
 pub fill-spec : {M : Type 1} → statement M
-fill-spec = tie.close (tie.spec (λ c κs. search needs) pack-requires (λ c. search needs) returns)
+fill-spec = tie.close (tie.spec (λ c κs. search needs) (λ c κs. subst InRange (sym (c .before .before .fill-plan .ensures .0)) (in-range c)) (λ c. search needs) returns)

@@ -4,9 +4,6 @@ use Rattle.answers.proofs.Packed.{reads-back}
 use Rattle.planreader.proofs.find.Statement.{statement}
 use Rattle.planreader.proofs.find.Tie as tie
 
-pack-requires : tie.Need-pack-requires
-pack-requires c κs = c .before .before .find-reading .ensures .1 .0
-
 returns : tie.Need-returns
 returns c =
     let made = c .before .before .before .find-reading in
@@ -19,4 +16,4 @@ returns c =
     }
 
 pub find-spec : {M : Type 1} → statement M
-find-spec = tie.close (tie.spec (λ c κs. search needs) pack-requires (λ c. search needs) returns)
+find-spec = tie.close (tie.spec (λ c κs. search needs) (λ c κs. c .before .before .find-reading .ensures .1 .0) (λ c. search needs) returns)

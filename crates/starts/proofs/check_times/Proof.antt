@@ -22,9 +22,6 @@ timed c = record {
   words = row-passed (c .before .before .wrong-word .ensures) (c .if1 .left);
 }
 
-returns : tie.Need-returns
-returns c = rows-found 6 _ _ _ (c .before .before .wrong-word .ensures) (c .if1 .taken)
-
 returns-2 : tie.Need-returns-2
 returns-2 c =
     let six = c .before .before .before in
@@ -52,12 +49,5 @@ returns-4 c =
 pub check-times-spec : {M : Type 1} → statement M
 check-times-spec =
     tie.close
-    (tie.spec
-    (λ c κs. search needs)
-    returns
-    (λ c κs. timed c)
-    returns-2
-    (λ c κs. timed (c .before .before .before))
-    returns-3
-    (λ c κs. (timed (six c), entry (six c) .pre .makes))
-    returns-4)
+    (tie.spec (λ c κs. search needs) (λ c. rows-found 6 _ _ _ (c .before .before .wrong-word .ensures) (c .if1 .taken)) (λ c κs. timed c) returns-2
+    (λ c κs. timed (c .before .before .before)) returns-3 (λ c κs. (timed (six c), entry (six c) .pre .makes)) returns-4)

@@ -1,7 +1,7 @@
 -- `theory::compare_facts` meets its contract. The invariant: the lists are equal below `i`. Assumes nothing.
 use borrow.Author.Needs.{needs}
 use mathlib.Core.Path.{_≡_, refl, sym, _∙_}
-use Prim.Native.Nat.{ℕ, _≤_, _-_}
+use Prim.Native.Nat.{_≤_, _-_}
 use lib.ListN.{length, drop}
 use Rattle.theory.specs.Answers.{factsRefusal}
 use Rattle.theory.proofs.Laws.{facts-same, facts-differ, wanted-ends, given-ends, both-end}
@@ -14,9 +14,6 @@ Inv-loop given wanted i₀ i = (i ≤ length given) × (factsRefusal given wante
 
 abbrev μ-loop : tie.MeasureT-loop
 μ-loop given wanted i₀ i = length given - i
-
-loop-holds : tie.Need-loop-holds Inv-loop μ-loop
-loop-holds c = (omega arith, refl)
 
 returns : tie.Need-returns Inv-loop μ-loop
 returns c = c .refuse .ensures ∙ sym (c .before .before .before .loop .inv .1 ∙ wanted-ends _ _ _ (c .before .before .loop-test .taken) (c .before .if1 .taken))
@@ -36,22 +33,6 @@ returns-4 c = c .none .ensures ∙ sym (c .before .before .before .loop .inv .1 
 pub compare-facts-spec : {M : Type 1} → statement M
 compare-facts-spec =
     tie.close
-    (tie.spec
-    Inv-loop
-    μ-loop
-    loop-holds
-    (λ c κs. search needs)
-    returns
-    (λ c. omega arith)
-    (λ c. omega arith)
-    (λ c. omega arith)
-    (λ c. omega arith)
-    (λ c κs. search needs)
-    returns-2
-    (λ c. omega arith)
-    (λ c. omega arith)
-    loop-again
-    (λ c κs. search needs)
-    returns-3
-    (λ c κs. search needs)
-    returns-4)
+    (tie.spec Inv-loop μ-loop (λ c. (omega arith, refl)) (λ c κs. search needs) returns (λ c. omega arith) (λ c. omega arith) (λ c. omega arith)
+    (λ c. omega arith) (λ c κs. search needs) returns-2 (λ c. omega arith) (λ c. omega arith) loop-again (λ c κs. search needs) returns-3
+    (λ c κs. search needs) returns-4)

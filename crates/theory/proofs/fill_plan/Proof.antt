@@ -1,6 +1,6 @@
 -- `theory::fill_plan` meets its contract: a row refuses and leaves the buffer, or the facts are written. Assumes nothing.
 use mathlib.Core.Path.{_≡_, sym, _∙_, ap}
-use Prim.Native.Nat.{ℕ, _≤_}
+use Prim.Native.Nat.{ℕ}
 use borrow.Author.Tests.{lt-ltb, le-ltb, eq-eqb, ne-eqb}
 use lib.ListN.{length}
 use lib.Seq.{length-sets}
@@ -50,12 +50,6 @@ returns-2 c =
     let made = c .answer-of2 .ensures ∙ answer-refused _ 0 0 (length facts) 0 never in
     (made ∙ rw (le-ltb _ _ (j .before .if1 .left), ← j .judge .ensures .refusal), rw (c .answer-of2 .ensures, ne-eqb _ 0 never))
 
-fill-facts-requires : tie.Need-fill-facts-requires
-fill-facts-requires c κs = let e = c .before .before .before in (plan-formed _ _ (clear e), judged e .before .if1 .left)
-
-same-length : tie.Need-same-length
-same-length c = ap length (filled (c .before .before .before) .held) ∙ simp length-sets
-
 returns-3 : tie.Need-returns-3
 unfolding fillAnswer fillRefusal planRefusal
 returns-3 c =
@@ -73,14 +67,6 @@ returns-3 c =
 pub fill-plan-spec : {M : Type 1} → statement M
 fill-plan-spec =
     tie.close
-    (tie.spec
-    (λ c κs. search needs)
-    (λ c κs. search needs)
-    returns
-    (λ c κs. search needs)
-    (λ c κs. search needs)
-    returns-2
-    fill-facts-requires
-    (λ c κs. search needs)
-    same-length
-    returns-3)
+    (tie.spec (λ c κs. search needs) (λ c κs. search needs) returns (λ c κs. search needs) (λ c κs. search needs) returns-2
+    (λ c κs. let e = c .before .before .before in (plan-formed _ _ (clear e), judged e .before .if1 .left)) (λ c κs. search needs)
+    (λ c. ap length (filled (c .before .before .before) .held) ∙ simp length-sets) returns-3)

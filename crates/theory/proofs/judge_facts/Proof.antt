@@ -56,15 +56,6 @@ returns c =
     let is = e ∙ or-refused _ _ (λ z. never (ap (λ (r : Refusal). r .number) e ∙ z)) ∙ sym (check-rows (s .args .job .now) (s .args .starts .now) (s .args .facts .now)) in
     record { refusal = is; passed = λ z. absurd (never (ap (λ (r : Refusal). r .number) is ∙ z)) }
 
-fill-facts-requires : tie.Need-fill-facts-requires
-fill-facts-requires c κs = (plan-formed _ _ (clear (c .before .before .before .before .before)), omega arith)
-
-array-share-prefix-wanted : tie.Need-array-share-prefix-wanted
-array-share-prefix-wanted c = fits (c .before)
-
-slice-aggregate-compare-facts : tie.Need-slice-aggregate-compare-facts
-slice-aggregate-compare-facts c = sym (length-take-le _ _ (fits (c .before .before)))
-
 returns-2 : tie.Need-returns-2
 returns-2 c =
     let f = c .before .before .before in
@@ -81,12 +72,6 @@ returns-2 c =
 pub judge-facts-spec : {M : Type 1} → statement M
 judge-facts-spec =
     tie.close
-    (tie.spec
-    (λ c κs. search needs)
-    returns
-    (λ c. search needs)
-    fill-facts-requires
-    array-share-prefix-wanted
-    slice-aggregate-compare-facts
-    (λ c κs. search needs)
-    returns-2)
+    (tie.spec (λ c κs. search needs) returns (λ c. search needs)
+    (λ c κs. (plan-formed _ _ (clear (c .before .before .before .before .before)), omega arith)) (λ c. fits (c .before))
+    (λ c. sym (length-take-le _ _ (fits (c .before .before)))) (λ c κs. search needs) returns-2)

@@ -1,5 +1,5 @@
 -- `theory::judge_starts` meets its contract: rows 6 to 9 refuse, or they pass and row 10 says the rest. Assumes nothing.
-use mathlib.Core.Path.{_≡_, sym, _∙_, ap}
+use mathlib.Core.Path.{_≡_, _∙_, ap}
 use Rattle.answers.specs.declared.Refusal.{Refusal}
 use Rattle.job.specs.Refusal.{jobRefusal}
 use Rattle.job.proofs.WellFormed.{well-formed}
@@ -84,12 +84,5 @@ returns-2 c =
 pub judge-starts-spec : {M : Type 1} → statement M
 judge-starts-spec =
     tie.close
-    (tie.spec
-    durations-requires
-    effects-requires
-    check-times-requires
-    (λ c κs. search needs)
-    returns
-    history-requires
-    check-needs-requires
+    (tie.spec durations-requires effects-requires check-times-requires (λ c κs. search needs) returns history-requires check-needs-requires
     returns-2)

@@ -26,18 +26,6 @@ moments s =
     let end = end-last (h .prepared) (h .known) begin (h .found) in
     (omega arith, omega arith)
 
-mul-place : tie.Need-mul-place
-mul-place c = let h = c .before .before .pre .1 in omega (arith, h .known, h .prepared .ready .few)
-
-element-copy-out-place : tie.Need-element-copy-out-place
-element-copy-out-place c = let h = c .before .before .pre .1 in omega (arith, h .known, h .prepared .ready .few)
-
-mul-word : tie.Need-mul-word
-mul-word c = omega (arith, inside (c .before .before .before))
-
-shared-slice-read-word : tie.Need-shared-slice-read-word
-shared-slice-read-word c = inside (c .before .before .before .before)
-
 -- the function's entry, seen from the form, and the fields that were read
 abbrev entry : tie.After-form-of → tie.Start
 entry f = f .before .before .before .before .before .before .before .before .before
@@ -87,15 +75,6 @@ choice-requires c κs =
     let f = c .before in
     let h = entry f .pre .1 in
     (pair f, choice-some (h .prepared) (h .known) (h .within) (h .found) (form-is f (c .match .keys4)) (x-is f) (y-is f))
-
-add-if-part : tie.Need-add-if-part
-add-if-part c = omega (arith, moments (entry (c .before)) .0, c .before .before .before .before .before .node-x .ensures .1)
-
-element-copy-out-if-part : tie.Need-element-copy-out-if-part
-element-copy-out-if-part c = omega (arith, moments (entry (c .before)) .0, c .before .before .before .before .before .node-x .ensures .1)
-
-if-requires : tie.Need-if-part-requires
-if-requires c κs = moments (entry (c .before .before))
 
 start-requires : tie.Need-start-window-parts-requires
 start-requires c κs =
@@ -156,9 +135,6 @@ if-returns c = λ u h.
     if-chosen (h .prepared) (h .known) (h .within) (h .found) (form-is f (a .match .keys5))
     (ap (λ (i : ℕ). getD (now (entry f .args .values)) (i * 64 + entry f .args .triple .begin) 0) (x-is f)) (y-is f) (m-is f) (c .if-part .ensures)
 
-loop-returns : tie.Need-returns-6
-loop-returns c = λ u h. let a = c .before in absurd (h .other (form-is (a .before) (a .match .keys6)))
-
 start-returns : tie.Need-returns-7
 start-returns c = λ u h.
     let a = c .before in
@@ -183,44 +159,17 @@ reserved-returns c = λ u h.
     let f = a .before in
     reserved-chosen (h .prepared) (h .known) (h .within) (h .found) (ap formNumber (sym (f .form-of .ensures .0)) ∙ no-form (f .form-of .result) (a .match .rest))
 
-beyond-returns : tie.Need-returns-11
-beyond-returns c = absurd (omega (arith, c .before .before .before .form-of .ensures .1))
-
 pub choose-parts-spec : {M : Type 1} → statement M
 choose-parts-spec =
     tie.close
-    (tie.spec
-    mul-place
-    element-copy-out-place
-    mul-word
-    shared-slice-read-word
-    (λ c κs. search needs)
-    (λ c κs. search needs)
-    (λ c κs. search needs)
-    (λ c κs. search needs)
-    (λ c κs. search needs)
-    (λ c κs. search needs)
-    (λ c κs. search needs)
-    sequence-requires
-    choice-requires
-    (λ c. search needs)
-    add-if-part
-    element-copy-out-if-part
-    if-requires
-    (λ c κs. search needs)
-    start-requires
-    end-requires
-    set-requires
-    (λ c κs. search needs)
-    (λ c κs. search needs)
-    act-returns
-    test-returns
-    sequence-returns
-    choice-returns
-    if-returns
-    loop-returns
-    start-returns
-    end-returns
-    set-returns
-    reserved-returns
-    beyond-returns)
+    (tie.spec (λ c. let h = c .before .before .pre .1 in omega (arith, h .known, h .prepared .ready .few))
+    (λ c. let h = c .before .before .pre .1 in omega (arith, h .known, h .prepared .ready .few))
+    (λ c. omega (arith, inside (c .before .before .before))) (λ c. inside (c .before .before .before .before)) (λ c κs. search needs)
+    (λ c κs. search needs) (λ c κs. search needs) (λ c κs. search needs) (λ c κs. search needs) (λ c κs. search needs) (λ c κs. search needs)
+    sequence-requires choice-requires (λ c. search needs)
+    (λ c. omega (arith, moments (entry (c .before)) .0, c .before .before .before .before .before .node-x .ensures .1))
+    (λ c. omega (arith, moments (entry (c .before)) .0, c .before .before .before .before .before .node-x .ensures .1))
+    (λ c κs. moments (entry (c .before .before))) (λ c κs. search needs) start-requires end-requires set-requires (λ c κs. search needs)
+    (λ c κs. search needs) act-returns test-returns sequence-returns choice-returns if-returns
+    (λ c. λ u h. let a = c .before in absurd (h .other (form-is (a .before) (a .match .keys6)))) start-returns end-returns set-returns
+    reserved-returns (λ c. absurd (omega (arith, c .before .before .before .form-of .ensures .1))))

@@ -4,11 +4,5 @@ use borrow.Author.Needs.{needs}
 use Rattle.extract.proofs.parts.if_part.Statement.{statement}
 use Rattle.extract.proofs.parts.if_part.Tie as tie
 
-returns : tie.Need-returns
-returns c = inl (c .before .if1 .taken, c .one .ensures)
-
-returns-2 : tie.Need-returns-2
-returns-2 c = inr (c .before .if1 .left, c .one2 .ensures)
-
 pub if-part-spec : {M : Type 1} → statement M
-if-part-spec = tie.close (tie.spec (λ c κs. search needs) returns (λ c κs. search needs) returns-2)
+if-part-spec = tie.close (tie.spec (λ c κs. search needs) (λ c. inl (c .before .if1 .taken, c .one .ensures)) (λ c κs. search needs) (λ c. inr (c .before .if1 .left, c .one2 .ensures)))

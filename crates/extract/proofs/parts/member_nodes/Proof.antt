@@ -27,9 +27,6 @@ abbrev μ-loop : tie.MeasureT-loop
 abbrev entry : tie.After-member-node Inv-loop μ-loop → tie.Start Inv-loop μ-loop
 entry c = c .before .before .before .before .before
 
-loop-holds : tie.Need-loop-holds Inv-loop μ-loop
-loop-holds c = record { upto = omega arith; long = refl; node = λ j l. absurd (omega arith) }
-
 loop-again : tie.Need-loop-again Inv-loop μ-loop
 loop-again c =
     let l = c .before .before .before .loop in
@@ -43,22 +40,9 @@ loop-again c =
           (getD-set-same (l .nodes) (l .i) v 0 (omega (arith, l .inv .long, s .pre, c .before .before .loop-test .taken)) ∙ c .member-node .ensures .0);
     }
 
-returns : tie.Need-returns Inv-loop μ-loop
-returns c = λ i l. c .before .loop .inv .node i (omega arith)
-
 pub member-nodes-spec : {M : Type 1} → statement M
 member-nodes-spec =
     tie.close
-    (tie.spec
-    Inv-loop
-    μ-loop
-    loop-holds
-    (λ c. search needs)
-    (λ c. search needs)
-    (λ c κs. search needs)
-    (λ c. search needs)
-    (λ c. search needs)
-    (λ c. search needs)
-    (λ c. search needs)
-    loop-again
-    returns)
+    (tie.spec Inv-loop μ-loop (λ c. record { upto = omega arith; long = refl; node = λ j l. absurd (omega arith) }) (λ c. search needs)
+    (λ c. search needs) (λ c κs. search needs) (λ c. search needs) (λ c. search needs) (λ c. search needs) (λ c. search needs) loop-again
+    (λ c. λ i l. c .before .loop .inv .node i (omega arith)))

@@ -14,18 +14,6 @@ entry c = c .before .before .before .before .before
 moment : (c : tie.After-meeting) → c .meeting .result < 64
 moment c = let some = c .before .before .before .pre .some in c .meeting .ensures .any (some .1) (start-meets (some .3))
 
-add-ends : tie.Need-add-ends
-add-ends c = omega (arith, moment c)
-
-mul-ends-2 : tie.Need-mul-ends-2
-mul-ends-2 c = omega (arith, moment c)
-
-shared-slice-read-ends : tie.Need-shared-slice-read-ends
-shared-slice-read-ends c = omega (arith, moment (c .before))
-
-ends-requires : tie.Need-ends-requires
-ends-requires c κs = let m = c .before in (search needs, m .meeting .ensures .found (moment m) .max)
-
 two-requires : tie.Need-two-requires
 two-requires c κs =
     let s = entry c .pre .within in
@@ -40,18 +28,7 @@ returns c =
 pub start-window-parts-spec : {M : Type 1} → statement M
 start-window-parts-spec =
     tie.close
-    (tie.spec
-    (λ c. search needs)
-    (λ c. search needs)
-    (λ c. search needs)
-    (λ c. search needs)
-    (λ c. search needs)
-    (λ c. search needs)
-    (λ c κs. search needs)
-    (λ c. search needs)
-    add-ends
-    mul-ends-2
-    shared-slice-read-ends
-    ends-requires
-    two-requires
+    (tie.spec (λ c. search needs) (λ c. search needs) (λ c. search needs) (λ c. search needs) (λ c. search needs) (λ c. search needs)
+    (λ c κs. search needs) (λ c. search needs) (λ c. omega (arith, moment c)) (λ c. omega (arith, moment c))
+    (λ c. omega (arith, moment (c .before))) (λ c κs. let m = c .before in (search needs, m .meeting .ensures .found (moment m) .max)) two-requires
     returns)

@@ -10,11 +10,5 @@ use Rattle.extract.proofs.search.choose.Tie as tie
 abbrev entry : tie.Else1 → tie.Start
 entry c = c .before .before .before .before
 
-returns : tie.Need-returns
-returns c = (inl refl, record { yes = sym (c .before .has .ensures) ∙ c .if1 .taken })
-
-returns-2 : tie.Need-returns-2
-returns-2 c = (inr refl, ⊎-elim (λ x. not-both (x .yes) (sym (c .before .has .ensures) ∙ c .if1 .left)) (λ y. y) (entry c .pre .1))
-
 pub choose-spec : {M : Type 1} → statement M
-choose-spec = tie.close (tie.spec (λ c. search needs) (λ c. search needs) (λ c. search needs) (λ c. search needs) (λ c. search needs) (λ c κs. search needs) returns returns-2)
+choose-spec = tie.close (tie.spec (λ c. search needs) (λ c. search needs) (λ c. search needs) (λ c. search needs) (λ c. search needs) (λ c κs. search needs) (λ c. (inl refl, record { yes = sym (c .before .has .ensures) ∙ c .if1 .taken })) (λ c. (inr refl, ⊎-elim (λ x. not-both (x .yes) (sym (c .before .has .ensures) ∙ c .if1 .left)) (λ y. y) (entry c .pre .1))))

@@ -20,62 +20,25 @@ entry c = c .before .before .before .before .before
 abbrev turn : tie.Then1 Inv-loop μ-loop → tie.At-loop Inv-loop μ-loop
 turn c = c .before .before .before .before
 
-cast-from : tie.Need-cast-from Inv-loop μ-loop
-cast-from c = let some = c .before .before .pre .some .2 in omega (arith, some .after, some .end)
-
-from-requires : tie.Need-from-requires Inv-loop μ-loop
-from-requires c κs = let some = c .before .before .pre .some .2 in omega (arith, some .after, some .end)
-
-loop-holds : tie.Need-loop-holds Inv-loop μ-loop
-loop-holds c = left-start _ (c .before .from .ensures) (c .inter .ensures)
-
-add-meeting : tie.Need-add-meeting Inv-loop μ-loop
-add-meeting c = omega (arith, c .lowest .ensures .below)
-
-add-meeting-2 : tie.Need-add-meeting-2 Inv-loop μ-loop
-add-meeting-2 c = omega (arith, c .lowest .ensures .below)
-
 meeting-requires : tie.Need-meeting-requires Inv-loop μ-loop
 meeting-requires c κs =
     let s = entry (c .before .before) .pre in
     let k = c .lowest .ensures .below in
     record { node = s .within .right; finish = s .within .finish; upto = omega (arith, s .late); size = s .within .size }
 
-returns : tie.Need-returns Inv-loop μ-loop
-returns c = left-found (turn c .loop .inv) (c .before .before .lowest .ensures) (c .before .meeting .ensures) (c .if1 .taken)
-
-loop-less : tie.Need-loop-less Inv-loop μ-loop
-loop-less c = omega (arith, c .drop-lowest .ensures .fewer)
-
 loop-again : tie.Need-loop-again Inv-loop μ-loop
 loop-again c =
     let l = c .before .before .before in
     left-turn (l .before .before .loop .inv) (l .lowest .ensures) (c .before .before .meeting .ensures) (c .before .if1 .left) (c .drop-lowest .ensures)
 
-returns-2 : tie.Need-returns-2 Inv-loop μ-loop
-returns-2 c = absurd (left-none (c .before .loop .inv) (omega arith) (entry (c .before) .pre .some .2))
-
 pub cut-spec : {M : Type 1} → statement M
 cut-spec =
     tie.close
-    (tie.spec
-    Inv-loop
-    μ-loop
-    (λ c. search needs)
-    (λ c. search needs)
-    (λ c. search needs)
-    (λ c. search needs)
-    cast-from
-    from-requires
-    (λ c κs. search needs)
-    loop-holds
-    (λ c κs. search needs)
-    (λ c. search needs)
-    add-meeting
-    add-meeting-2
-    meeting-requires
-    returns
-    (λ c κs. search needs)
-    loop-less
-    loop-again
-    returns-2)
+    (tie.spec Inv-loop μ-loop (λ c. search needs) (λ c. search needs) (λ c. search needs) (λ c. search needs)
+    (λ c. let some = c .before .before .pre .some .2 in omega (arith, some .after, some .end))
+    (λ c κs. let some = c .before .before .pre .some .2 in omega (arith, some .after, some .end)) (λ c κs. search needs)
+    (λ c. left-start _ (c .before .from .ensures) (c .inter .ensures)) (λ c κs. search needs) (λ c. search needs)
+    (λ c. omega (arith, c .lowest .ensures .below)) (λ c. omega (arith, c .lowest .ensures .below)) meeting-requires
+    (λ c. left-found (turn c .loop .inv) (c .before .before .lowest .ensures) (c .before .meeting .ensures) (c .if1 .taken)) (λ c κs. search needs)
+    (λ c. omega (arith, c .drop-lowest .ensures .fewer)) loop-again
+    (λ c. absurd (left-none (c .before .loop .inv) (omega arith) (entry (c .before) .pre .some .2))))

@@ -24,12 +24,6 @@ inside c = c .before .before .before .before .before
 abbrev else1 : tie.Then2 Inv-loop μ-loop → tie.Else1 Inv-loop μ-loop
 else1 c = c .before .before .before .before
 
-loop-holds : tie.Need-loop-holds Inv-loop μ-loop
-loop-holds c = record { from = omega arith; left = λ k h. h .from }
-
-returns : tie.Need-returns Inv-loop μ-loop
-returns c = none-meets (c .before .before .loop .inv) (λ k h l s. omega (arith, c .if1 .taken))
-
 returns-2 : tie.Need-returns-2 Inv-loop μ-loop
 returns-2 c =
     let l = turn (c .before) .loop in
@@ -48,26 +42,10 @@ loop-again c =
     onward-more (turn (c .before) .loop .inv)
     (λ h. not-both (c .before .before .max-of .ensures _ .1 h) (sym (c .before .has .ensures) ∙ c .if2 .left))
 
-returns-3 : tie.Need-returns-3 Inv-loop μ-loop
-returns-3 c = none-meets (c .before .loop .inv) (λ k h l s. omega (arith, c .loop-test .left))
-
 pub meeting-spec : {M : Type 1} → statement M
 meeting-spec =
     tie.close
-    (tie.spec
-    Inv-loop
-    μ-loop
-    loop-holds
-    returns
-    (λ c. search needs)
-    (λ c. search needs)
-    (λ c. search needs)
-    (λ c. search needs)
-    (λ c κs. search needs)
-    (λ c. search needs)
-    (λ c κs. search needs)
-    returns-2
-    (λ c. search needs)
-    (λ c. omega arith)
-    loop-again
-    returns-3)
+    (tie.spec Inv-loop μ-loop (λ c. record { from = omega arith; left = λ k h. h .from })
+    (λ c. none-meets (c .before .before .loop .inv) (λ k h l s. omega (arith, c .if1 .taken))) (λ c. search needs) (λ c. search needs)
+    (λ c. search needs) (λ c. search needs) (λ c κs. search needs) (λ c. search needs) (λ c κs. search needs) returns-2 (λ c. search needs)
+    (λ c. omega arith) loop-again (λ c. none-meets (c .before .loop .inv) (λ k h l s. omega (arith, c .loop-test .left))))

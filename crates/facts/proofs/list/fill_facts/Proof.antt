@@ -14,10 +14,4 @@ returns c starts h = rw (← after-last-of c .last-of .ensures .0) (c .before .b
 
 pub fill-facts-spec : {M : Type 1} → statement M
 fill-facts-spec =
-    tie.close
-    (tie.spec
-    (λ c. search needs)
-    (λ c κs. search needs)
-    (λ c κs. search needs)
-    (λ c. search needs)
-    returns)
+    tie.close (tie.spec (λ c. search needs) (λ c κs. search needs) (λ c κs. search needs) (λ c. search needs) returns)

@@ -61,9 +61,6 @@ loop-again c =
       written = written-more (rows-more (a .history .now) _ _ (turn .t)) (old .written) (c .before .before .write-facts .ensures);
     }
 
-same-length : tie.Need-same-length Inv-loop μ-loop
-same-length c = written-size (c .before .loop .inv .written)
-
 returns : tie.Need-returns Inv-loop μ-loop
 returns c starts h =
     let start = entry (c .before .before) in
@@ -74,15 +71,5 @@ returns c starts h =
 pub fill-upto-spec : {M : Type 1} → statement M
 fill-upto-spec =
     tie.close
-    (tie.spec
-    Inv-loop
-    μ-loop
-    (λ c. search needs)
-    (λ c κs. search needs)
-    loop-holds
-    write-facts-requires
-    (λ c. search needs)
-    (λ c. search needs)
-    loop-again
-    same-length
-    returns)
+    (tie.spec Inv-loop μ-loop (λ c. search needs) (λ c κs. search needs) loop-holds write-facts-requires (λ c. search needs) (λ c. search needs)
+    loop-again (λ c. written-size (c .before .loop .inv .written)) returns)

@@ -6,20 +6,8 @@ use borrow.Author.Needs.{needs}
 use Rattle.facts.proofs.list.write_fact.Statement.{statement}
 use Rattle.facts.proofs.list.write_fact.Tie as tie
 
-returns : tie.Need-returns
-returns c = rw (eq-eqb _ 1 (c .if1 .taken)) written-none
-
-returns-2 : tie.Need-returns-2
-returns-2 c = rw (ne-eqb _ 1 (c .before .if1 .left)) (record { next = refl; held = rw (c .fact-word .ensures) })
-
 pub write-fact-spec : {M : Type 1} → statement M
 write-fact-spec =
     tie.close
-    (tie.spec
-    returns
-    (λ c κs. search needs)
-    (λ c. search needs)
-    (λ c. search needs)
-    (λ c. search needs)
-    (λ c. search needs)
-    returns-2)
+    (tie.spec (λ c. rw (eq-eqb _ 1 (c .if1 .taken)) written-none) (λ c κs. search needs) (λ c. search needs) (λ c. search needs) (λ c. search needs)
+    (λ c. search needs) (λ c. rw (ne-eqb _ 1 (c .before .if1 .left)) (record { next = refl; held = rw (c .fact-word .ensures) })))

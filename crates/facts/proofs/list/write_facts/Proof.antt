@@ -21,9 +21,6 @@ entry c = c .before .before .before .before .before
 abbrev turn-place : tie.After-slice-known2 Inv-loop μ-loop → tie.At-loop Inv-loop μ-loop
 turn-place c = c .before .before .before .before .before .before
 
-loop-holds : tie.Need-loop-holds Inv-loop μ-loop
-loop-holds c = (omega arith, simp row-none written-none)
-
 write-fact-requires : tie.Need-write-fact-requires Inv-loop μ-loop
 write-fact-requires c κs =
     let a = entry c .args in
@@ -36,25 +33,9 @@ loop-again c =
     let turn = turn-place c .loop in
     (omega arith, written-more (row-more (a .history .now) (a .head) (a .t) (turn .f)) (turn .inv .1) (c .before .before .write-fact .ensures))
 
-same-length : tie.Need-same-length Inv-loop μ-loop
-same-length c = written-size (c .before .loop .inv .1)
-
-returns : tie.Need-returns Inv-loop μ-loop
-returns c = let e : c .before .loop .f ≡ c .before .before .before .args .n = omega arith in rw e at (c .before .loop .inv .1)
-
 pub write-facts-spec : {M : Type 1} → statement M
 write-facts-spec =
     tie.close
-    (tie.spec
-    Inv-loop
-    μ-loop
-    loop-holds
-    (λ c. search needs)
-    (λ c. search needs)
-    (λ c. search needs)
-    write-fact-requires
-    (λ c. search needs)
-    (λ c. search needs)
-    loop-again
-    same-length
-    returns)
+    (tie.spec Inv-loop μ-loop (λ c. (omega arith, simp row-none written-none)) (λ c. search needs) (λ c. search needs) (λ c. search needs)
+    write-fact-requires (λ c. search needs) (λ c. search needs) loop-again (λ c. written-size (c .before .loop .inv .1))
+    (λ c. let e : c .before .loop .f ≡ c .before .before .before .args .n = omega arith in rw e at (c .before .loop .inv .1)))

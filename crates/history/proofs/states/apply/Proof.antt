@@ -19,31 +19,14 @@ abbrev μ-loop : tie.MeasureT-loop
 abbrev turn : tie.After-changed Inv-loop μ-loop → tie.At-loop Inv-loop μ-loop
 turn c = c .before .before .before .before
 
-loop-holds : tie.Need-loop-holds Inv-loop μ-loop
-loop-holds c = (omega arith, mapped-none)
-
 loop-again : tie.Need-loop-again Inv-loop μ-loop
 loop-again c =
     let old = turn c .loop .inv .1 in
     (omega arith, mapped-more _ (omega (arith, old .size)) old (c .changed .ensures))
 
-returns : tie.Need-returns Inv-loop μ-loop
-returns c = let e : c .before .loop .f ≡ c .before .before .args .n = omega arith in rw e at (c .before .loop .inv .1)
-
 pub apply-spec : {M : Type 1} → statement M
 apply-spec =
     tie.close
-    (tie.spec
-    Inv-loop
-    μ-loop
-    loop-holds
-    (λ c. search needs)
-    (λ c. search needs)
-    (λ c. search needs)
-    (λ c. search needs)
-    (λ c κs. search needs)
-    (λ c. search needs)
-    (λ c. search needs)
-    (λ c. search needs)
-    loop-again
-    returns)
+    (tie.spec Inv-loop μ-loop (λ c. (omega arith, mapped-none)) (λ c. search needs) (λ c. search needs) (λ c. search needs) (λ c. search needs)
+    (λ c κs. search needs) (λ c. search needs) (λ c. search needs) (λ c. search needs) loop-again
+    (λ c. let e : c .before .loop .f ≡ c .before .before .args .n = omega arith in rw e at (c .before .loop .inv .1)))

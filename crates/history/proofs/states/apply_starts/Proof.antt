@@ -23,9 +23,6 @@ entry c = c .before .before .before .before .before .before
 abbrev turn : tie.After-apply-start Inv-loop μ-loop → tie.At-loop Inv-loop μ-loop
 turn c = c .before .before .before .before
 
-loop-holds : tie.Need-loop-holds Inv-loop μ-loop
-loop-holds c = (omega arith, overlaid-none (c .before .before .args .starts .now))
-
 apply-start-requires : tie.Need-apply-start-requires Inv-loop μ-loop
 apply-start-requires c κs =
     let p = entry c .pre in
@@ -36,20 +33,9 @@ loop-again c =
     let old = turn c .loop .inv in
     (omega arith, overlaid-back _ _ (c .before .before .before .loop-test .taken) (old .0) (old .1) (c .apply-start .ensures))
 
-returns : tie.Need-returns Inv-loop μ-loop
-returns c = let e : c .before .loop .i ≡ 0 = omega arith in rw e at (c .before .loop .inv .1)
-
 pub apply-starts-spec : {M : Type 1} → statement M
 apply-starts-spec =
     tie.close
-    (tie.spec
-    Inv-loop
-    μ-loop
-    loop-holds
-    (λ c. search needs)
-    (λ c. search needs)
-    (λ c. search needs)
-    apply-start-requires
-    (λ c. search needs)
-    loop-again
-    returns)
+    (tie.spec Inv-loop μ-loop (λ c. (omega arith, overlaid-none (c .before .before .args .starts .now))) (λ c. search needs) (λ c. search needs)
+    (λ c. search needs) apply-start-requires (λ c. search needs) loop-again
+    (λ c. let e : c .before .loop .i ≡ 0 = omega arith in rw e at (c .before .loop .inv .1)))

@@ -3,14 +3,5 @@ use borrow.Author.Tests.{eq-eqb, ne-eqb}
 use Rattle.history.proofs.states.changed.Statement.{statement}
 use Rattle.history.proofs.states.changed.Tie as tie
 
-returns : tie.Need-returns
-returns c = rw (eq-eqb _ 1 (c .if1 .taken))
-
-returns-2 : tie.Need-returns-2
-returns-2 c = rw (ne-eqb _ 1 (c .before .if1 .left), c .if2 .taken)
-
-returns-3 : tie.Need-returns-3
-returns-3 c = rw (ne-eqb _ 1 (c .before .if1 .left), c .if2 .left)
-
 pub changed-spec : {M : Type 1} → statement M
-changed-spec = tie.close (tie.spec returns returns-2 returns-3)
+changed-spec = tie.close (tie.spec (λ c. rw (eq-eqb _ 1 (c .if1 .taken))) (λ c. rw (ne-eqb _ 1 (c .before .if1 .left), c .if2 .taken)) (λ c. rw (ne-eqb _ 1 (c .before .if1 .left), c .if2 .left)))

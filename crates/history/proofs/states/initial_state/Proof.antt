@@ -24,9 +24,6 @@ entry c = c .before .before .before .before
 abbrev turn : tie.After-store-known Inv-loop μ-loop → tie.At-loop Inv-loop μ-loop
 turn c = c .before .before .before .before
 
-loop-holds : tie.Need-loop-holds Inv-loop μ-loop
-loop-holds c = (omega arith, overlaid-none (c .before .before .args .job .now))
-
 loop-again : tie.Need-loop-again Inv-loop μ-loop
 loop-again c =
     let old = turn c .loop .inv in
@@ -43,15 +40,5 @@ returns c =
 pub initial-state-spec : {M : Type 1} → statement M
 initial-state-spec =
     tie.close
-    (tie.spec
-    Inv-loop
-    μ-loop
-    (λ c. search needs)
-    loop-holds
-    (λ c. search needs)
-    (λ c. search needs)
-    (λ c. search needs)
-    (λ c κs. search needs)
-    (λ c. search needs)
-    loop-again
-    returns)
+    (tie.spec Inv-loop μ-loop (λ c. search needs) (λ c. (omega arith, overlaid-none (c .before .before .args .job .now))) (λ c. search needs)
+    (λ c. search needs) (λ c. search needs) (λ c κs. search needs) (λ c. search needs) loop-again returns)

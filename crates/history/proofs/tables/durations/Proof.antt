@@ -44,12 +44,6 @@ loop-holds c =
       small = replicate-all (λ (v : ℕ). v < 64) 64 0 (omega arith) (omega arith);
     }
 
-mul-duration-of : tie.Need-mul-duration-of Inv-loop μ-loop
-mul-duration-of c = omega (arith, entry (c .before) .pre .1 .inside _ (counted (c .before)))
-
-shared-slice-read-duration-of : tie.Need-shared-slice-read-duration-of Inv-loop μ-loop
-shared-slice-read-duration-of c = entry (inside c) .pre .1 .inside _ (counted (inside c))
-
 loop-again : tie.Need-loop-again Inv-loop μ-loop
 loop-again c =
     let here = inside (c .before) in
@@ -74,20 +68,6 @@ returns c =
 pub durations-spec : {M : Type 1} → statement M
 durations-spec =
     tie.close
-    (tie.spec
-    Inv-loop
-    μ-loop
-    (λ c. search needs)
-    (λ c κs. search needs)
-    loop-holds
-    (λ c. search needs)
-    (λ c. search needs)
-    mul-duration-of
-    shared-slice-read-duration-of
-    (λ c κs. search needs)
-    (λ c. search needs)
-    (λ c. search needs)
-    (λ c. search needs)
-    (λ c. search needs)
-    loop-again
-    returns)
+    (tie.spec Inv-loop μ-loop (λ c. search needs) (λ c κs. search needs) loop-holds (λ c. search needs) (λ c. search needs)
+    (λ c. omega (arith, entry (c .before) .pre .1 .inside _ (counted (c .before)))) (λ c. entry (inside c) .pre .1 .inside _ (counted (inside c)))
+    (λ c κs. search needs) (λ c. search needs) (λ c. search needs) (λ c. search needs) (λ c. search needs) loop-again returns)

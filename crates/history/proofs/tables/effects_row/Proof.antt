@@ -21,28 +21,14 @@ abbrev μ-loop : tie.MeasureT-loop
 abbrev turn : tie.After-store-law Inv-loop μ-loop → tie.At-loop Inv-loop μ-loop
 turn c = c .before .before .before .before
 
-loop-holds : tie.Need-loop-holds Inv-loop μ-loop
-loop-holds c = (omega arith, overlaid-none (c .before .args .laws .now))
-
 loop-again : tie.Need-loop-again Inv-loop μ-loop
 loop-again c =
     let old = turn c .loop .inv in
     (omega arith, overlaid-back _ _ (c .before .before .before .loop-test .taken) (old .0) (old .1) (c .store-law .ensures))
 
-returns : tie.Need-returns Inv-loop μ-loop
-returns c = let e : c .before .loop .i ≡ 0 = omega arith in rw e at (c .before .loop .inv .1)
-
 pub effects-row-spec : {M : Type 1} → statement M
 effects-row-spec =
     tie.close
-    (tie.spec
-    Inv-loop
-    μ-loop
-    loop-holds
-    (λ c. search needs)
-    (λ c. search needs)
-    (λ c. search needs)
-    (λ c κs. search needs)
-    (λ c. search needs)
-    loop-again
-    returns)
+    (tie.spec Inv-loop μ-loop (λ c. (omega arith, overlaid-none (c .before .args .laws .now))) (λ c. search needs) (λ c. search needs)
+    (λ c. search needs) (λ c κs. search needs) (λ c. search needs) loop-again
+    (λ c. let e : c .before .loop .i ≡ 0 = omega arith in rw e at (c .before .loop .inv .1)))

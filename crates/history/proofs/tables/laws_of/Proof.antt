@@ -31,35 +31,17 @@ module _ {job places : List ℕ} {a : ℕ} (w : WellFormed job) (p : Indexed job
 abbrev entry : tie.After-result → tie.Start
 entry c = c .before .before .before .before
 
-add-from : tie.Need-add-from
-add-from c = let pre = c .before .before .pre in omega (arith, pre .0 .short, inside (pre .0) (pre .1) (pre .2))
-
-run-length-requires : tie.Need-run-length-requires
-run-length-requires c κs = let pre = c .before .before .pre in inside (pre .0) (pre .1) (pre .2)
-
 add-end : tie.Need-add-end
 add-end c = let pre = c .before .before .before .pre in omega (arith, pre .0 .short, c .run-length .ensures, run-fits (pre .0) (pre .1) (pre .2))
 
 mul-result : tie.Need-mul-result
 mul-result c = let pre = c .before .before .before .pre in omega (arith, pre .0 .short, c .run-length .ensures, run-fits (pre .0) (pre .1) (pre .2))
 
-part-result-end : tie.Need-part-result-end
-part-result-end c = let pre = c .before .before .before .pre in omega (arith, c .run-length .ensures, run-fits (pre .0) (pre .1) (pre .2))
-
-returns : tie.Need-returns
-returns c = let pre = entry c .pre in laws (pre .0) (pre .1) (pre .2) _ (c .before .run-length .ensures)
-
 pub laws-of-spec : {M : Type 1} → statement M
 laws-of-spec =
     tie.close
-    (tie.spec
-    (λ c. search needs)
-    (λ c. search needs)
-    add-from
-    run-length-requires
-    add-end
-    mul-result
-    (λ c. search needs)
-    (λ c. search needs)
-    part-result-end
-    returns)
+    (tie.spec (λ c. search needs) (λ c. search needs)
+    (λ c. let pre = c .before .before .pre in omega (arith, pre .0 .short, inside (pre .0) (pre .1) (pre .2)))
+    (λ c κs. let pre = c .before .before .pre in inside (pre .0) (pre .1) (pre .2)) add-end mul-result (λ c. search needs) (λ c. search needs)
+    (λ c. let pre = c .before .before .before .pre in omega (arith, c .run-length .ensures, run-fits (pre .0) (pre .1) (pre .2)))
+    (λ c. let pre = entry c .pre in laws (pre .0) (pre .1) (pre .2) _ (c .before .run-length .ensures)))

@@ -14,27 +14,10 @@ Inv-loop row a table₀ f₀ table f = (f ≤ 64) × RowStored row a f table₀ 
 abbrev μ-loop : tie.MeasureT-loop
 μ-loop row a table₀ f₀ table f = 64 - f
 
-loop-holds : tie.Need-loop-holds Inv-loop μ-loop
-loop-holds c = (omega arith, row-none)
-
-loop-again : tie.Need-loop-again Inv-loop μ-loop
-loop-again c = (omega arith, row-more _ (omega (arith, c .before .before .loop .inv .1 .size)) (c .before .before .loop .inv .1))
-
-returns : tie.Need-returns Inv-loop μ-loop
-returns c = let e : c .before .loop .f ≡ 64 = omega arith in rw e at (c .before .loop .inv .1)
-
 pub store-row-spec : {M : Type 1} → statement M
 store-row-spec =
     tie.close
-    (tie.spec
-    Inv-loop
-    μ-loop
-    loop-holds
-    (λ c. search needs)
-    (λ c. search needs)
-    (λ c. search needs)
-    (λ c. search needs)
-    (λ c. search needs)
-    (λ c. search needs)
-    loop-again
-    returns)
+    (tie.spec Inv-loop μ-loop (λ c. (omega arith, row-none)) (λ c. search needs) (λ c. search needs) (λ c. search needs) (λ c. search needs)
+    (λ c. search needs) (λ c. search needs)
+    (λ c. (omega arith, row-more _ (omega (arith, c .before .before .loop .inv .1 .size)) (c .before .before .loop .inv .1)))
+    (λ c. let e : c .before .loop .f ≡ 64 = omega arith in rw e at (c .before .loop .inv .1)))

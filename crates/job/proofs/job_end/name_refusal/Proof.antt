@@ -28,9 +28,6 @@ entry c = c .before .before .before .before
 abbrev turn : tie.After-refuse Inv-loop μ-loop → tie.At-loop Inv-loop μ-loop
 turn c = c .before .before .before .before
 
-loop-holds : tie.Need-loop-holds Inv-loop μ-loop
-loop-holds c = (omega arith, first-start _)
-
 returns : tie.Need-returns Inv-loop μ-loop
 returns c =
     let five = not-once _ _ (λ e. c .before .if1 .taken (c .before .before .times-named .ensures ∙ e)) in
@@ -51,15 +48,5 @@ returns-2 c =
 pub name-refusal-spec : {M : Type 1} → statement M
 name-refusal-spec =
     tie.close
-    (tie.spec
-    Inv-loop
-    μ-loop
-    loop-holds
-    (λ c κs. search needs)
-    (λ c κs. search needs)
-    returns
-    (λ c. omega arith)
-    (λ c. omega arith)
-    loop-again
-    (λ c κs. search needs)
-    returns-2)
+    (tie.spec Inv-loop μ-loop (λ c. (omega arith, first-start _)) (λ c κs. search needs) (λ c κs. search needs) returns (λ c. omega arith)
+    (λ c. omega arith) loop-again (λ c κs. search needs) returns-2)

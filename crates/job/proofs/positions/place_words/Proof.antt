@@ -23,9 +23,6 @@ entry c = c .before .before .before .before .before .before
 abbrev turn : tie.After-kind-of Inv-loop μ-loop → tie.At-loop Inv-loop μ-loop
 turn c = c .before .before .before
 
-loop-holds : tie.Need-loop-holds Inv-loop μ-loop
-loop-holds c = (omega arith, marked-none _ _)
-
 mul-position : tie.Need-mul-position Inv-loop μ-loop
 mul-position c = omega (arith, room (turn (c .before) .loop .inv .1) _ (c .before .before .before .loop-test .taken) (sym (c .before .kind-of .ensures .0) ∙ c .if1 .taken) (entry c .pre .1))
 
@@ -55,17 +52,5 @@ returns c =
 pub place-words-spec : {M : Type 1} → statement M
 place-words-spec =
     tie.close
-    (tie.spec
-    Inv-loop
-    μ-loop
-    loop-holds
-    (λ c. search needs)
-    (λ c. search needs)
-    (λ c κs. search needs)
-    mul-position
-    array-write-position
-    add-total
-    (λ c. search needs)
-    (λ c. search needs)
-    loop-again
-    returns)
+    (tie.spec Inv-loop μ-loop (λ c. (omega arith, marked-none _ _)) (λ c. search needs) (λ c. search needs) (λ c κs. search needs) mul-position
+    array-write-position add-total (λ c. search needs) (λ c. search needs) loop-again returns)

@@ -7,10 +7,5 @@ use Rattle.job.proofs.rules.node_range.Tie as tie
 pub node-range-spec : {M : Type 1} → statement M
 node-range-spec =
     tie.close
-    (tie.spec
-    (λ c κs. search needs)
-    (λ c κs. search needs)
-    (λ c κs. search needs)
-    (λ c κs. search needs)
-    (λ c κs. search needs)
+    (tie.spec (λ c κs. search needs) (λ c κs. search needs) (λ c κs. search needs) (λ c κs. search needs) (λ c κs. search needs)
     (λ c. let early = c .before .before .before in let s = early .before .before in rw (c .node-n .ensures .0, c .before .node-m .ensures .0, c .before .before .node-y .ensures .0, early .node-x .ensures .0, early .before .form-of .ensures .0, children-below (s .args .w) (s .args .nodes))))

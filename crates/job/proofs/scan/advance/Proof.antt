@@ -5,9 +5,6 @@ use borrow.Author.Needs.{needs}
 use Rattle.job.proofs.scan.advance.Statement.{statement}
 use Rattle.job.proofs.scan.advance.Tie as tie
 
-add-actions : tie.Need-add-actions
-add-actions c = let s = c .before .before .before .before .before in omega (arith, count-before 3 (s .args .job .now) (s .args .i))
-
 add-formulas : tie.Need-add-formulas
 add-formulas c = let s = c .before .before .before .before .before .before .before in omega (arith, count-before 5 (s .args .job .now) (s .args .i))
 
@@ -43,21 +40,7 @@ returns c =
 pub advance-spec : {M : Type 1} → statement M
 advance-spec =
     tie.close
-    (tie.spec
-    (λ c. search needs)
-    (λ c. search needs)
-    (λ c κs. search needs)
-    (λ c κs. search needs)
-    add-actions
-    (λ c κs. search needs)
-    add-formulas
-    (λ c κs. search needs)
-    add-nodes
-    (λ c κs. search needs)
-    add-pick-count
-    (λ c κs. search needs)
-    (λ c κs. search needs)
-    add-pick-count-2
-    (λ c κs. search needs)
-    (λ c κs. search needs)
-    returns)
+    (tie.spec (λ c. search needs) (λ c. search needs) (λ c κs. search needs) (λ c κs. search needs)
+    (λ c. let s = c .before .before .before .before .before in omega (arith, count-before 3 (s .args .job .now) (s .args .i)))
+    (λ c κs. search needs) add-formulas (λ c κs. search needs) add-nodes (λ c κs. search needs) add-pick-count (λ c κs. search needs)
+    (λ c κs. search needs) add-pick-count-2 (λ c κs. search needs) (λ c κs. search needs) returns)

@@ -26,9 +26,6 @@ turn c = c .before .before .before
 abbrev inside : tie.After-same-fluent Inv-loop μ-loop → tie.In-loop Inv-loop μ-loop
 inside c = c .before .before .before .before
 
-loop-holds : tie.Need-loop-holds Inv-loop μ-loop
-loop-holds c = (search needs, refl)
-
 returns : tie.Need-returns Inv-loop μ-loop
 returns c =
     rw
@@ -64,18 +61,5 @@ returns-3 c =
 pub listed-spec : {M : Type 1} → statement M
 listed-spec =
     tie.close
-    (tie.spec
-    Inv-loop
-    μ-loop
-    loop-holds
-    (λ c. omega arith)
-    (λ c. omega arith)
-    (λ c. omega arith)
-    (λ c κs. search needs)
-    returns
-    (λ c κs. search needs)
-    returns-2
-    (λ c. omega arith)
-    (λ c. omega arith)
-    loop-again
-    returns-3)
+    (tie.spec Inv-loop μ-loop (λ c. (search needs, refl)) (λ c. omega arith) (λ c. omega arith) (λ c. omega arith) (λ c κs. search needs) returns
+    (λ c κs. search needs) returns-2 (λ c. omega arith) (λ c. omega arith) loop-again returns-3)

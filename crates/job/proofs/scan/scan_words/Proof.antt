@@ -34,9 +34,6 @@ entry c = c .before .before .before .before
 abbrev turn : tie.After-word-refusal Inv-loop μ-loop → tie.At-loop Inv-loop μ-loop
 turn c = c .before .before
 
-loop-holds : tie.Need-loop-holds Inv-loop μ-loop
-loop-holds c = record { inside = omega arith; state = tied-start _; none = first-start _ }
-
 returns : tie.Need-returns Inv-loop μ-loop
 returns c =
     let e = c .before .before .word-refusal .ensures in (
@@ -64,16 +61,7 @@ returns-2 c =
 pub scan-words-spec : {M : Type 1} → statement M
 scan-words-spec =
     tie.close
-    (tie.spec
-    Inv-loop
-    μ-loop
-    loop-holds
-    (λ c κs. (c .loop-test .taken, c .before .loop .inv .state))
-    (λ c κs. search needs)
-    returns
-    (λ c κs. (c .before .before .loop-test .taken, c .before .before .before .loop .inv .state))
-    (λ c. omega arith)
-    (λ c. omega arith)
-    loop-again
-    (λ c κs. search needs)
-    returns-2)
+    (tie.spec Inv-loop μ-loop (λ c. record { inside = omega arith; state = tied-start _; none = first-start _ })
+    (λ c κs. (c .loop-test .taken, c .before .loop .inv .state)) (λ c κs. search needs) returns
+    (λ c κs. (c .before .before .loop-test .taken, c .before .before .before .loop .inv .state)) (λ c. omega arith) (λ c. omega arith) loop-again
+    (λ c κs. search needs) returns-2)

@@ -37,24 +37,9 @@ returns-10 c =
 pub word-refusal-spec : {M : Type 1} → statement M
 word-refusal-spec =
     tie.close
-    (tie.spec
-    (λ c. search needs)
-    (λ c. search needs)
-    (λ c. omega arith)
-    (λ c κs. search needs)
-    (λ c κs. omega arith)
-    (λ c κs. search needs)
-    returns
-    (λ c κs. search needs)
-    (λ c κs. search needs)
-    (λ c κs. search needs)
-    (λ c κs. search needs)
-    (λ c κs. search needs)
-    (λ c κs. search needs)
-    (λ c κs. search needs)
-    (λ c κs. search needs)
-    (λ c κs. search needs)
-    (λ c κs. search needs)
+    (tie.spec (λ c. search needs) (λ c. search needs) (λ c. omega arith) (λ c κs. search needs) (λ c κs. omega arith) (λ c κs. search needs) returns
+    (λ c κs. search needs) (λ c κs. search needs) (λ c κs. search needs) (λ c κs. search needs) (λ c κs. search needs) (λ c κs. search needs)
+    (λ c κs. search needs) (λ c κs. search needs) (λ c κs. search needs) (λ c κs. search needs)
     (λ c. rw (passed (c .before .before) 1 (c .before .match .keys1)) (c .head .ensures))
     (λ c. rw (passed (c .before .before .before) 2 (c .before .before .match .keys2), ← (c .before .listed .ensures)) (c .known .ensures))
     (λ c. rw (passed (c .before .before) 3 (c .before .match .keys3), ← (entry (c .before .before) .pre .1 .actions)) (c .action .ensures))

@@ -25,18 +25,6 @@ after-find-reading c = c .before .before .before .before
 within : (c : tie.After-starts-length) → c .starts-length .result ≤ length (entry c .args .plan .now)
 within c = starts-fit (entry c .args .plan .now) _ (c .starts-length .ensures)
 
-slice-aggregate-find-reading : tie.Need-slice-aggregate-find-reading
-slice-aggregate-find-reading c = sym (length-take-le _ (entry (c .before) .args .plan .now) (within (c .before)))
-
-mul-find-reading : tie.Need-mul-find-reading
-mul-find-reading c = omega (arith, within (c .before))
-
-sub-find-reading : tie.Need-sub-find-reading
-sub-find-reading c = within (c .before)
-
-part-find-reading-start : tie.Need-part-find-reading-start
-part-find-reading-start c = omega (arith, within (c .before))
-
 report-requires : tie.Need-report-requires
 report-requires c κs =
     let found = after-find-reading c in
@@ -53,15 +41,6 @@ returns c =
 pub reply-words-spec : {M : Type 1} → statement M
 reply-words-spec =
     tie.close
-    (tie.spec
-    (λ c κs. search needs)
-    slice-aggregate-find-reading
-    mul-find-reading
-    sub-find-reading
-    part-find-reading-start
-    (λ c. search needs)
-    (λ c κs. search needs)
-    report-requires
-    (λ c. search needs)
-    (λ c. search needs)
-    returns)
+    (tie.spec (λ c κs. search needs) (λ c. sym (length-take-le _ (entry (c .before) .args .plan .now) (within (c .before))))
+    (λ c. omega (arith, within (c .before))) (λ c. within (c .before)) (λ c. omega (arith, within (c .before))) (λ c. search needs)
+    (λ c κs. search needs) report-requires (λ c. search needs) (λ c. search needs) returns)

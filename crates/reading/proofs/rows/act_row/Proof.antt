@@ -7,25 +7,11 @@ use borrow.Author.Needs.{needs}
 use Rattle.reading.proofs.rows.act_row.Statement.{statement}
 use Rattle.reading.proofs.rows.act_row.Tie as tie
 
-returns : tie.Need-returns
-returns c = in-none (λ e h. omega (arith, h .1, h .2))
-
 returns-2 : tie.Need-returns-2
 returns-2 c = λ e. let s = in-single (c .single .ensures) e in (λ t. let q = s .0 t in (sym (c .before .before .has .ensures) ∙ c .before .if2 .taken, q, omega arith), λ h. s .1 (h .1))
-
-returns-3 : tie.Need-returns-3
-returns-3 c = in-none (λ e h. not-both (h .0) (sym (c .before .has .ensures) ∙ c .if2 .left))
 
 pub act-row-spec : {M : Type 1} → statement M
 act-row-spec =
     tie.close
-    (tie.spec
-    (λ c. search needs)
-    returns
-    (λ c. search needs)
-    (λ c κs. search needs)
-    (λ c. search needs)
-    (λ c. search needs)
-    (λ c κs. search needs)
-    returns-2
-    returns-3)
+    (tie.spec (λ c. search needs) (λ c. in-none (λ e h. omega (arith, h .1, h .2))) (λ c. search needs) (λ c κs. search needs) (λ c. search needs)
+    (λ c. search needs) (λ c κs. search needs) returns-2 (λ c. in-none (λ e h. not-both (h .0) (sym (c .before .has .ensures) ∙ c .if2 .left))))

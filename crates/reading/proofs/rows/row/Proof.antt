@@ -1,5 +1,5 @@
 -- `reading::rows::row` meets its contract: in each arm the rule of the form is what the row function ensures. Assumes nothing.
-use Prim.Native.Nat.{ℕ, _<_}
+use Prim.Native.Nat.{ℕ}
 use mathlib.Core.Path.{_≡_, sym, ap, _∙_}
 use native.Mathlib.Omega.{arith}
 use Rattle.words.specs.Fields.{form, nodeX, nodeY, nodeM, nodeN}
@@ -95,12 +95,6 @@ end-window-row-requires c κs =
 
 -- ---- what each arm gives
 
-returns : tie.Need-returns
-returns c = let a = c .before .before .before in λ e. rw (form-is (a .before) (a .match .keys1), ← x-is (a .before)) (c .act-row .ensures e)
-
-returns-2 : tie.Need-returns-2
-returns-2 c = let a = c .before .before in λ e. rw (form-is (a .before) (a .match .keys2), ← x-is (a .before)) (c .test-row .ensures e)
-
 returns-3 : tie.Need-returns-3
 returns-3 c = let a = c .before in λ e. rw (form-is (a .before) (a .match .keys3), ← y-is (a .before), ← x-is (a .before)) (c .sequence-row .ensures e)
 
@@ -121,55 +115,20 @@ returns-8 : tie.Need-returns-8
 returns-8 c = let a = c .before in λ e.
     rw (form-is (a .before) (a .match .keys8), ← n-is (a .before), ← m-is (a .before), ← y-is (a .before), ← x-is (a .before)) (c .end-window-row .ensures e)
 
-returns-9 : tie.Need-returns-9
-returns-9 c = absurd (entry (c .before) .pre .single (ap formNumber (form-is (c .before) (c .match .keys9))))
-
 returns-10 : tie.Need-returns-10
 returns-10 c =
     let f = c .before .before in
     λ e. rw (rw (f .form-of .ensures .0) at (no-form (f .form-of .result) (c .before .match .rest))) (in-none (λ e z. z) e)
 
-returns-11 : tie.Need-returns-11
-returns-11 c = absurd (omega (arith, c .before .before .form-of .ensures .1))
-
 pub row-spec : {M : Type 1} → statement M
 row-spec =
     tie.close
-    (tie.spec
-    (λ c κs. search needs)
-    (λ c κs. search needs)
-    (λ c κs. search needs)
-    (λ c κs. search needs)
-    (λ c κs. search needs)
-    (λ c. search needs)
-    (λ c. search needs)
-    (λ c. search needs)
-    (λ c. search needs)
-    (λ c κs. search needs)
-    (λ c. search needs)
-    (λ c. search needs)
-    (λ c. search needs)
-    (λ c κs. search needs)
-    sequence-row-requires
-    choice-row-requires
-    (λ c. search needs)
-    (λ c. search needs)
-    (λ c. search needs)
-    if-row-requires
-    (λ c. search needs)
-    (λ c. search needs)
-    (λ c. search needs)
-    while-row-requires
-    start-window-row-requires
-    end-window-row-requires
-    returns
-    returns-2
-    returns-3
-    returns-4
-    returns-5
-    returns-6
-    returns-7
-    returns-8
-    returns-9
-    returns-10
-    returns-11)
+    (tie.spec (λ c κs. search needs) (λ c κs. search needs) (λ c κs. search needs) (λ c κs. search needs) (λ c κs. search needs) (λ c. search needs)
+    (λ c. search needs) (λ c. search needs) (λ c. search needs) (λ c κs. search needs) (λ c. search needs) (λ c. search needs) (λ c. search needs)
+    (λ c κs. search needs) sequence-row-requires choice-row-requires (λ c. search needs) (λ c. search needs) (λ c. search needs) if-row-requires
+    (λ c. search needs) (λ c. search needs) (λ c. search needs) while-row-requires start-window-row-requires end-window-row-requires
+    (λ c. let a = c .before .before .before in λ e. rw (form-is (a .before) (a .match .keys1), ← x-is (a .before)) (c .act-row .ensures e))
+    (λ c. let a = c .before .before in λ e. rw (form-is (a .before) (a .match .keys2), ← x-is (a .before)) (c .test-row .ensures e)) returns-3
+    returns-4 returns-5 returns-6 returns-7 returns-8
+    (λ c. absurd (entry (c .before) .pre .single (ap formNumber (form-is (c .before) (c .match .keys9))))) returns-10
+    (λ c. absurd (omega (arith, c .before .before .form-of .ensures .1))))

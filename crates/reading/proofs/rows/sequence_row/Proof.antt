@@ -13,11 +13,4 @@ returns c = λ e. let j = in-joined (c .join-rows .ensures) e in (
 pub sequence-row-spec : {M : Type 1} → statement M
 sequence-row-spec =
     tie.close
-    (tie.spec
-    (λ c. search needs)
-    (λ c. search needs)
-    (λ c. search needs)
-    (λ c. search needs)
-    (λ c. search needs)
-    (λ c κs. search needs)
-    returns)
+    (tie.spec (λ c. search needs) (λ c. search needs) (λ c. search needs) (λ c. search needs) (λ c. search needs) (λ c κs. search needs) returns)

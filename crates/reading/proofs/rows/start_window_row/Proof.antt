@@ -1,5 +1,4 @@
 -- `reading::rows::start_window_row` meets its contract. Assumes nothing.
-use native.Mathlib.Omega.{arith}
 use Rattle.bitset.proofs.In.{in-joined, in-max}
 use borrow.Author.Needs.{needs}
 use Rattle.reading.proofs.rows.start_window_row.Statement.{statement}
@@ -17,15 +16,5 @@ returns c = λ e.
 pub start-window-row-spec : {M : Type 1} → statement M
 start-window-row-spec =
     tie.close
-    (tie.spec
-    (λ c. search needs)
-    (λ c. search needs)
-    (λ c κs. search needs)
-    (λ c. search needs)
-    (λ c. search needs)
-    (λ c. search needs)
-    (λ c. search needs)
-    (λ c. search needs)
-    (λ c κs. search needs)
-    (λ c κs. search needs)
-    returns)
+    (tie.spec (λ c. search needs) (λ c. search needs) (λ c κs. search needs) (λ c. search needs) (λ c. search needs) (λ c. search needs)
+    (λ c. search needs) (λ c. search needs) (λ c κs. search needs) (λ c κs. search needs) returns)

@@ -26,24 +26,9 @@ returns-2 c = λ e.
       ⊎-elim (λ h. absurd (omega (arith, h .0))) (λ h. j .1 (h .1 .0, x (h .1 .0) .1 (h .1 .3, w (h .1 .0) .1 (h .1 .1, h .1 .2, h .1 .2)), h .1 .4)),
     )
 
-returns-3 : tie.Need-returns-3
-returns-3 c = in-none (λ e. ⊎-elim (λ h. c .before .if1 .left (h .0)) (λ h. c .if2 .left (h .0)))
-
 pub while-row-spec : {M : Type 1} → statement M
 while-row-spec =
     tie.close
-    (tie.spec
-    (λ c. search needs)
-    (λ c κs. search needs)
-    returns
-    (λ c. search needs)
-    (λ c. search needs)
-    (λ c. search needs)
-    (λ c. search needs)
-    (λ c. search needs)
-    (λ c κs. search needs)
-    (λ c κs. search needs)
-    (λ c. search needs)
-    (λ c κs. search needs)
-    returns-2
-    returns-3)
+    (tie.spec (λ c. search needs) (λ c κs. search needs) returns (λ c. search needs) (λ c. search needs) (λ c. search needs) (λ c. search needs)
+    (λ c. search needs) (λ c κs. search needs) (λ c κs. search needs) (λ c. search needs) (λ c κs. search needs) returns-2
+    (λ c. in-none (λ e. ⊎-elim (λ h. c .before .if1 .left (h .0)) (λ h. c .if2 .left (h .0)))))

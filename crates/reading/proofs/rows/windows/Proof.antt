@@ -16,32 +16,12 @@ abbrev μ-loop : tie.MeasureT-loop
 abbrev turn : tie.After-drop-lowest Inv-loop μ-loop → tie.At-loop Inv-loop μ-loop
 turn c = c .before .before .before .before .before
 
-loop-holds : tie.Need-loop-holds Inv-loop μ-loop
-loop-holds c = split-start
-
-loop-less : tie.Need-loop-less Inv-loop μ-loop
-loop-less c = omega (arith, c .drop-lowest .ensures .fewer)
-
 loop-again : tie.Need-loop-again Inv-loop μ-loop
 loop-again c = split-turn (c .before .before .window .result) (turn c .loop .inv) (c .before .before .before .lowest .ensures) (c .drop-lowest .ensures) (c .before .before .window .ensures) (c .before .union .ensures)
-
-returns : tie.Need-returns Inv-loop μ-loop
-returns c = split-end (omega arith) (c .before .loop .inv)
 
 pub windows-spec : {M : Type 1} → statement M
 windows-spec =
     tie.close
-    (tie.spec
-    Inv-loop
-    μ-loop
-    loop-holds
-    (λ c κs. search needs)
-    (λ c. search needs)
-    (λ c. search needs)
-    (λ c. search needs)
-    (λ c κs. search needs)
-    (λ c κs. search needs)
-    (λ c κs. search needs)
-    loop-less
-    loop-again
-    returns)
+    (tie.spec Inv-loop μ-loop (λ c. split-start) (λ c κs. search needs) (λ c. search needs) (λ c. search needs) (λ c. search needs)
+    (λ c κs. search needs) (λ c κs. search needs) (λ c κs. search needs) (λ c. omega (arith, c .drop-lowest .ensures .fewer)) loop-again
+    (λ c. split-end (omega arith) (c .before .loop .inv)))

@@ -70,15 +70,5 @@ returns-2 c =
 pub fill-node-spec : {M : Type 1} → statement M
 fill-node-spec =
     tie.close
-    (tie.spec
-    (λ c. search needs)
-    (λ c. search needs)
-    (λ c. search needs)
-    (λ c. search needs)
-    (λ c κs. search needs)
-    fill-set-requires
-    fill-rows-requires
-    (λ c. search needs)
-    returns
-    (λ c. search needs)
-    returns-2)
+    (tie.spec (λ c. search needs) (λ c. search needs) (λ c. search needs) (λ c. search needs) (λ c κs. search needs) fill-set-requires
+    fill-rows-requires (λ c. search needs) returns (λ c. search needs) returns-2)

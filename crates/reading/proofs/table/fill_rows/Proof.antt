@@ -17,39 +17,14 @@ abbrev μ-loop : tie.MeasureT-loop
 abbrev entry : tie.After-row-arg Inv-loop μ-loop → tie.Start Inv-loop μ-loop
 entry c = c .before .before .before .before
 
-loop-holds : tie.Need-loop-holds Inv-loop μ-loop
-loop-holds c = (omega arith, rows-start)
-
-row-requires : tie.Need-row-requires Inv-loop μ-loop
-row-requires c κs = let s = entry c .pre in row-ready (s .0) (omega arith) (omega arith) (c .before .before .loop .inv .1) (s .1)
-
-slice-write-table : tie.Need-slice-write-table Inv-loop μ-loop
-slice-write-table c = let s = entry (c .before) .pre .0 in omega (arith, s .room, s .moments, c .before .before .before .loop .inv .1 .size)
-
 loop-again : tie.Need-loop-again Inv-loop μ-loop
 loop-again c = let s = entry (c .before) .pre in (omega arith, rows-more (s .0) (omega arith) (omega arith) (c .before .before .before .loop .inv .1) (c .row .ensures))
-
-same-length : tie.Need-same-length Inv-loop μ-loop
-same-length c = c .before .loop .inv .1 .size
-
-returns : tie.Need-returns Inv-loop μ-loop
-returns c = rows-end (omega arith) (c .before .loop .inv .1)
 
 pub fill-rows-spec : {M : Type 1} → statement M
 fill-rows-spec =
     tie.close
-    (tie.spec
-    Inv-loop
-    μ-loop
-    (λ c. search needs)
-    loop-holds
-    (λ c. search needs)
-    row-requires
-    (λ c. search needs)
-    (λ c. search needs)
-    (λ c. search needs)
-    slice-write-table
-    (λ c. search needs)
-    loop-again
-    same-length
-    returns)
+    (tie.spec Inv-loop μ-loop (λ c. search needs) (λ c. (omega arith, rows-start)) (λ c. search needs)
+    (λ c κs. let s = entry c .pre in row-ready (s .0) (omega arith) (omega arith) (c .before .before .loop .inv .1) (s .1)) (λ c. search needs)
+    (λ c. search needs) (λ c. search needs)
+    (λ c. let s = entry (c .before) .pre .0 in omega (arith, s .room, s .moments, c .before .before .before .loop .inv .1 .size))
+    (λ c. search needs) loop-again (λ c. c .before .loop .inv .1 .size) (λ c. rows-end (omega arith) (c .before .loop .inv .1)))

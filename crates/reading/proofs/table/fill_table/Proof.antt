@@ -36,9 +36,6 @@ procedure s count = procedureAt (now (s .args .words)) (now (s .args .places)) c
 abbrev trajectory : tie.Start Inv-loop μ-loop → Trajectory
 trajectory s = trajectoryAt (now (s .args .starts)) (now (s .args .durations)) (now (s .args .values)) (s .args .last)
 
-loop-holds : tie.Need-loop-holds Inv-loop μ-loop
-loop-holds c = (omega arith, built-start (c .before .before .pre .1))
-
 fill-node-requires : tie.Need-fill-node-requires Inv-loop μ-loop
 fill-node-requires c κs =
     let s = entry1 (c .before .before) in
@@ -58,22 +55,9 @@ loop-again c =
           (same-rows (procedure s (s .args .count)) (procedure s 64) (trajectory s) (v .p) refl (λ f. (refl, refl)) (c .before .before .fill-node .ensures)) (search needs),
     )
 
-same-length : tie.Need-same-length Inv-loop μ-loop
-same-length c = c .before .loop .inv .1 .size ∙ sym (entry1 (c .before) .pre .1 .size)
-
-returns : tie.Need-returns Inv-loop μ-loop
-returns c = built-end (omega arith) (c .before .loop .inv .1)
-
 pub fill-table-spec : {M : Type 1} → statement M
 fill-table-spec =
     tie.close
-    (tie.spec
-    Inv-loop
-    μ-loop
-    loop-holds
-    fill-node-requires
-    (λ c. search needs)
-    (λ c. search needs)
-    loop-again
-    same-length
-    returns)
+    (tie.spec Inv-loop μ-loop (λ c. (omega arith, built-start (c .before .before .pre .1))) fill-node-requires (λ c. search needs)
+    (λ c. search needs) loop-again (λ c. c .before .loop .inv .1 .size ∙ sym (entry1 (c .before) .pre .1 .size))
+    (λ c. built-end (omega arith) (c .before .loop .inv .1)))

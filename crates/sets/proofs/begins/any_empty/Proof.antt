@@ -12,23 +12,9 @@ Inv-loop count ends i₀ i = i ≤ count
 abbrev μ-loop : tie.MeasureT-loop
 μ-loop count ends i₀ i = count - i
 
-returns : tie.Need-returns Inv-loop μ-loop
-returns c = λ z. record { at = _; below = c .before .loop-test .taken; is = c .if1 .taken }
-
-returns-2 : tie.Need-returns-2 Inv-loop μ-loop
-returns-2 c = λ z. absurd (false≢true z)
-
 pub any-empty-spec : {M : Type 1} → statement M
 any-empty-spec =
     tie.close
-    (tie.spec
-    Inv-loop
-    μ-loop
-    (λ c. omega arith)
-    (λ c. search needs)
-    (λ c. search needs)
-    returns
-    (λ c. search needs)
-    (λ c. search needs)
-    (λ c. omega arith)
-    returns-2)
+    (tie.spec Inv-loop μ-loop (λ c. omega arith) (λ c. search needs) (λ c. search needs)
+    (λ c. λ z. record { at = _; below = c .before .loop-test .taken; is = c .if1 .taken }) (λ c. search needs) (λ c. search needs)
+    (λ c. omega arith) (λ c. λ z. absurd (false≢true z)))

@@ -13,11 +13,4 @@ returns c = λ e. let b = in-both (c .inter .ensures) e in let w = in-between (c
 pub ends-at-spec : {M : Type 1} → statement M
 ends-at-spec =
     tie.close
-    (tie.spec
-    (λ c. search needs)
-    (λ c. search needs)
-    (λ c. search needs)
-    (λ c. search needs)
-    (λ c κs. search needs)
-    (λ c κs. search needs)
-    returns)
+    (tie.spec (λ c. search needs) (λ c. search needs) (λ c. search needs) (λ c. search needs) (λ c κs. search needs) (λ c κs. search needs) returns)

@@ -18,9 +18,6 @@ Inv-loop table m a z n r₀ x₀ r x = (a ≤ x) × (x ≤ z + 1) × ((e : ℕ) 
 abbrev μ-loop : tie.MeasureT-loop
 μ-loop table m a z n r₀ x₀ r x = z + 1 - x
 
-loop-holds : tie.Need-loop-holds Inv-loop μ-loop
-loop-holds c = (omega arith, omega arith, in-none (λ e. begun-none))
-
 loop-again : tie.Need-loop-again Inv-loop μ-loop
 loop-again c = let l = c .before .before .before .loop in (
   omega (arith, l .inv .0),
@@ -28,19 +25,8 @@ loop-again c = let l = c .before .before .before .loop in (
   in-more (λ e. gain (c .before .ends-at .result) (c .union .ensures) (c .before .ends-at .ensures e)) (λ e. begun-more (l .x) (l .inv .0)) (l .inv .2),
 )
 
-returns : tie.Need-returns Inv-loop μ-loop
-returns c = let l = c .before .loop in λ e. begun-upto (omega arith) (l .inv .2 e)
-
 pub ends-from-spec : {M : Type 1} → statement M
 ends-from-spec =
     tie.close
-    (tie.spec
-    Inv-loop
-    μ-loop
-    loop-holds
-    (λ c κs. search needs)
-    (λ c κs. search needs)
-    (λ c. search needs)
-    (λ c. search needs)
-    loop-again
-    returns)
+    (tie.spec Inv-loop μ-loop (λ c. (omega arith, omega arith, in-none (λ e. begun-none))) (λ c κs. search needs) (λ c κs. search needs)
+    (λ c. search needs) (λ c. search needs) loop-again (λ c. let l = c .before .loop in λ e. begun-upto (omega arith) (l .inv .2 e)))

@@ -34,9 +34,6 @@ returns c = let s = c .before .before .before .before .before in let g = s .pre 
 spans-requires : tie.Need-spans-requires
 spans-requires c κs = let g = c .before .before .before .before .before .pre .0 in (omega (arith, g .step, g .formed .few), λ i. omega (arith, g .moments i, g .formed .moments))
 
-first-outside-requires : tie.Need-first-outside-requires
-first-outside-requires c κs = let g = c .before .before .before .before .before .before .pre .0 in (g .from, g .formed .moments)
-
 returns-2 : tie.Need-returns-2
 returns-2 c =
     let s = c .before .before .before .before .before .before .before .before in
@@ -44,15 +41,6 @@ returns-2 c =
     let m = c .before .before .spans in
     let f = c .before .first-outside .ensures in
     record { from = f .0; within = f .1; latest = λ e h. last-gap (g .sets) (left s) h (m .result) (m .ensures) (c .if2 .taken ∙ sym (length-map (s .args .members .now) memberNode)) (f .0) (f .3) }
-
-add-member-node : tie.Need-add-member-node
-add-member-node c = omega (arith, next c .1)
-
-mul-member-node : tie.Need-mul-member-node
-mul-member-node c = omega (arith, next c .1)
-
-shared-slice-read-member-node : tie.Need-shared-slice-read-member-node
-shared-slice-read-member-node c = omega (arith, next (c .before) .1)
 
 next-gap-requires : tie.Need-next-gap-requires
 next-gap-requires c κs =
@@ -77,16 +65,7 @@ returns-3 c =
 pub last-begin-spec : {M : Type 1} → statement M
 last-begin-spec =
     tie.close
-    (tie.spec
-    (λ c. search needs)
-    returns
-    spans-requires
-    first-outside-requires
-    (λ c. search needs)
-    returns-2
-    add-member-node
-    mul-member-node
-    shared-slice-read-member-node
-    (λ c κs. search needs)
-    next-gap-requires
-    returns-3)
+    (tie.spec (λ c. search needs) returns spans-requires
+    (λ c κs. let g = c .before .before .before .before .before .before .pre .0 in (g .from, g .formed .moments)) (λ c. search needs) returns-2
+    (λ c. omega (arith, next c .1)) (λ c. omega (arith, next c .1)) (λ c. omega (arith, next (c .before) .1)) (λ c κs. search needs)
+    next-gap-requires returns-3)

@@ -25,14 +25,8 @@ Inv-loop members table b n ends₀ i₀ ends i =
 abbrev μ-loop : tie.MeasureT-loop
 μ-loop members table b n ends₀ i₀ ends i = length members - i
 
-loop-holds : tie.Need-loop-holds Inv-loop μ-loop
-loop-holds c = (omega arith, refl, λ j l. absurd (omega arith), none-small)
-
 ends-from-requires : tie.Need-ends-from-requires Inv-loop μ-loop
 ends-from-requires c κs = let s = c .before .before .before .before .before .before in omega (arith, c .member-node .ensures .0, s .pre .1 (c .before .before .before .loop .i) (c .before .before .loop-test .taken), s .pre)
-
-array-write-ends : tie.Need-array-write-ends Inv-loop μ-loop
-array-write-ends c = omega (arith, c .before .before .before .before .before .before .before .pre .0, c .before .before .before .loop-test .taken)
 
 loop-again : tie.Need-loop-again Inv-loop μ-loop
 loop-again c =
@@ -48,23 +42,10 @@ loop-again c =
       small-set (l .ends) (l .i) r long (λ e t. omega (arith, c .ends-from .ensures e .0 t .within, s .pre .3)) (l .inv .3),
     )
 
-returns : tie.Need-returns Inv-loop μ-loop
-returns c = let l = c .before .loop in (λ i e g. l .inv .2 i (omega arith) e, l .inv .3)
-
 pub later-ends-spec : {M : Type 1} → statement M
 later-ends-spec =
     tie.close
-    (tie.spec
-    Inv-loop
-    μ-loop
-    loop-holds
-    (λ c. search needs)
-    (λ c. search needs)
-    (λ c κs. search needs)
-    ends-from-requires
-    (λ c. search needs)
-    array-write-ends
-    (λ c. search needs)
-    (λ c. search needs)
-    loop-again
-    returns)
+    (tie.spec Inv-loop μ-loop (λ c. (omega arith, refl, λ j l. absurd (omega arith), none-small)) (λ c. search needs) (λ c. search needs)
+    (λ c κs. search needs) ends-from-requires (λ c. search needs)
+    (λ c. omega (arith, c .before .before .before .before .before .before .before .pre .0, c .before .before .before .loop-test .taken))
+    (λ c. search needs) (λ c. search needs) loop-again (λ c. let l = c .before .loop in (λ i e g. l .inv .2 i (omega arith) e, l .inv .3)))

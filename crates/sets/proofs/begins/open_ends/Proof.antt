@@ -27,9 +27,6 @@ ends-from-requires : tie.Need-ends-from-requires
 ends-from-requires c κs = let s = c .before .before .before .before .before .before in let g = s .pre .0 in
     omega (arith, node c, g .rows (s .args .k) (left s .0), s .pre .2, s .pre .3, g .formed .moments)
 
-array-write-open : tie.Need-array-write-open
-array-write-open c = left (c .before .before .before .before .before .before .before) .1
-
 attained-requires : tie.Need-attained-requires
 attained-requires c κs = let s = c .before .before .before .before .before .before .before in let g = s .pre .0 in (
   omega (arith, g .formed .few, length-map (s .args .members .now) memberNode),
@@ -48,12 +45,5 @@ returns c = λ e h l.
 pub open-ends-spec : {M : Type 1} → statement M
 open-ends-spec =
     tie.close
-    (tie.spec
-    (λ c. search needs)
-    (λ c. search needs)
-    (λ c κs. search needs)
-    ends-from-requires
-    (λ c. search needs)
-    array-write-open
-    attained-requires
-    returns)
+    (tie.spec (λ c. search needs) (λ c. search needs) (λ c κs. search needs) ends-from-requires (λ c. search needs)
+    (λ c. left (c .before .before .before .before .before .before .before) .1) attained-requires returns)

@@ -28,15 +28,9 @@ new-small : (c : tie.After-ends-at) → let a = c .before .before .before .befor
 new-small c = let s = c .before .before .before .before .before .before .before in let g = s .pre .0 in
     small-set (s .args .ends) (s .args .k) (c .ends-at .result) (omega (arith, left s)) (λ e t. omega (arith, c .ends-at .ensures e .0 t, g .formed .moments)) (g .small)
 
-array-read-ends-at : tie.Need-array-read-ends-at
-array-read-ends-at c = left (c .before .before .before .before .before .before) .1
-
 ends-at-requires : tie.Need-ends-at-requires
 ends-at-requires c κs = let s = c .before .before .before .before .before .before in let g = s .pre .0 in
     omega (arith, node c, g .rows (s .args .k) (left s .0), g .moments (s .args .k), g .formed .moments)
-
-array-write-sets : tie.Need-array-write-sets
-array-write-sets c = left (c .before .before .before .before .before .before .before) .1
 
 narrow-requires : tie.Need-narrow-requires
 narrow-requires c κs = let s = c .before .before .before .before .before .before .before in let g = s .pre .0 in record {
@@ -57,14 +51,6 @@ returns c = let s = c .before .before .before .before .before .before .before .b
 pub place-next-spec : {M : Type 1} → statement M
 place-next-spec =
     tie.close
-    (tie.spec
-    (λ c. search needs)
-    (λ c. search needs)
-    (λ c κs. search needs)
-    (λ c. search needs)
-    array-read-ends-at
-    ends-at-requires
-    (λ c. search needs)
-    array-write-sets
-    narrow-requires
-    returns)
+    (tie.spec (λ c. search needs) (λ c. search needs) (λ c κs. search needs) (λ c. search needs)
+    (λ c. left (c .before .before .before .before .before .before) .1) ends-at-requires (λ c. search needs)
+    (λ c. left (c .before .before .before .before .before .before .before) .1) narrow-requires returns)

@@ -27,9 +27,6 @@ Inv-loop values w x n mask₀ y₀ mask y = (y ≤ n + 1) × ((z : ℕ) → In m
 abbrev μ-loop : tie.MeasureT-loop
 μ-loop values w x n mask₀ y₀ mask y = n + 1 - y
 
-loop-holds : tie.Need-loop-holds Inv-loop μ-loop
-loop-holds c = (omega arith, in-none (λ z h. let l = h .0 in omega arith))
-
 loop-again : tie.Need-loop-again Inv-loop μ-loop
 loop-again c = let a = c .before .before .before .before .args in (
   omega arith,
@@ -48,15 +45,5 @@ returns c = λ z. (
 pub allowed-spec : {M : Type 1} → statement M
 allowed-spec =
     tie.close
-    (tie.spec
-    Inv-loop
-    μ-loop
-    loop-holds
-    (λ c κs. search needs)
-    (λ c. search needs)
-    (λ c κs. search needs)
-    (λ c κs. search needs)
-    (λ c. search needs)
-    (λ c. search needs)
-    loop-again
-    returns)
+    (tie.spec Inv-loop μ-loop (λ c. (omega arith, in-none (λ z h. let l = h .0 in omega arith))) (λ c κs. search needs) (λ c. search needs)
+    (λ c κs. search needs) (λ c κs. search needs) (λ c. search needs) (λ c. search needs) loop-again returns)

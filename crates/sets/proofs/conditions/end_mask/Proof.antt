@@ -21,23 +21,10 @@ end-asked (suc (suc (suc (suc (suc f))))) x e g h = refl
 in-same : {r e a x : ℕ} → has r e ≡ has a x → In r e ↔ In a x
 in-same q = (λ t. record { yes = sym q ∙ t .yes }, λ t. record { yes = q ∙ t .yes })
 
-returns : tie.Need-returns
-returns c = λ e l. rw (c .before .before .match .keys1) (in-same (c .whole .ensures e l ∙ c .before .has .ensures))
-
-returns-2 : tie.Need-returns-2
-returns-2 c = λ e l. rw (c .before .before .match .keys2) (in-same (c .whole2 .ensures e l ∙ c .before .has2 .ensures))
-
-returns-3 : tie.Need-returns-3
-returns-3 c = λ e l. rw (end-asked _ _ e (c .match .rest .0 .1) (c .match .rest .1)) (λ t. t, λ t. t)
-
 pub end-mask-spec : {M : Type 1} → statement M
 end-mask-spec =
     tie.close
-    (tie.spec
-    (λ c κs. search needs)
-    (λ c κs. search needs)
-    (λ c κs. search needs)
-    (λ c κs. search needs)
-    returns
-    returns-2
-    returns-3)
+    (tie.spec (λ c κs. search needs) (λ c κs. search needs) (λ c κs. search needs) (λ c κs. search needs)
+    (λ c. λ e l. rw (c .before .before .match .keys1) (in-same (c .whole .ensures e l ∙ c .before .has .ensures)))
+    (λ c. λ e l. rw (c .before .before .match .keys2) (in-same (c .whole2 .ensures e l ∙ c .before .has2 .ensures)))
+    (λ c. λ e l. rw (end-asked _ _ e (c .match .rest .0 .1) (c .match .rest .1)) (λ t. t, λ t. t)))

@@ -31,33 +31,12 @@ Inv-loop values conds n allow₀ c₀ allow c =
 abbrev μ-loop : tie.MeasureT-loop
 μ-loop values conds n allow₀ c₀ allow c = length conds * 64 - c
 
-loop-holds : tie.Need-loop-holds Inv-loop μ-loop
-loop-holds c = (omega arith, refl, record { mask = λ i l. absurd (omega arith) })
-
-allowed-requires : tie.Need-allowed-requires Inv-loop μ-loop
-allowed-requires c κs = (omega arith, omega arith)
-
 loop-again : tie.Need-loop-again Inv-loop μ-loop
 loop-again c = (omega arith, simp length-set (c .before .before .before .loop .inv .1), more _ _ (omega arith) (c .before .before .before .loop .inv .2) (c .allowed .ensures))
-
-returns : tie.Need-returns Inv-loop μ-loop
-returns c = record { mask = λ i l. c .before .loop .inv .2 .mask i (omega arith) }
 
 pub fill-allowed-spec : {M : Type 1} → statement M
 fill-allowed-spec =
     tie.close
-    (tie.spec
-    Inv-loop
-    μ-loop
-    loop-holds
-    (λ c. search needs)
-    (λ c. search needs)
-    (λ c. search needs)
-    allowed-requires
-    (λ c. search needs)
-    (λ c. search needs)
-    (λ c. search needs)
-    (λ c. search needs)
-    loop-again
-    (λ c. search needs)
-    returns)
+    (tie.spec Inv-loop μ-loop (λ c. (omega arith, refl, record { mask = λ i l. absurd (omega arith) })) (λ c. search needs) (λ c. search needs)
+    (λ c. search needs) (λ c κs. (omega arith, omega arith)) (λ c. search needs) (λ c. search needs) (λ c. search needs) (λ c. search needs)
+    loop-again (λ c. search needs) (λ c. record { mask = λ i l. c .before .loop .inv .2 .mask i (omega arith) }))

@@ -28,33 +28,6 @@ facts c = let l = c .before .before .before in let s = l .before .before .before
     let n = s .pre .named (l .before .loop .c) (l .loop-test .taken) in
     (omega (arith, n .0, c .before .condition-i .ensures .0), omega (arith, n .1, c .condition-j .ensures .0), s .pre .moments (c .before .condition-i .result), s .pre .moments (c .condition-j .result), s .pre .room, s .good .1 .0 .1)
 
-loop-holds : tie.Need-loop-holds Inv-loop μ-loop
-loop-holds c = (omega arith, omega arith, record { mask = λ i e. (λ t. (t, λ d l. absurd (omega arith)), λ t. t .0) })
-
-array-read-end-mask : tie.Need-array-read-end-mask Inv-loop μ-loop
-array-read-end-mask c = omega (arith, facts (c .before .before .before))
-
-add-end-mask : tie.Need-add-end-mask Inv-loop μ-loop
-add-end-mask c = omega (arith, facts (c .before .before .before))
-
-mul-end-mask-3 : tie.Need-mul-end-mask-3 Inv-loop μ-loop
-mul-end-mask-3 c = omega (arith, facts (c .before .before .before))
-
-shared-slice-read-end-mask : tie.Need-shared-slice-read-end-mask Inv-loop μ-loop
-shared-slice-read-end-mask c = omega (arith, facts (c .before .before .before .before))
-
-array-read-end-mask-2 : tie.Need-array-read-end-mask-2 Inv-loop μ-loop
-array-read-end-mask-2 c = omega (arith, facts (c .before .before .before .before))
-
-end-mask-requires : tie.Need-end-mask-requires Inv-loop μ-loop
-end-mask-requires c κs = omega (arith, facts (c .before .before .before .before))
-
-array-read-inter : tie.Need-array-read-inter Inv-loop μ-loop
-array-read-inter c = omega (arith, facts (c .before .before .before .before .before))
-
-array-write-next : tie.Need-array-write-next Inv-loop μ-loop
-array-write-next c = omega (arith, facts (c .before .before .before .before .before .before))
-
 loop-again : tie.Need-loop-again Inv-loop μ-loop
 loop-again c =
     let g = c .before .is-later .ensures in
@@ -84,32 +57,11 @@ returns c = let h = c .before .loop .inv .2 in record {
 pub narrow-spec : {M : Type 1} → statement M
 narrow-spec =
     tie.close
-    (tie.spec
-    Inv-loop
-    μ-loop
-    loop-holds
-    (λ c. search needs)
-    (λ c. search needs)
-    (λ c κs. search needs)
-    (λ c κs. search needs)
-    (λ c κs. search needs)
-    (λ c κs. search needs)
-    (λ c. search needs)
-    (λ c. search needs)
-    array-read-end-mask
-    (λ c. search needs)
-    add-end-mask
-    mul-end-mask-3
-    shared-slice-read-end-mask
-    (λ c. search needs)
-    array-read-end-mask-2
-    end-mask-requires
-    (λ c. search needs)
-    array-read-inter
-    (λ c κs. search needs)
-    (λ c. search needs)
-    array-write-next
-    (λ c. search needs)
-    (λ c. search needs)
-    loop-again
-    returns)
+    (tie.spec Inv-loop μ-loop (λ c. (omega arith, omega arith, record { mask = λ i e. (λ t. (t, λ d l. absurd (omega arith)), λ t. t .0) }))
+    (λ c. search needs) (λ c. search needs) (λ c κs. search needs) (λ c κs. search needs) (λ c κs. search needs) (λ c κs. search needs)
+    (λ c. search needs) (λ c. search needs) (λ c. omega (arith, facts (c .before .before .before))) (λ c. search needs)
+    (λ c. omega (arith, facts (c .before .before .before))) (λ c. omega (arith, facts (c .before .before .before)))
+    (λ c. omega (arith, facts (c .before .before .before .before))) (λ c. search needs)
+    (λ c. omega (arith, facts (c .before .before .before .before))) (λ c κs. omega (arith, facts (c .before .before .before .before)))
+    (λ c. search needs) (λ c. omega (arith, facts (c .before .before .before .before .before))) (λ c κs. search needs) (λ c. search needs)
+    (λ c. omega (arith, facts (c .before .before .before .before .before .before))) (λ c. search needs) (λ c. search needs) loop-again returns)

@@ -5,11 +5,5 @@ use borrow.Author.Tests.{leb-true, le-leb}
 use Rattle.sets.proofs.conditions.ordered.Statement.{statement}
 use Rattle.sets.proofs.conditions.ordered.Tie as tie
 
-returns : tie.Need-returns
-returns c = (λ z. (c .if1 .taken, leb-true _ _ z), λ h. le-leb _ _ (h .1))
-
-returns-2 : tie.Need-returns-2
-returns-2 c = (λ z. absurd (false≢true z), λ h. let a = h .0 in absurd (omega arith))
-
 pub ordered-spec : {M : Type 1} → statement M
-ordered-spec = tie.close (tie.spec returns returns-2)
+ordered-spec = tie.close (tie.spec (λ c. (λ z. (c .if1 .taken, leb-true _ _ z), λ h. le-leb _ _ (h .1))) (λ c. (λ z. absurd (false≢true z), λ h. let a = h .0 in absurd (omega arith))))

@@ -18,9 +18,6 @@ Inv-loop conds allow i x ends n r₀ c₀ r c = (c ≤ length conds) × ((e : �
 abbrev μ-loop : tie.MeasureT-loop
 μ-loop conds allow i x ends n r₀ c₀ r c = length conds - c
 
-loop-holds : tie.Need-loop-holds Inv-loop μ-loop
-loop-holds c = (omega arith, λ e. (λ t. (t, λ d l. absurd (omega arith)), λ o. o .0))
-
 own-mask-requires : tie.Need-own-mask-requires Inv-loop μ-loop
 own-mask-requires c κs = let s = c .before .before .before .before .before .before .before in omega (arith, c .before .before .before .loop-test .taken, s .pre)
 
@@ -46,16 +43,5 @@ returns c = λ e. let h = c .before .loop .inv .1 e in (
 pub own-row-spec : {M : Type 1} → statement M
 own-row-spec =
     tie.close
-    (tie.spec
-    Inv-loop
-    μ-loop
-    loop-holds
-    (λ c. search needs)
-    (λ c. search needs)
-    (λ c κs. search needs)
-    own-mask-requires
-    (λ c κs. search needs)
-    (λ c. search needs)
-    (λ c. search needs)
-    loop-again
-    returns)
+    (tie.spec Inv-loop μ-loop (λ c. (omega arith, λ e. (λ t. (t, λ d l. absurd (omega arith)), λ o. o .0))) (λ c. search needs) (λ c. search needs)
+    (λ c κs. search needs) own-mask-requires (λ c κs. search needs) (λ c. search needs) (λ c. search needs) loop-again returns)

@@ -8,11 +8,5 @@ use borrow.Author.Needs.{needs}
 use Rattle.sets.proofs.conditions.whole.Statement.{statement}
 use Rattle.sets.proofs.conditions.whole.Tie as tie
 
-returns : tie.Need-returns
-returns c = λ e l. c .from .ensures e ∙ both (le-leb 0 e (omega arith)) (lt-ltb e 64 l) ∙ sym (c .before .if1 .taken)
-
-returns-2 : tie.Need-returns-2
-returns-2 c = λ e l. has-zero e ∙ sym (c .if1 .left)
-
 pub whole-spec : {M : Type 1} → statement M
-whole-spec = tie.close (tie.spec (λ c κs. search needs) returns returns-2)
+whole-spec = tie.close (tie.spec (λ c κs. search needs) (λ c. λ e l. c .from .ensures e ∙ both (le-leb 0 e (omega arith)) (lt-ltb e 64 l) ∙ sym (c .before .if1 .taken)) (λ c. λ e l. has-zero e ∙ sym (c .if1 .left)))

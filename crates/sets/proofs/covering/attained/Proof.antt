@@ -19,9 +19,6 @@ Inv-loop count ends all₀ least₀ i₀ all least i =
 abbrev μ-loop : tie.MeasureT-loop
 μ-loop count ends all₀ least₀ i₀ all least i = count - i
 
-loop-holds : tie.Need-loop-holds Inv-loop μ-loop
-loop-holds c = (omega arith, omega arith, λ e l. (λ h j k. absurd (omega arith), λ h. omega arith), in-none (λ e. some-none))
-
 returns : tie.Need-returns Inv-loop μ-loop
 returns c = let s = c .before .before .before .before in
     in-none (λ e h. let k = h .last in
@@ -53,20 +50,6 @@ returns-2 c = λ e.
 pub attained-spec : {M : Type 1} → statement M
 attained-spec =
     tie.close
-    (tie.spec
-    Inv-loop
-    μ-loop
-    loop-holds
-    (λ c. search needs)
-    (λ c. search needs)
-    (λ c κs. search needs)
-    returns
-    (λ c. search needs)
-    (λ c. search needs)
-    (λ c κs. search needs)
-    (λ c. search needs)
-    (λ c. search needs)
-    loop-again
-    (λ c κs. search needs)
-    (λ c κs. search needs)
-    returns-2)
+    (tie.spec Inv-loop μ-loop (λ c. (omega arith, omega arith, λ e l. (λ h j k. absurd (omega arith), λ h. omega arith), in-none (λ e. some-none)))
+    (λ c. search needs) (λ c. search needs) (λ c κs. search needs) returns (λ c. search needs) (λ c. search needs) (λ c κs. search needs)
+    (λ c. search needs) (λ c. search needs) loop-again (λ c κs. search needs) (λ c κs. search needs) returns-2)

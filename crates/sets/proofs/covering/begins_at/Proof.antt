@@ -1,7 +1,7 @@
 -- `sets::covering::begins_at` meets its contract. The invariant: no member before i begins at b. Assumes nothing.
 use Prim.Native.Nat.{_-_, _≤_}
 use mathlib.Core.Path.{_≡_, refl}
-use mathlib.Core.Bool.{true, false≢true}
+use mathlib.Core.Bool.{false≢true}
 use mathlib.Core.Logic.{⊎-elim}
 use native.Mathlib.Omega.{arith}
 use Rattle.sets.specs.Code.Cover.{Some}
@@ -17,29 +17,12 @@ Inv-loop count b begins i₀ i = (i ≤ count) × (Some i (λ j. entryAt begins 
 abbrev μ-loop : tie.MeasureT-loop
 μ-loop count b begins i₀ i = count - i
 
-loop-holds : tie.Need-loop-holds Inv-loop μ-loop
-loop-holds c = (omega arith, some-none)
-
-returns : tie.Need-returns Inv-loop μ-loop
-returns c = (λ z. record { at = _; below = c .before .loop-test .taken; is = c .if1 .taken }, λ s. refl)
-
-loop-again : tie.Need-loop-again Inv-loop μ-loop
-loop-again c = (omega arith, λ s. ⊎-elim (c .before .before .loop .inv .1) (c .if1 .left) (some-more _ .0 s))
-
 returns-2 : tie.Need-returns-2 Inv-loop μ-loop
 returns-2 c = (λ z. absurd (false≢true z), λ s. absurd (c .before .loop .inv .1 (record { at = s .at; below = omega (arith, s .below); is = s .is })))
 
 pub begins-at-spec : {M : Type 1} → statement M
 begins-at-spec =
     tie.close
-    (tie.spec
-    Inv-loop
-    μ-loop
-    loop-holds
-    (λ c. search needs)
-    (λ c. search needs)
-    returns
-    (λ c. search needs)
-    (λ c. search needs)
-    loop-again
-    returns-2)
+    (tie.spec Inv-loop μ-loop (λ c. (omega arith, some-none)) (λ c. search needs) (λ c. search needs)
+    (λ c. (λ z. record { at = _; below = c .before .loop-test .taken; is = c .if1 .taken }, λ s. refl)) (λ c. search needs) (λ c. search needs)
+    (λ c. (omega arith, λ s. ⊎-elim (c .before .before .loop .inv .1) (c .if1 .left) (some-more _ .0 s))) returns-2)

@@ -19,15 +19,6 @@ Inv-loop begins ends count b least₀ i₀ least i =
 abbrev μ-loop : tie.MeasureT-loop
 μ-loop begins ends count b least₀ i₀ least i = count - i
 
-returns : tie.Need-returns Inv-loop μ-loop
-returns c = in-none (λ e h. not-both (c .before .begins-at .ensures .1 (h .first)) (not-true _ (c .if1 .taken)))
-
-loop-holds : tie.Need-loop-holds Inv-loop μ-loop
-loop-holds c = (omega arith, omega arith, λ e l. (λ h j k. absurd (omega arith), λ h. omega arith))
-
-need-requires : tie.Need-need-requires Inv-loop μ-loop
-need-requires c κs = omega (arith, c .before .before .before .before .pre .1 (c .before .loop .i))
-
 returns-2 : tie.Need-returns-2 Inv-loop μ-loop
 returns-2 c = let s = c .before .before .before .before .before .before in
     in-none (λ e h. let k = h .last in let l = c .before .need .ensures e (s .pre .2 (k .at) e (k .below) (k .is)) .1 (h .needs (c .before .before .before .loop .i) (omega arith)) in omega (arith, s .pre .2 (k .at) e (k .below) (k .is), c .if2 .taken))
@@ -58,18 +49,8 @@ returns-3 c = λ e.
 pub covered-spec : {M : Type 1} → statement M
 covered-spec =
     tie.close
-    (tie.spec
-    Inv-loop
-    μ-loop
-    (λ c κs. search needs)
-    returns
-    loop-holds
-    need-requires
-    returns-2
-    (λ c. search needs)
-    (λ c. search needs)
-    loop-again
-    (λ c κs. search needs)
-    (λ c κs. search needs)
-    (λ c κs. search needs)
-    returns-3)
+    (tie.spec Inv-loop μ-loop (λ c κs. search needs)
+    (λ c. in-none (λ e h. not-both (c .before .begins-at .ensures .1 (h .first)) (not-true _ (c .if1 .taken))))
+    (λ c. (omega arith, omega arith, λ e l. (λ h j k. absurd (omega arith), λ h. omega arith)))
+    (λ c κs. omega (arith, c .before .before .before .before .pre .1 (c .before .loop .i))) returns-2 (λ c. search needs) (λ c. search needs)
+    loop-again (λ c κs. search needs) (λ c κs. search needs) (λ c κs. search needs) returns-3)

@@ -18,9 +18,6 @@ Inv-loop count x begins ends r₀ i₀ r i =
 abbrev μ-loop : tie.MeasureT-loop
 μ-loop count x begins ends r₀ i₀ r i = count - i
 
-loop-holds : tie.Need-loop-holds Inv-loop μ-loop
-loop-holds c = (omega arith, in-none (λ e. some-none))
-
 loop-again : tie.Need-loop-again Inv-loop μ-loop
 loop-again c = (omega arith, in-more (λ e. ⊎-elim (λ w. rw (w .2) (gain-yes (w .0 .taken) (in-union (w .1 .ensures) e))) (λ w. rw (w .1) (gain-no (λ l. let z = w .0 .left in omega arith))) (c .if1 .came)) (λ e. some-more _) (c .before .before .loop .inv .1))
 
@@ -33,16 +30,5 @@ returns c = let l = c .before .loop in λ e. (
 pub ends-before-spec : {M : Type 1} → statement M
 ends-before-spec =
     tie.close
-    (tie.spec
-    Inv-loop
-    μ-loop
-    loop-holds
-    (λ c. search needs)
-    (λ c. search needs)
-    (λ c. search needs)
-    (λ c. search needs)
-    (λ c κs. search needs)
-    (λ c. search needs)
-    (λ c. search needs)
-    loop-again
-    returns)
+    (tie.spec Inv-loop μ-loop (λ c. (omega arith, in-none (λ e. some-none))) (λ c. search needs) (λ c. search needs) (λ c. search needs)
+    (λ c. search needs) (λ c κs. search needs) (λ c. search needs) (λ c. search needs) loop-again returns)

@@ -17,9 +17,6 @@ Inv-loop x a n t₀ t = (a ≤ t) × (t ≤ n) × ((y : ℕ) → a ≤ y → y <
 abbrev μ-loop : tie.MeasureT-loop
 μ-loop x a n t₀ t = n - t
 
-loop-holds : tie.Need-loop-holds Inv-loop μ-loop
-loop-holds c = (omega arith, omega arith, λ y l g. absurd (omega arith))
-
 returns : tie.Need-returns Inv-loop μ-loop
 returns c = let v = c .before .before .before .loop .inv in (v .0, v .1, v .2, inr (λ u. not-both (c .before .has .ensures ∙ u .yes) (not-true _ (c .if1 .taken))))
 
@@ -32,10 +29,7 @@ loop-again c = let l = c .before .before .before .loop in (
       subst (λ (z : ℕ). In (c .before .before .before .before .args .x) z) q (record { yes = sym (c .before .has .ensures) ∙ not-false _ (c .if1 .left) })),
 )
 
-returns-2 : tie.Need-returns-2 Inv-loop μ-loop
-returns-2 c = let v = c .before .loop .inv in (v .0, v .1, v .2, inl (omega arith))
-
 pub first-outside-spec : {M : Type 1} → statement M
 first-outside-spec =
     tie.close
-    (tie.spec Inv-loop μ-loop loop-holds (λ c κs. search needs) returns (λ c. search needs) (λ c. search needs) loop-again returns-2)
+    (tie.spec Inv-loop μ-loop (λ c. (omega arith, omega arith, λ y l g. absurd (omega arith))) (λ c κs. search needs) returns (λ c. search needs) (λ c. search needs) loop-again (λ c. let v = c .before .loop .inv in (v .0, v .1, v .2, inl (omega arith))))

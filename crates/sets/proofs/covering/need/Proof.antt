@@ -16,21 +16,9 @@ returns-2 c = λ e l. let o = c .before .before .before .before in let m = c .be
     needed-both (c .before .before .before .if1 .taken) (reaches (o .least-from .ensures e l)) (bridges (m .result) (m .ensures) (c .before .least-from2 .ensures e l))
     (λ h. (h, omega arith), λ s. s .0)
 
-returns-3 : tie.Need-returns-3
-returns-3 c = λ e l. needed-own (λ g. omega (arith, c .if1 .left)) (reaches (c .before .least-from .ensures e l))
-
 pub need-spec : {M : Type 1} → statement M
 need-spec =
     tie.close
-    (tie.spec
-    (λ c. search needs)
-    (λ c. search needs)
-    (λ c κs. search needs)
-    (λ c. search needs)
-    (λ c. search needs)
-    (λ c κs. search needs)
-    (λ c. search needs)
-    (λ c κs. search needs)
-    returns
-    returns-2
-    returns-3)
+    (tie.spec (λ c. search needs) (λ c. search needs) (λ c κs. search needs) (λ c. search needs) (λ c. search needs) (λ c κs. search needs)
+    (λ c. search needs) (λ c κs. search needs) returns returns-2
+    (λ c. λ e l. needed-own (λ g. omega (arith, c .if1 .left)) (reaches (c .before .least-from .ensures e l))))

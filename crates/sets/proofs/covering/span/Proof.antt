@@ -16,9 +16,6 @@ use Rattle.sets.proofs.covering.span.Tie as tie
 top : (c : tie.After-m) → Highest (c .before .before .before .args .ends) 63 (c .m .given .0 .0)
 top c = subst (HighestUpto _ _) (c .m .given .1) (c .before .before .highest-upto .ensures)
 
-between-requires : tie.Need-between-requires
-between-requires c κs = let h = top (c .before) in omega (arith, h .upto)
-
 returns : tie.Need-returns
 returns c = λ t.
     let h = top (c .before .before) in
@@ -41,4 +38,4 @@ returns-2 c =
 pub span-spec : {M : Type 1} → statement M
 span-spec =
     tie.close
-    (tie.spec (λ c κs. search needs) (λ c. search needs) between-requires (λ c. search needs) returns returns-2)
+    (tie.spec (λ c κs. search needs) (λ c. search needs) (λ c κs. let h = top (c .before) in omega (arith, h .upto)) (λ c. search needs) returns returns-2)

@@ -17,12 +17,6 @@ Inv-loop count begins ends r₀ i₀ r i = (i ≤ count) × ((t : ℕ) → In r 
 abbrev μ-loop : tie.MeasureT-loop
 μ-loop count begins ends r₀ i₀ r i = count - i
 
-loop-holds : tie.Need-loop-holds Inv-loop μ-loop
-loop-holds c = (omega arith, in-none (λ t. some-none))
-
-span-requires : tie.Need-span-requires Inv-loop μ-loop
-span-requires c κs = c .before .before .pre .1 (c .before .loop .i)
-
 loop-again : tie.Need-loop-again Inv-loop μ-loop
 loop-again c = (omega arith, in-more (λ t. gain (c .before .span .result) (c .union .ensures) (c .before .span .ensures t)) (λ t. some-more _) (c .before .before .before .loop .inv .1))
 
@@ -35,17 +29,6 @@ returns c = let l = c .before .loop in λ t. (
 pub spans-spec : {M : Type 1} → statement M
 spans-spec =
     tie.close
-    (tie.spec
-    Inv-loop
-    μ-loop
-    loop-holds
-    (λ c. search needs)
-    (λ c. search needs)
-    (λ c. search needs)
-    (λ c. search needs)
-    span-requires
-    (λ c κs. search needs)
-    (λ c. search needs)
-    (λ c. search needs)
-    loop-again
-    returns)
+    (tie.spec Inv-loop μ-loop (λ c. (omega arith, in-none (λ t. some-none))) (λ c. search needs) (λ c. search needs) (λ c. search needs)
+    (λ c. search needs) (λ c κs. c .before .before .pre .1 (c .before .loop .i)) (λ c κs. search needs) (λ c. search needs) (λ c. search needs)
+    loop-again returns)

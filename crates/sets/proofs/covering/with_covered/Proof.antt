@@ -17,16 +17,8 @@ returns c = let s = c .before .before .before in λ e. (
       subst (λ (x : ℕ). In x e) (c .if1 .taken) (in-union (c .before .union .ensures) e .1 (inr t))),
 )
 
-returns-2 : tie.Need-returns-2
-returns-2 c = λ e. gain (c .before .covered .result) (c .union2 .ensures) (c .before .covered .ensures e)
-
 pub with-covered-spec : {M : Type 1} → statement M
 with-covered-spec =
     tie.close
-    (tie.spec
-    (λ c κs. search needs)
-    (λ c κs. search needs)
-    returns
-    (λ c κs. search needs)
-    (λ c κs. search needs)
-    returns-2)
+    (tie.spec (λ c κs. search needs) (λ c κs. search needs) returns (λ c κs. search needs) (λ c κs. search needs)
+    (λ c. λ e. gain (c .before .covered .result) (c .union2 .ensures) (c .before .covered .ensures e)))

@@ -17,12 +17,6 @@ Inv-loop count e sets ends₀ i₀ ends i = (i ≤ count) × (length ends ≡ 4)
 abbrev μ-loop : tie.MeasureT-loop
 μ-loop count e sets ends₀ i₀ ends i = count - i
 
-loop-holds : tie.Need-loop-holds Inv-loop μ-loop
-loop-holds c = (omega arith, refl, λ j l. absurd (omega arith))
-
-greatest-upto-requires : tie.Need-greatest-upto-requires Inv-loop μ-loop
-greatest-upto-requires c κs = let s = c .before .before in (s .pre .0, s .pre .2 (c .before .loop .i) (c .loop-test .taken))
-
 loop-again : tie.Need-loop-again Inv-loop μ-loop
 loop-again c =
     let l = c .before .before .loop in
@@ -34,22 +28,9 @@ loop-again c =
           (rw (getD-set-same (l .ends) (l .i) (c .greatest-upto .result) 0 (omega (arith, l .inv .1, s .pre .1, c .before .loop-test .taken))) (c .greatest-upto .ensures)),
     )
 
-returns : tie.Need-returns Inv-loop μ-loop
-returns c = λ i l. c .before .loop .inv .2 i (omega arith)
-
 pub greatest-ends-spec : {M : Type 1} → statement M
 greatest-ends-spec =
     tie.close
-    (tie.spec
-    Inv-loop
-    μ-loop
-    loop-holds
-    (λ c. search needs)
-    (λ c. search needs)
-    greatest-upto-requires
-    (λ c. search needs)
-    (λ c. search needs)
-    (λ c. search needs)
-    (λ c. search needs)
-    loop-again
-    returns)
+    (tie.spec Inv-loop μ-loop (λ c. (omega arith, refl, λ j l. absurd (omega arith))) (λ c. search needs) (λ c. search needs)
+    (λ c κs. let s = c .before .before in (s .pre .0, s .pre .2 (c .before .loop .i) (c .loop-test .taken))) (λ c. search needs) (λ c. search needs)
+    (λ c. search needs) (λ c. search needs) loop-again (λ c. λ i l. c .before .loop .inv .2 i (omega arith)))

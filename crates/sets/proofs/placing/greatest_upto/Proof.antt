@@ -8,9 +8,6 @@ use borrow.Author.Needs.{needs}
 use Rattle.sets.proofs.placing.greatest_upto.Statement.{statement}
 use Rattle.sets.proofs.placing.greatest_upto.Tie as tie
 
-returns : tie.Need-returns
-returns c = subst (HighestUpto _ _) (c .before .m .given .1) (c .before .before .before .highest-upto .ensures)
-
 returns-2 : tie.Need-returns-2
 returns-2 c =
     let s = c .before .before .before in
@@ -20,4 +17,4 @@ returns-2 c =
 
 pub greatest-upto-spec : {M : Type 1} → statement M
 greatest-upto-spec =
-    tie.close (tie.spec (λ c κs. search needs) (λ c. search needs) (λ c. search needs) returns returns-2)
+    tie.close (tie.spec (λ c κs. search needs) (λ c. search needs) (λ c. search needs) (λ c. subst (HighestUpto _ _) (c .before .m .given .1) (c .before .before .before .highest-upto .ensures)) returns-2)

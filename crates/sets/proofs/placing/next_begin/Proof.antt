@@ -41,34 +41,16 @@ placing l = search-begin (entry l .pre .0 .0) (facts l .0) (l .loop .x) (l .loop
 loop-holds : tie.Need-loop-holds Inv-loop μ-loop
 loop-holds c = let g = c .before .before .before .before .pre in let a = c .before .before .before .before .args in (omega arith, g .0 .0 .from, to-none (omega (arith, g .0 .1, length-map (a .members .now) memberNode)))
 
-mul-next : tie.Need-mul-next Inv-loop μ-loop
-mul-next c = omega (arith, facts (c .before))
-
-array-write-next : tie.Need-array-write-next Inv-loop μ-loop
-array-write-next c = omega (arith, facts (c .before))
-
-place-next-requires : tie.Need-place-next-requires Inv-loop μ-loop
-place-next-requires c κs = (placing (c .before), entry (c .before) .pre .0 .1)
-
-add-complete : tie.Need-add-complete Inv-loop μ-loop
-add-complete c = omega (arith, facts (c .before .before))
-
 complete-requires : tie.Need-complete-requires Inv-loop μ-loop
 complete-requires c κs =
     let l = c .before .before in
     let a = entry l .args in
     search-next (placing l) (facts l .0) (rw (getD-set-same (a .begins) (a .k) (l .loop .x) 0 (omega (arith, facts l))) (l .loop .inv .0)) (c .place-next .ensures)
 
-has-requires : tie.Need-has-requires Inv-loop μ-loop
-has-requires c κs = omega (arith, facts (c .before .before .before))
-
 returns : tie.Need-returns Inv-loop μ-loop
 returns c =
     let l = c .before .before .before .before .before in
     (l .loop .inv .0, l .loop .inv .1, from-none (c .before .before .complete .ensures (entry l .args .e)) .0 (record { yes = sym (c .before .has .ensures) ∙ c .if1 .taken }))
-
-add-x : tie.Need-add-x Inv-loop μ-loop
-add-x c = omega (arith, facts (c .before .before .before .before .before))
 
 loop-again : tie.Need-loop-again Inv-loop μ-loop
 loop-again c =
@@ -93,18 +75,7 @@ returns-2 c =
 pub next-begin-spec : {M : Type 1} → statement M
 next-begin-spec =
     tie.close
-    (tie.spec
-    Inv-loop
-    μ-loop
-    loop-holds
-    mul-next
-    array-write-next
-    place-next-requires
-    add-complete
-    complete-requires
-    has-requires
-    returns
-    add-x
-    (λ c. search needs)
-    loop-again
-    returns-2)
+    (tie.spec Inv-loop μ-loop loop-holds (λ c. omega (arith, facts (c .before))) (λ c. omega (arith, facts (c .before)))
+    (λ c κs. (placing (c .before), entry (c .before) .pre .0 .1)) (λ c. omega (arith, facts (c .before .before))) complete-requires
+    (λ c κs. omega (arith, facts (c .before .before .before))) returns (λ c. omega (arith, facts (c .before .before .before .before .before)))
+    (λ c. search needs) loop-again returns-2)

@@ -14,18 +14,9 @@ use Rattle.sets.proofs.placing.place.Tie as tie
 few : (s : tie.Start) → length (s .args .members .now) ≤ 4
 few s = omega (arith, s .pre .formed .few, length-map (s .args .members .now) memberNode)
 
-fill-allowed-requires : tie.Need-fill-allowed-requires
-fill-allowed-requires c κs = let g = c .before .before .before .before .pre in (g .formed .moments, omega (arith, g .formed .conditions))
-
 fill-own-requires : tie.Need-fill-own-requires
 fill-own-requires c κs = let s = c .before .before .before .before .before .before .before .before in let g = s .pre in
     (few s, node-rows (s .args .members .now) (g .rows), g .formed .moments, omega (arith, c .before .before .before .fill-allowed .kept .1 .1 .1 .0, g .formed .conditions), omega (arith, few s))
-
-array-share-prefix-places : tie.Need-array-share-prefix-places
-array-share-prefix-places c = few (c .before .before .before .before .before .before .before .before .before .before)
-
-slice-aggregate-place-from : tie.Need-slice-aggregate-place-from
-slice-aggregate-place-from c = sym (length-take-le _ _ (few (c .before .before .before .before .before .before .before .before .before .before .before)))
 
 place-from-requires : tie.Need-place-from-requires
 place-from-requires c κs =
@@ -46,15 +37,8 @@ returns c =
 pub place-spec : {M : Type 1} → statement M
 place-spec =
     tie.close
-    (tie.spec
-    (λ c. search needs)
-    fill-allowed-requires
-    (λ c. search needs)
-    (λ c. search needs)
-    fill-own-requires
-    array-share-prefix-places
-    slice-aggregate-place-from
-    (λ c. search needs)
-    (λ c. search needs)
-    place-from-requires
-    returns)
+    (tie.spec (λ c. search needs)
+    (λ c κs. let g = c .before .before .before .before .pre in (g .formed .moments, omega (arith, g .formed .conditions))) (λ c. search needs)
+    (λ c. search needs) fill-own-requires (λ c. few (c .before .before .before .before .before .before .before .before .before .before))
+    (λ c. sym (length-take-le _ _ (few (c .before .before .before .before .before .before .before .before .before .before .before))))
+    (λ c. search needs) (λ c. search needs) place-from-requires returns)

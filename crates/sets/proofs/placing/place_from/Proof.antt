@@ -51,12 +51,6 @@ loop-holds c =
     let h = c .later-ends .ensures in
     (omega arith, refl, search-start (s .pre .0) (later-start (s .args .members .now) (h .0)) (h .1), nothing-placed .1 (s .pre .1))
 
-array-write-begins : tie.Need-array-write-begins Inv-loop μ-loop
-array-write-begins c = omega (arith, long c, c .before .before .loop .inv .1)
-
-place-next-requires : tie.Need-place-next-requires Inv-loop μ-loop
-place-next-requires c κs = (placing c, c .before .loop-test .taken)
-
 loop-again : tie.Need-loop-again Inv-loop μ-loop
 loop-again c =
     let k = c .before in
@@ -83,17 +77,6 @@ returns c =
 pub place-from-spec : {M : Type 1} → statement M
 place-from-spec =
     tie.close
-    (tie.spec
-    Inv-loop
-    μ-loop
-    later-ends-requires
-    loop-holds
-    (λ c κs. search needs)
-    (λ c. search needs)
-    array-write-begins
-    place-next-requires
-    (λ c. search needs)
-    (λ c. search needs)
-    loop-again
-    greatest-ends-requires
-    returns)
+    (tie.spec Inv-loop μ-loop later-ends-requires loop-holds (λ c κs. search needs) (λ c. search needs)
+    (λ c. omega (arith, long c, c .before .before .loop .inv .1)) (λ c κs. (placing c, c .before .loop-test .taken)) (λ c. search needs)
+    (λ c. search needs) loop-again greatest-ends-requires returns)

@@ -16,14 +16,8 @@ Inv-loop members conds allow table n own₀ c₀ own c =
 abbrev μ-loop : tie.MeasureT-loop
 μ-loop members conds allow table n own₀ c₀ own c = length members * 64 - c
 
-loop-holds : tie.Need-loop-holds Inv-loop μ-loop
-loop-holds c = (omega arith, refl, record { row = λ i l. absurd (omega arith) })
-
 ends-at-requires : tie.Need-ends-at-requires Inv-loop μ-loop
 ends-at-requires c κs = let s = c .before .before .before .before .before .before .before .before .before in omega (arith, c .member-node .ensures .0, s .pre .1 (c .before .before .before .loop .c / 64) (omega (arith, c .before .before .loop-test .taken)), s .pre .2)
-
-own-row-requires : tie.Need-own-row-requires Inv-loop μ-loop
-own-row-requires c κs = let s = c .before .before .before .before .before .before .before .before .before .before in (s .pre .3, omega arith, s .pre .2)
 
 slice-write-own : tie.Need-slice-write-own Inv-loop μ-loop
 slice-write-own c = let s = c .before .before .before .before .before .before .before .before .before .before .before in omega (arith, s .pre .4, c .before .before .before .before .before .loop .inv .1, c .before .before .before .before .loop-test .taken)
@@ -43,30 +37,11 @@ loop-again c =
           )),
     )
 
-same-length : tie.Need-same-length Inv-loop μ-loop
-same-length c = c .before .loop .inv .1
-
-returns : tie.Need-returns Inv-loop μ-loop
-returns c = let h = c .before .loop .inv .2 in record { row = λ i l. h .row i (omega arith) }
-
 pub fill-own-spec : {M : Type 1} → statement M
 fill-own-spec =
     tie.close
-    (tie.spec
-    Inv-loop
-    μ-loop
-    loop-holds
-    (λ c. search needs)
-    (λ c. search needs)
-    (λ c. search needs)
-    (λ c. search needs)
-    (λ c κs. search needs)
-    ends-at-requires
-    own-row-requires
-    (λ c. search needs)
-    slice-write-own
-    (λ c. search needs)
-    (λ c. search needs)
-    loop-again
-    same-length
-    returns)
+    (tie.spec Inv-loop μ-loop (λ c. (omega arith, refl, record { row = λ i l. absurd (omega arith) })) (λ c. search needs) (λ c. search needs)
+    (λ c. search needs) (λ c. search needs) (λ c κs. search needs) ends-at-requires
+    (λ c κs. let s = c .before .before .before .before .before .before .before .before .before .before in (s .pre .3, omega arith, s .pre .2))
+    (λ c. search needs) slice-write-own (λ c. search needs) (λ c. search needs) loop-again (λ c. c .before .loop .inv .1)
+    (λ c. let h = c .before .loop .inv .2 in record { row = λ i l. h .row i (omega arith) }))

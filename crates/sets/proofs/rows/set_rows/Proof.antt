@@ -26,9 +26,6 @@ abbrev μ-loop : tie.MeasureT-loop
 few : (s : tie.Start Inv-loop μ-loop) → length (s .args .members .now) ≤ 4
 few s = omega (arith, s .pre .formed .few, length-map (s .args .members .now) memberNode)
 
-fill-allowed-requires : tie.Need-fill-allowed-requires Inv-loop μ-loop
-fill-allowed-requires c κs = let g = c .before .before .before .before .pre in (g .formed .moments, omega (arith, g .formed .conditions))
-
 fill-own-requires : tie.Need-fill-own-requires Inv-loop μ-loop
 fill-own-requires c κs = let s = c .before .before .before .before .before .before .before .before .before in let g = s .pre in (
   few s,
@@ -40,9 +37,6 @@ fill-own-requires c κs = let s = c .before .before .before .before .before .bef
 
 loop-holds : tie.Need-loop-holds Inv-loop μ-loop
 loop-holds c = (omega arith, c .before .before .before .before .before .before .fill-allowed .kept .1 .1 .1 .0, c .before .fill-own .kept .1 .1 .1 .1 .1 .0, c .before .before .before .before .before .before .fill-allowed .ensures, c .before .fill-own .ensures, rows-none)
-
-array-share-prefix-places : tie.Need-array-share-prefix-places Inv-loop μ-loop
-array-share-prefix-places c = few (c .before .before .before .before .before .before .before .before .before .before .before .before .before)
 
 slice-aggregate-set-row : tie.Need-slice-aggregate-set-row Inv-loop μ-loop
 slice-aggregate-set-row c = sym (length-take-le _ _ (few (c .before .before .before .before .before .before .before .before .before .before .before .before .before .before)))
@@ -74,36 +68,13 @@ loop-again c =
           (λ t. r .0 (h .0 t), λ t. h .1 (r .1 t))),
     )
 
-same-length : tie.Need-same-length Inv-loop μ-loop
-same-length c = c .before .loop .inv .5 .long
-
-returns : tie.Need-returns Inv-loop μ-loop
-returns c = rows-done (omega (arith, c .loop-test .left)) (c .before .loop .inv .5)
-
 pub set-rows-spec : {M : Type 1} → statement M
 set-rows-spec =
     tie.close
-    (tie.spec
-    Inv-loop
-    μ-loop
-    (λ c. search needs)
-    fill-allowed-requires
-    (λ c. search needs)
-    (λ c. search needs)
-    fill-own-requires
-    loop-holds
-    array-share-prefix-places
-    slice-aggregate-set-row
-    (λ c. search needs)
-    (λ c. search needs)
-    set-row-requires
-    (λ c. search needs)
-    (λ c. search needs)
-    (λ c. search needs)
-    (λ c. search needs)
-    slice-write-table
-    (λ c. search needs)
-    (λ c. search needs)
-    loop-again
-    same-length
-    returns)
+    (tie.spec Inv-loop μ-loop (λ c. search needs)
+    (λ c κs. let g = c .before .before .before .before .pre in (g .formed .moments, omega (arith, g .formed .conditions))) (λ c. search needs)
+    (λ c. search needs) fill-own-requires loop-holds
+    (λ c. few (c .before .before .before .before .before .before .before .before .before .before .before .before .before)) slice-aggregate-set-row
+    (λ c. search needs) (λ c. search needs) set-row-requires (λ c. search needs) (λ c. search needs) (λ c. search needs) (λ c. search needs)
+    slice-write-table (λ c. search needs) (λ c. search needs) loop-again (λ c. c .before .loop .inv .5 .long)
+    (λ c. rows-done (omega (arith, c .loop-test .left)) (c .before .loop .inv .5)))

@@ -18,11 +18,6 @@ has-clash-requires c κs =
 pub clash-entry-spec : {M : Type 1} → statement M
 clash-entry-spec =
     tie.close
-    (tie.spec
-    (λ c. search needs)
-    (λ c κs. search needs)
-    (λ c l m. absurd (omega (arith, c .before .actions-of .ensures .0)))
-    (λ c l m. absurd (omega (arith, c .before .before .actions-of .ensures .0)))
-    has-clash-requires
-    (λ c l m. rw (sym (c .before .has-clash .ensures) ∙ c .if3 .taken))
-    (λ c l m. rw (sym (c .before .has-clash .ensures) ∙ c .if3 .left)))
+    (tie.spec (λ c. search needs) (λ c κs. search needs) (λ c l m. absurd (omega (arith, c .before .actions-of .ensures .0)))
+    (λ c l m. absurd (omega (arith, c .before .before .actions-of .ensures .0))) has-clash-requires
+    (λ c l m. rw (sym (c .before .has-clash .ensures) ∙ c .if3 .taken)) (λ c l m. rw (sym (c .before .has-clash .ensures) ∙ c .if3 .left)))

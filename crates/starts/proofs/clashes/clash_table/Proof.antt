@@ -12,25 +12,10 @@ Inv-loop job effects table₀ k₀ table k = (k ≤ 4096) × Entered job k table
 abbrev μ-loop : tie.MeasureT-loop
 μ-loop job effects table₀ k₀ table k = 4096 - k
 
-loop-holds : tie.Need-loop-holds Inv-loop μ-loop
-loop-holds c = (omega arith, entered-start _ _ (refl {a = 4096}))
-
-loop-again : tie.Need-loop-again Inv-loop μ-loop
-loop-again c = (omega arith, entered-more _ _ _ _ (c .before .before .loop .inv .1) (c .before .loop-test .taken) (c .clash-entry .ensures))
-
-returns : tie.Need-returns Inv-loop μ-loop
-returns c = entered-all _ (c .before .before .before .pre .0) (c .before .loop .k) _ (omega arith) (c .before .loop .inv .1)
-
 pub clash-table-spec : {M : Type 1} → statement M
 clash-table-spec =
     tie.close
-    (tie.spec
-    Inv-loop
-    μ-loop
-    loop-holds
-    (λ c κs. c .before .before .before .pre)
-    (λ c. omega (arith, c .before .before .loop .inv .1 .size))
-    (λ c. omega arith)
-    (λ c. omega arith)
-    loop-again
-    returns)
+    (tie.spec Inv-loop μ-loop (λ c. (omega arith, entered-start _ _ (refl {a = 4096}))) (λ c κs. c .before .before .before .pre)
+    (λ c. omega (arith, c .before .before .loop .inv .1 .size)) (λ c. omega arith) (λ c. omega arith)
+    (λ c. (omega arith, entered-more _ _ _ _ (c .before .before .loop .inv .1) (c .before .loop-test .taken) (c .clash-entry .ensures)))
+    (λ c. entered-all _ (c .before .before .before .pre .0) (c .before .loop .k) _ (omega arith) (c .before .loop .inv .1)))

@@ -39,19 +39,7 @@ loop-again c =
 pub clashes-after-spec : {M : Type 1} → statement M
 clashes-after-spec =
     tie.close
-    (tie.spec
-    Inv-loop
-    μ-loop
-    (λ c. search needs)
-    (λ c κs. search needs)
-    (λ c. sought-start)
-    (λ c. omega (arith, rows c))
-    (λ c. omega (arith, rows c))
-    (λ c. omega (arith, rows (c .before)))
-    (λ c. omega (arith, rows (c .before)))
-    (λ c. omega (arith, rows (c .before)))
-    returns
-    (λ c. omega arith)
-    (λ c. omega arith)
-    loop-again
+    (tie.spec Inv-loop μ-loop (λ c. search needs) (λ c κs. search needs) (λ c. sought-start) (λ c. omega (arith, rows c))
+    (λ c. omega (arith, rows c)) (λ c. omega (arith, rows (c .before))) (λ c. omega (arith, rows (c .before)))
+    (λ c. omega (arith, rows (c .before))) returns (λ c. omega arith) (λ c. omega arith) loop-again
     (λ c. sought-end (c .before .loop .inv) (omega (arith, c .before .before .actions-of .ensures .0))))

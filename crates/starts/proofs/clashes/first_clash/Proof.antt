@@ -41,9 +41,6 @@ value c =
     (body c .start-action .ensures .0) (c .before .start-moment .ensures .0)
     ∙ sym (c .clashes-after .ensures)
 
-clash-table-requires : tie.Need-clash-table-requires Inv-loop μ-loop
-clash-table-requires c κs = let pre = c .before .before .pre in (pre .0 .formed, pre .1)
-
 clashes-after-requires : tie.Need-clashes-after-requires Inv-loop μ-loop
 clashes-after-requires c κs =
     let body = c .before .before .before in
@@ -60,12 +57,6 @@ returns c =
     ∙ tried-found (turn (body (c .before .before)) .loop .inv .0) (omega arith) (body (c .before .before) .before .before .loop-test .taken)
     (value (c .before .before) ∙ c .before .if1 .taken)
 
-finish-of-requires : tie.Need-finish-of-requires Inv-loop μ-loop
-finish-of-requires c κs = entry (body (c .before)) .pre .0 .lasts .small _
-
-array-write-latest : tie.Need-array-write-latest Inv-loop μ-loop
-array-write-latest c = omega (arith, turn (body (c .before .before)) .loop .inv .1 .size)
-
 loop-again : tie.Need-loop-again Inv-loop μ-loop
 loop-again c =
     let here = body (c .before .before) in
@@ -77,23 +68,8 @@ loop-again c =
 pub first-clash-spec : {M : Type 1} → statement M
 first-clash-spec =
     tie.close
-    (tie.spec
-    Inv-loop
-    μ-loop
-    clash-table-requires
-    (λ c. (tried-start, latest-start _ _))
-    (λ c. omega arith)
-    (λ c. omega arith)
-    (λ c κs. search needs)
-    (λ c κs. search needs)
-    clashes-after-requires
-    (λ c κs. search needs)
-    returns
-    finish-of-requires
-    (λ c. omega arith)
-    array-write-latest
-    (λ c. omega arith)
-    (λ c. omega arith)
-    loop-again
-    (λ c κs. search needs)
-    (λ c. c .none .ensures ∙ tried-end (c .before .before .loop .inv .0) (omega arith)))
+    (tie.spec Inv-loop μ-loop (λ c κs. let pre = c .before .before .pre in (pre .0 .formed, pre .1)) (λ c. (tried-start, latest-start _ _))
+    (λ c. omega arith) (λ c. omega arith) (λ c κs. search needs) (λ c κs. search needs) clashes-after-requires (λ c κs. search needs) returns
+    (λ c κs. entry (body (c .before)) .pre .0 .lasts .small _) (λ c. omega arith)
+    (λ c. omega (arith, turn (body (c .before .before)) .loop .inv .1 .size)) (λ c. omega arith) (λ c. omega arith) loop-again
+    (λ c κs. search needs) (λ c. c .none .ensures ∙ tried-end (c .before .before .loop .inv .0) (omega arith)))

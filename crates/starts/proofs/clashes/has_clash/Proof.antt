@@ -45,20 +45,6 @@ returns-2 c = sought-end (c .before .loop .inv) (omega (arith, c .before .before
 pub has-clash-spec : {M : Type 1} → statement M
 has-clash-spec =
     tie.close
-    (tie.spec
-    Inv-loop
-    μ-loop
-    (λ c. search needs)
-    (λ c κs. search needs)
-    (λ c. sought-start)
-    (λ c. omega (arith, rows c))
-    (λ c. omega (arith, rows c))
-    (λ c. omega (arith, rows c))
-    (λ c. omega (arith, rows (c .before)))
-    (λ c. omega (arith, rows (c .before)))
-    (λ c. omega (arith, rows (c .before)))
-    returns
-    (λ c. omega arith)
-    (λ c. omega arith)
-    loop-again
-    returns-2)
+    (tie.spec Inv-loop μ-loop (λ c. search needs) (λ c κs. search needs) (λ c. sought-start) (λ c. omega (arith, rows c))
+    (λ c. omega (arith, rows c)) (λ c. omega (arith, rows c)) (λ c. omega (arith, rows (c .before))) (λ c. omega (arith, rows (c .before)))
+    (λ c. omega (arith, rows (c .before))) returns (λ c. omega arith) (λ c. omega arith) loop-again returns-2)

@@ -3,18 +3,8 @@ use borrow.Author.Needs.{needs}
 use Rattle.starts.proofs.order.is_start.Statement.{statement}
 use Rattle.starts.proofs.order.is_start.Tie as tie
 
-returns : tie.Need-returns
-returns c = cc
-
 pub is-start-spec : {M : Type 1} → statement M
 is-start-spec =
     tie.close
-    (tie.spec
-    (λ c. search needs)
-    (λ c κs. search needs)
-    (λ c κs. search needs)
-    (λ c κs. search needs)
-    (λ c κs. search needs)
-    (λ c κs. search needs)
-    (λ c κs. search needs)
-    returns)
+    (tie.spec (λ c. search needs) (λ c κs. search needs) (λ c κs. search needs) (λ c κs. search needs) (λ c κs. search needs) (λ c κs. search needs)
+    (λ c κs. search needs) (λ c. cc))

@@ -22,9 +22,6 @@ entry c = c .before .before .before .before .before
 abbrev turn : tie.After-is-above Inv-loop μ-loop → tie.At-loop Inv-loop μ-loop
 turn c = c .before .before .before .before
 
-is-start-requires : tie.Need-is-start-requires Inv-loop μ-loop
-is-start-requires c κs = entry c .pre .some
-
 returns : tie.Need-returns Inv-loop μ-loop
 unfolding wrongWord
 returns c =
@@ -41,18 +38,6 @@ loop-again c =
 pub wrong-word-spec : {M : Type 1} → statement M
 wrong-word-spec =
     tie.close
-    (tie.spec
-    Inv-loop
-    μ-loop
-    (λ c. tried-start)
-    (λ c. omega arith)
-    (λ c. omega arith)
-    is-start-requires
-    (λ c κs. omega arith)
-    (λ c κs. search needs)
-    returns
-    (λ c. omega arith)
-    (λ c. omega arith)
-    loop-again
-    (λ c κs. search needs)
+    (tie.spec Inv-loop μ-loop (λ c. tried-start) (λ c. omega arith) (λ c. omega arith) (λ c κs. entry c .pre .some) (λ c κs. omega arith)
+    (λ c κs. search needs) returns (λ c. omega arith) (λ c. omega arith) loop-again (λ c κs. search needs)
     (λ c. c .none .ensures ∙ tried-end (c .before .before .loop .inv) (omega arith)))

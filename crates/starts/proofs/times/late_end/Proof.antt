@@ -34,9 +34,6 @@ ends c =
     let pre = entry (c .before) .pre in
     c .finish-of .ensures ∙ finish-is (pre .lasts) (pre .words) _ (c .before .before .loop-test .taken)
 
-finish-of-requires : tie.Need-finish-of-requires Inv-loop μ-loop
-finish-of-requires c κs = entry c .pre .lasts .small _
-
 returns : tie.Need-returns Inv-loop μ-loop
 unfolding endsLate
 returns c =
@@ -53,19 +50,6 @@ loop-again c =
 pub late-end-spec : {M : Type 1} → statement M
 late-end-spec =
     tie.close
-    (tie.spec
-    Inv-loop
-    μ-loop
-    (λ c. search needs)
-    (λ c κs. search needs)
-    (λ c. tried-start)
-    (λ c. omega arith)
-    (λ c. omega arith)
-    finish-of-requires
-    (λ c κs. search needs)
-    returns
-    (λ c. omega arith)
-    (λ c. omega arith)
-    loop-again
-    (λ c κs. search needs)
+    (tie.spec Inv-loop μ-loop (λ c. search needs) (λ c κs. search needs) (λ c. tried-start) (λ c. omega arith) (λ c. omega arith)
+    (λ c κs. entry c .pre .lasts .small _) (λ c κs. search needs) returns (λ c. omega arith) (λ c. omega arith) loop-again (λ c κs. search needs)
     (λ c. c .none .ensures ∙ tried-end (c .before .before .loop .inv) (omega arith)))

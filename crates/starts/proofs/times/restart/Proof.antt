@@ -46,9 +46,6 @@ returns c =
     ∙ tried-found (turn body .loop .inv .0) (omega arith) (body .before .before .loop-test .taken)
     (value (c .before .before) ∙ lt-ltb _ _ (c .before .if1 .taken))
 
-finish-of-requires : tie.Need-finish-of-requires Inv-loop μ-loop
-finish-of-requires c κs = entry (c .before .before) .pre .lasts .small _
-
 loop-again : tie.Need-loop-again Inv-loop μ-loop
 loop-again c =
     let body = c .before .before .before in
@@ -60,23 +57,7 @@ loop-again c =
 pub restart-spec : {M : Type 1} → statement M
 restart-spec =
     tie.close
-    (tie.spec
-    Inv-loop
-    μ-loop
-    (λ c. (tried-start, latest-start _ _))
-    (λ c. omega arith)
-    (λ c. omega arith)
-    (λ c κs. search needs)
-    (λ c κs. search needs)
-    (λ c. omega arith)
-    (λ c. omega arith)
-    (λ c κs. search needs)
-    returns
-    finish-of-requires
-    (λ c. omega arith)
-    (λ c. omega arith)
-    (λ c. omega arith)
-    (λ c. omega arith)
-    loop-again
-    (λ c κs. search needs)
-    (λ c. c .none .ensures ∙ tried-end (c .before .before .loop .inv .0) (omega arith)))
+    (tie.spec Inv-loop μ-loop (λ c. (tried-start, latest-start _ _)) (λ c. omega arith) (λ c. omega arith) (λ c κs. search needs)
+    (λ c κs. search needs) (λ c. omega arith) (λ c. omega arith) (λ c κs. search needs) returns
+    (λ c κs. entry (c .before .before) .pre .lasts .small _) (λ c. omega arith) (λ c. omega arith) (λ c. omega arith) (λ c. omega arith) loop-again
+    (λ c κs. search needs) (λ c. c .none .ensures ∙ tried-end (c .before .before .loop .inv .0) (omega arith)))

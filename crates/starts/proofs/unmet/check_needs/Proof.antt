@@ -53,21 +53,6 @@ loop-again c =
 pub check-needs-spec : {M : Type 1} → statement M
 check-needs-spec =
     tie.close
-    (tie.spec
-    Inv-loop
-    μ-loop
-    (λ c. search needs)
-    (λ c. tried-start)
-    (λ c. search needs)
-    (λ c. search needs)
-    (λ c κs. search needs)
-    laws-of-requires
-    (λ c κs. search needs)
-    (λ c κs. search needs)
-    (λ c κs. search needs)
-    returns
-    (λ c. search needs)
-    (λ c. search needs)
-    loop-again
-    (λ c κs. search needs)
-    (λ c. c .none .ensures ∙ tried-end (c .before .before .loop .inv) (omega arith)))
+    (tie.spec Inv-loop μ-loop (λ c. search needs) (λ c. tried-start) (λ c. search needs) (λ c. search needs) (λ c κs. search needs) laws-of-requires
+    (λ c κs. search needs) (λ c κs. search needs) (λ c κs. search needs) returns (λ c. search needs) (λ c. search needs) loop-again
+    (λ c κs. search needs) (λ c. c .none .ensures ∙ tried-end (c .before .before .loop .inv) (omega arith)))

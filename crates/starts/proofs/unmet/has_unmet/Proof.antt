@@ -21,9 +21,6 @@ abbrev μ-loop : tie.MeasureT-loop
 abbrev turn : tie.After-is-unmet Inv-loop μ-loop → tie.At-loop Inv-loop μ-loop
 turn c = c .before .before .before
 
-loop-holds : tie.Need-loop-holds Inv-loop μ-loop
-loop-holds c = (omega arith, refl)
-
 returns : tie.Need-returns Inv-loop μ-loop
 returns c = sym (turn (c .before) .loop .inv .1 ∙ any-hit _ _ _ (c .before .before .before .loop-test .taken) (sym (c .before .is-unmet .ensures) ∙ c .if1 .taken))
 
@@ -38,15 +35,5 @@ returns-2 c =
 pub has-unmet-spec : {M : Type 1} → statement M
 has-unmet-spec =
     tie.close
-    (tie.spec
-    Inv-loop
-    μ-loop
-    loop-holds
-    (λ c. search needs)
-    (λ c. search needs)
-    (λ c κs. search needs)
-    returns
-    (λ c. search needs)
-    (λ c. search needs)
-    loop-again
-    returns-2)
+    (tie.spec Inv-loop μ-loop (λ c. (omega arith, refl)) (λ c. search needs) (λ c. search needs) (λ c κs. search needs) returns (λ c. search needs)
+    (λ c. search needs) loop-again returns-2)

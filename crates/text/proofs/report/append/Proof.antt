@@ -20,9 +20,6 @@ Inv-loop out₀ at text i₀ out i = Copied out₀ at text out i
 abbrev μ-loop : tie.MeasureT-loop
 μ-loop out₀ at text i₀ out i = length text - i
 
-loop-holds : tie.Need-loop-holds Inv-loop μ-loop
-loop-holds c = record { most = omega arith; same = refl; front = paste-zero (c .args .out .now) (c .args .at) (c .args .text .now) }
-
 loop-again : tie.Need-loop-again Inv-loop μ-loop
 loop-again c =
     record {
@@ -31,25 +28,10 @@ loop-again c =
       front = paste-more _ _ _ _ _ (c .before .before .loop .inv .front) (omega arith) (omega arith);
     }
 
-same-length : tie.Need-same-length Inv-loop μ-loop
-same-length c = c .before .loop .inv .same
-
-returns : tie.Need-returns Inv-loop μ-loop
-returns c = pasted _ _ _ _ (c .before .loop .i) (c .before .before .pre) (omega arith) (c .before .loop .inv .front)
-
 pub append-spec : {M : Type 1} → statement M
 append-spec =
     tie.close
-    (tie.spec
-    Inv-loop
-    μ-loop
-    loop-holds
-    (λ c. omega arith)
-    (λ c. omega arith)
-    (λ c. omega arith)
-    (λ c. omega arith)
-    (λ c. omega arith)
-    loop-again
-    (λ c. omega arith)
-    same-length
-    returns)
+    (tie.spec Inv-loop μ-loop
+    (λ c. record { most = omega arith; same = refl; front = paste-zero (c .args .out .now) (c .args .at) (c .args .text .now) }) (λ c. omega arith)
+    (λ c. omega arith) (λ c. omega arith) (λ c. omega arith) (λ c. omega arith) loop-again (λ c. omega arith) (λ c. c .before .loop .inv .same)
+    (λ c. pasted _ _ _ _ (c .before .loop .i) (c .before .before .pre) (omega arith) (c .before .loop .inv .front)))

@@ -20,12 +20,6 @@ after-append c = c .before .before .before .before
 eight : (c : tie.After-hex) → c .hex .result ≤ 8
 eight c = few 16 8 8 (entry c .args .word) _ (omega arith) (omega arith) (entry c .fits .word .fits) (c .hex .ensures .1 .0)
 
-append-requires : tie.Need-append-requires
-append-requires c κs = omega (arith, eight (c .before .before))
-
-append-requires-2 : tie.Need-append-requires-2
-append-requires-2 c κs = let first = after-append c in omega (arith, first .append .ensures .ends, eight (after-hex first))
-
 returns : tie.Need-returns
 returns c =
     let first = after-append (c .before .before .before) in
@@ -35,12 +29,5 @@ returns c =
 pub hex-line-spec : {M : Type 1} → statement M
 hex-line-spec =
     tie.close
-    (tie.spec
-    (λ c κs. search needs)
-    (λ c. search needs)
-    (λ c. search needs)
-    append-requires
-    (λ c. search needs)
-    append-requires-2
-    (λ c. search needs)
-    returns)
+    (tie.spec (λ c κs. search needs) (λ c. search needs) (λ c. search needs) (λ c κs. omega (arith, eight (c .before .before))) (λ c. search needs)
+    (λ c κs. let first = after-append c in omega (arith, first .append .ensures .ends, eight (after-hex first))) (λ c. search needs) returns)

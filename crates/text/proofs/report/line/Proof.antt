@@ -4,8 +4,5 @@ use borrow.Author.Needs.{needs}
 use Rattle.text.proofs.report.line.Statement.{statement}
 use Rattle.text.proofs.report.line.Tie as tie
 
-returns : tie.Need-returns
-returns c = text-of (c .before .before .append .ensures)
-
 pub line-spec : {M : Type 1} → statement M
-line-spec = tie.close (tie.spec (λ c κs. search needs) (λ c. search needs) returns)
+line-spec = tie.close (tie.spec (λ c κs. search needs) (λ c. search needs) (λ c. text-of (c .before .before .append .ensures)))

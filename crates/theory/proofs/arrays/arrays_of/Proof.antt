@@ -1,5 +1,4 @@
 -- `theory::arrays::arrays_of` meets its contract: each array is what its function promises. Assumes nothing.
-use native.Mathlib.Omega.{arith}
 use Rattle.formulas.proofs.Laws.{grounds}
 use Rattle.theory.proofs.Passing.{job-clear, plan-formed, formulas-indexed, formulas-counted, nodes-indexed, nodes-counted}
 use Rattle.theory.proofs.Represented.{represents}
@@ -10,9 +9,6 @@ use Rattle.theory.proofs.arrays.arrays_of.Tie as tie
 -- the places of the code that the proof speaks of
 abbrev entry : tie.After-last-of → tie.Start
 entry c = c .before .before .before .before .before .before .before .before .before .before .before
-
-shared-slice-read-last-of : tie.Need-shared-slice-read-last-of
-shared-slice-read-last-of c = plan-formed _ _ (c .before .before .before .before .before .before .before .before .before .before .pre .clear) .some
 
 standard-values-requires : tie.Need-standard-values-requires
 standard-values-requires c κs =
@@ -37,4 +33,4 @@ returns c =
 
 pub arrays-of-spec : {M : Type 1} → statement M
 arrays-of-spec =
-    tie.close (tie.spec shared-slice-read-last-of (λ c κs. search needs) standard-values-requires (λ c κs. search needs) returns)
+    tie.close (tie.spec (λ c. plan-formed _ _ (c .before .before .before .before .before .before .before .before .before .before .pre .clear) .some) (λ c κs. search needs) standard-values-requires (λ c κs. search needs) returns)
