@@ -1,8 +1,8 @@
 -- The children that a word names, by the tests of a form that the code makes. Assumes nothing.
 use mathlib.Core.Bool.{Bool, true, false, cond, _&&_, _||_}
-use mathlib.Core.List.{List, _∷_}
-use mathlib.Core.Path.{_≡_, refl, subst}
-use Prim.Native.Nat.{ℕ, zero, suc, _+_, _<_}
+use mathlib.Core.List.{[], _∷_}
+use mathlib.Core.Path.{_≡_, refl}
+use Prim.Native.Nat.{ℕ, zero, suc, _+_}
 use native.Mathlib.Omega.{arith}
 use borrow.Author.Tests.{eqb-true, ne-eqb, le-leb, lt-leb}
 use lib.Dec.{eqb, ltb}
@@ -10,10 +10,7 @@ use Rattle.words.specs.Tests.{implies, indicator, within}
 use Rattle.words.specs.Fields.{kind, form, nodeX, nodeY, nodeM, memberNode}
 use Rattle.words.specs.Scan.{count, every}
 use Rattle.model.specs.Forms.{formNumber, namedByForm}
-use Rattle.words.proofs.Scan.{count-here, count-later}
 use Rattle.job.specs.Children.{nodeChildren, wordChildren}
-use Rattle.job.specs.Parts.{nodeWord}
-use Rattle.job.specs.Code.WellFormed.{NodeFormed}
 
 -- the forms that name X, Y, M
 abbrev namesX : ℕ → Bool
@@ -81,14 +78,3 @@ module _ (w : ℕ) where
       cases true false e f = omega (arith, counted w v (form w))
       cases false true e f = omega arith
       cases false false e f = refl
-
--- what the children of a well-formed node being lower says, form by form
-pub lower-by : {job : List ℕ} {p : ℕ} → NodeFormed job p → (n : ℕ) → form (nodeWord job p) ≡ n
-    → (q : ℕ) → 0 < count q (namedByForm (formNumber n) (nodeWord job p)) → q < p
-lower-by {job} {p} f n e = subst (λ (n : ℕ). (q : ℕ) → 0 < count q (namedByForm (formNumber n) (nodeWord job p)) → q < p) e (f .lower)
-
-pub lower-one : {p : ℕ} (x : ℕ) → ((q : ℕ) → 0 < count q (x ∷ []) → q < p) → x < p
-lower-one x h = h x (count-here x [])
-
-pub lower-two : {p : ℕ} (x y : ℕ) → ((q : ℕ) → 0 < count q (x ∷ y ∷ []) → q < p) → (x < p) × (y < p)
-lower-two x y h = (h x (count-here x (y ∷ [])), h y (count-later y x (y ∷ []) (count-here y [])))

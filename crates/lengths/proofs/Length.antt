@@ -2,7 +2,7 @@
 -- A node below a loop weighs n, for the loop's passes share out its moments; any other node is read once at most. Assumes nothing.
 use mathlib.Core.Path.{_≡_, refl, ap, ap₂, _∙_}
 use mathlib.Core.Bool.{Bool, true, false, cond, _||_}
-use mathlib.Core.List.{List, _∷_}
+use mathlib.Core.List.{List, [], _∷_}
 use Prim.Native.Nat.{ℕ, zero, suc, _+_, _-_, _*_, _≤_, _<_, max}
 use native.Mathlib.Nat.{le-trans, mul-le-mul, mul-le-mul-left}
 use native.Mathlib.Omega.{arith}

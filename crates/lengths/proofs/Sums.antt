@@ -1,6 +1,6 @@
 -- Sums over the numbers below n and over a list, and lists of numbers that are each below n. Assumes nothing.
 use mathlib.Core.Path.{_≡_, refl, sym, ap, ap₂, _∙_}
-use mathlib.Core.List.{List, _∷_}
+use mathlib.Core.List.{List, [], _∷_}
 use Prim.Native.Nat.{ℕ, zero, suc, _+_, _*_, _≤_, _<_, zero-le}
 use native.Mathlib.Nat.{add-mul, zero-mul, zero-add, add-le-add}
 use mathlib.Core.Logic.{by-cases}

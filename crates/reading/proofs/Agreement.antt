@@ -104,6 +104,3 @@ module _ {P : Procedure} {T : Trajectory} {P′ : Procedure} {T′ : Trajectory}
 
   pub counted-same : {r : ℕ} → Counted P T r → Counted P′ T′ r
   counted-same c = record { triples = c .triples; distinct = c .distinct; exact = λ s. Iff·trans (c .exact s) (read-same s); many = c .many }
-
-  pub tabulated-same : {t : List ℕ} {r : ℕ} → Tabulated P T t r → Tabulated P′ T′ t r
-  tabulated-same h = record { table = found-same (h .table); count = counted-same (h .count); small = h .small }

@@ -1,7 +1,7 @@
 -- The refusal of any starts, of any length, fits the fields of an answer: row 6 fits one of the first 4,097 words, or there are 4,096 at
 -- most. Assumes nothing.
 use mathlib.Core.Bool.{Bool, true, false, cond}
-use mathlib.Core.List.{List, _∷_}
+use mathlib.Core.List.{List, [], _∷_}
 use mathlib.Core.Path.{_≡_, refl}
 use Prim.Native.Nat.{ℕ, zero, suc, _^_, _≤_, _<_}
 use native.Mathlib.Omega.{arith}

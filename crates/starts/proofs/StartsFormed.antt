@@ -17,9 +17,9 @@ use Rattle.history.proofs.Moments.{finish-tabled}
 use Rattle.answers.specs.declared.Refusal.{Refusal}
 use Rattle.answers.specs.Rows.{firstOf}
 use Rattle.answers.proofs.Rows.{or-none}
-use Rattle.starts.specs.Rows.{isStart, ascends, wrongWord, numbered, rowsRefusal, startsRefusal}
+use Rattle.starts.specs.Rows.{isStart, ascends, wrongWord, numbered, rowsRefusal}
 use Rattle.starts.specs.Code.Given.{timeRows, StartsFormed}
-use Rattle.starts.proofs.Rows.{row-clear, starts-by-rows}
+use Rattle.starts.proofs.Rows.{row-clear}
 
 -- what a right word says
 pub record Right (job : List ℕ) (s : ℕ) : Type 0 where
@@ -62,9 +62,6 @@ row-passed {job} {starts} is e = record { right = row-clear 6 (wrongWord job sta
 pub times-passed : {job starts : List ℕ} {r : Refusal} → r ≡ rowsRefusal (timeRows job starts) (length starts) → r .number ≡ 0 → StartsFormed job starts
 unfolding rowsRefusal
 times-passed is e = row-passed refl (or-none _ _ (rw is at e) .0)
-
-pub starts-passed : (job starts : List ℕ) → startsRefusal job starts .number ≡ 0 → StartsFormed job starts
-starts-passed job starts e = times-passed refl (or-none _ _ (rw (starts-by-rows job starts) at e) .0)
 
 pub right-word : {job starts : List ℕ} → StartsFormed job starts → (i : ℕ) → i < length starts → Right job (getD starts i 0)
 right-word h i l = right-at _ _ i (h .right i l)

@@ -1,7 +1,7 @@
 -- What the first word that passes a test gives, and its law along a list: at position i the test passes, fails, or the list is at its end.
 -- Assumes nothing.
 use mathlib.Core.Bool.{Bool, true, false, cond}
-use mathlib.Core.List.{List, _∷_}
+use mathlib.Core.List.{List, [], _∷_}
 use mathlib.Core.Logic.{by-cases}
 use mathlib.Core.Path.{_≡_, refl, ap}
 use Prim.Native.Nat.{ℕ, zero, suc, _+_, _<_, _≤_}
@@ -21,15 +21,6 @@ module _ (ws : List ℕ) (i : ℕ) where
   drop-next h = rw (add-one i) (drop-cons ws i 0 h)
 
   module _ (test : ℕ → Bool) (gives : ℕ → ℕ) (other : ℕ) where
-    pub gives-hit : i < length ws → test (getD ws i 0) ≡ true → findOr test gives other (drop i ws) ≡ gives (getD ws i 0)
-    unfolding findOr
-    gives-hit h e = rw (drop-next h, e)
-
-    pub gives-miss : i < length ws → test (getD ws i 0) ≡ false
-        → findOr test gives other (drop i ws) ≡ findOr test gives other (drop (i + 1) ws)
-    unfolding findOr
-    gives-miss h e = rw (drop-next h, e)
-
     pub gives-end : length ws ≤ i → findOr test gives other (drop i ws) ≡ other
     unfolding findOr
     gives-end h = rw (drop-of-length-le ws h)
@@ -46,44 +37,6 @@ module _ (ws : List ℕ) (i : ℕ) where
     pub any-end : length ws ≤ i → any test (drop i ws) ≡ false
     unfolding any
     any-end h = rw (drop-of-length-le ws h)
-
-  -- the same along the leading words that pass a test
-  module _ (lead test : ℕ → Bool) (gives : ℕ → ℕ) (other : ℕ) where
-    pub laws-hit : i < length ws → lead (getD ws i 0) ≡ true → test (getD ws i 0) ≡ true
-        → findOr test gives other (takeWhile lead (drop i ws)) ≡ gives (getD ws i 0)
-    unfolding findOr takeWhile
-    laws-hit h l e = rw (drop-next h, l, e)
-
-    pub laws-miss : i < length ws → lead (getD ws i 0) ≡ true → test (getD ws i 0) ≡ false
-        → findOr test gives other (takeWhile lead (drop i ws)) ≡ findOr test gives other (takeWhile lead (drop (i + 1) ws))
-    unfolding findOr takeWhile
-    laws-miss h l e = rw (drop-next h, l, e)
-
-    pub laws-stop : i < length ws → lead (getD ws i 0) ≡ false → findOr test gives other (takeWhile lead (drop i ws)) ≡ other
-    unfolding findOr takeWhile
-    laws-stop h l = rw (drop-next h, l)
-
-    pub laws-end : length ws ≤ i → findOr test gives other (takeWhile lead (drop i ws)) ≡ other
-    unfolding findOr takeWhile
-    laws-end h = rw (drop-of-length-le ws h)
-
-  module _ (lead test : ℕ → Bool) where
-    pub any-laws-hit : i < length ws → lead (getD ws i 0) ≡ true → test (getD ws i 0) ≡ true → any test (takeWhile lead (drop i ws)) ≡ true
-    unfolding any takeWhile
-    any-laws-hit h l e = rw (drop-next h, l, e)
-
-    pub any-laws-miss : i < length ws → lead (getD ws i 0) ≡ true → test (getD ws i 0) ≡ false
-        → any test (takeWhile lead (drop i ws)) ≡ any test (takeWhile lead (drop (i + 1) ws))
-    unfolding any takeWhile
-    any-laws-miss h l e = rw (drop-next h, l, e)
-
-    pub any-laws-stop : i < length ws → lead (getD ws i 0) ≡ false → any test (takeWhile lead (drop i ws)) ≡ false
-    unfolding any takeWhile
-    any-laws-stop h l = rw (drop-next h, l)
-
-    pub any-laws-end : length ws ≤ i → any test (takeWhile lead (drop i ws)) ≡ false
-    unfolding any takeWhile
-    any-laws-end h = rw (drop-of-length-le ws h)
 
 module _ (test : ℕ → Bool) where
   -- word i of the leading ones is word i of the list, and passes
@@ -154,15 +107,6 @@ module _ (test : ℕ → Bool) where
   -- there are no more of them than words
   pub takeWhile-fits : (ws : List ℕ) → length (takeWhile test ws) ≤ length ws
   takeWhile-fits ws = by-cases (decLt (length ws) (length (takeWhile test ws))) (λ h. absurd (let z = takeWhile-entry ws (length ws) h in omega (arith, z .2))) (λ h. omega arith)
-
--- what is in a list, and what holds of every word
-pub count-here : (q : ℕ) (xs : List ℕ) → 0 < count q (q ∷ xs)
-unfolding count
-count-here q xs = rw (eq-eqb q q refl) (omega arith)
-
-pub count-later : (q x : ℕ) (xs : List ℕ) → 0 < count q xs → 0 < count q (x ∷ xs)
-unfolding count
-count-later q x xs h = omega arith
 
 pub every-true : (test : ℕ → Bool) (xs : List ℕ) → every test xs ≡ true → (q : ℕ) → 0 < count q xs → test q ≡ true
 unfolding every count
