@@ -11,6 +11,7 @@ ghost use Rattle.extract.specs.Code.Search.{Within, CutAt, CutReady, Sta
 ghost use Rattle.extract.specs.Code.Parts.{noParts, onePart, twoParts, PlacedParts, Unseen, ChoosableBy, ChosenBy};
 use crate::search;
 use model::Triple;
+use words::MOMENTS;
 
 pub struct Parts {
     pub count: usize,
@@ -84,9 +85,9 @@ fn start_window_parts(
     requires { ⌜ StartReady (now table) x y b e least most ⌝ }
     ensures { λ r. ⌜ ((k : ℕ) × (m : ℕ) × (l : ℕ) × StartAt (now (table .entry)) x y b e least most k m l × (r ≡ twoParts x b k y m l)) ⌝ }
 {
-    let xs = table[x * 64 + b];
+    let xs = table[x * MOMENTS + b];
     let m = search::meeting(xs, table, y, b + least, b + most, e);
-    let c = search::ends(xs, table[y * 64 + m], e);
+    let c = search::ends(xs, table[y * MOMENTS + m], e);
     two(x, b, c.first, y, m, c.second)
 }
 
@@ -190,7 +191,7 @@ pub fn choose_parts(
         1 => none(),
         2 => end_window_parts(table, x, y, 0, 0, b, e),
         3 => choice_part(table, x, y, b, e),
-        4 => if_part(values[x * 64 + b], y, m, b, e),
+        4 => if_part(values[x * MOMENTS + b], y, m, b, e),
         // a loop's passes are found one at a time
         5 => none(),
         6 => start_window_parts(table, x, y, m, most, b, e),

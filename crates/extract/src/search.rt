@@ -5,6 +5,7 @@ ghost use Prim.Native.Nat.{_<_};
 ghost use Rattle.bitset.specs.Code.Members.{Max};
 ghost use Rattle.model.specs.Code.Table.{InTable};
 ghost use Rattle.extract.specs.Code.Search.{Within, MeetReady, FirstMeets, CutAt, CutReady, EndPair};
+use words::MOMENTS;
 
 // Two moments.
 pub struct Pair {
@@ -23,7 +24,7 @@ pub fn meeting(xs: u64, table: &[u64], y: usize, first: usize, end: usize, e: us
         if 64 <= m {
             return 64;
         }
-        if bitset::has(bitset::max_of(xs, table[y * 64 + m]), e as u32) {
+        if bitset::has(bitset::max_of(xs, table[y * MOMENTS + m]), e as u32) {
             return m;
         }
         m += 1;
@@ -46,7 +47,7 @@ pub fn cut(
     requires { ⌜ CutReady (now table) x y b e least most from ⌝ }
     ensures { λ r. ⌜ CutAt (now (table .entry)) x y b e least most from (r .first) (r .second) ⌝ }
 {
-    let mut left = bitset::inter(table[x * 64 + b], bitset::from(from as u32));
+    let mut left = bitset::inter(table[x * MOMENTS + b], bitset::from(from as u32));
     while left != 0 {
         let k = bitset::lowest(left) as usize;
         // the set of 0 alone: y's end is the greater one
@@ -88,7 +89,7 @@ pub fn choose(table: &[u64], x: usize, y: usize, b: usize, e: usize) -> usize
     requires { ⌜ (InTable (now table) x b e ⊎ InTable (now table) y b e) ⌝ }
     ensures { λ r. ⌜ ((r ≡ x) ⊎ (r ≡ y)) × InTable (now (table .entry)) r b e ⌝ }
 {
-    if bitset::has(table[x * 64 + b], e as u32) {
+    if bitset::has(table[x * MOMENTS + b], e as u32) {
         x
     } else {
         y

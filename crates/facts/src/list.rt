@@ -6,7 +6,7 @@ ghost use Rattle.job.specs.Code.WellFormed.{WellFormed};
 ghost use Rattle.history.specs.Code.Tables.{History};
 ghost use Rattle.facts.specs.Facts.{factOf, factsUpto, factsOf};
 ghost use Rattle.facts.specs.Code.Written.{rowFacts, Written, Filled, Fillable};
-use history::FLUENTS;
+use words::FLUENTS;
 use words::OPEN;
 use words::fact_word;
 use words::fluents_of;

@@ -7,9 +7,10 @@ ghost use Rattle.history.specs.Values.{valueAt};
 ghost use Rattle.history.specs.Code.Tables.{History};
 ghost use Rattle.formulas.specs.Values.{andTable, orTable, byTable, formValue};
 ghost use Rattle.formulas.specs.Code.Table.{Small, Connectives, tabled, Grounds, ColumnsBefore, Fillable, FormulaTable};
-use history::FLUENTS;
 use words::FAILS;
+use words::FLUENTS;
 use words::HOLDS;
+use words::MOMENTS;
 use words::atom_fluent;
 use words::form_of;
 use words::formula_x;
@@ -23,9 +24,6 @@ pub const VALUES: usize = 3;
 pub const AND: [u8; 9] = [0, 0, 0, 0, 1, 1, 0, 1, 2];
 
 pub const OR: [u8; 9] = [0, 1, 2, 1, 1, 2, 2, 2, 2];
-
-// The entries of a row of the table of values, one for each moment.
-pub const MOMENTS: usize = 64;
 
 fn by_table(table: &[u8; 9], a: u8, b: u8) -> u8
     requires { ⌜ (a ≤ 2) × (b ≤ 2) ⌝ }

@@ -6,6 +6,3 @@ pub use states::history;
 pub use tables::durations;
 pub use tables::effects;
 pub use tables::laws_of;
-
-// The entries of a row, one for each fluent: of the history a row is a moment, of the effects an action.
-pub const FLUENTS: usize = 64;

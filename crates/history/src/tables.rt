@@ -9,7 +9,7 @@ ghost use Rattle.job.specs.Code.WellFormed.{WellFormed, Indexed};
 ghost use Rattle.history.specs.Actions.{makesFluent, lawValue};
 ghost use Rattle.history.specs.Code.Tables.{Durations, Effects};
 ghost use Rattle.history.specs.Code.Stores.{Overlaid, RowStored};
-use crate::FLUENTS;
+use words::FLUENTS;
 use words::LAW;
 use words::OPEN;
 use words::actions_of;

@@ -10,6 +10,7 @@ ghost use Rattle.words.specs.Fields.{fails, holds};
 ghost use Rattle.model.specs.Code.Arrays.{alone, trajectoryAt};
 ghost use Rattle.model.specs.Code.Table.{InTable};
 ghost use Rattle.reading.specs.Code.Table.{TwoRows, RowsThrough, WindowReady, After, RowReady, RowOf};
+use words::MOMENTS;
 
 // The moments from `first` to `end`, none after `last`.
 fn window(first: usize, end: usize, last: usize) -> u64
@@ -70,7 +71,7 @@ fn sequence_row(last: usize, table: &[u64], x: usize, y: usize, b: usize) -> u64
     requires { ⌜ RowsThrough (now table) x y b last ⌝ }
     ensures { λ r. ⌜ ((e : ℕ) → In r e ↔ ((m : ℕ) × (b ≤ m) × (m ≤ last) × InTable (now (table .entry)) x b m × InTable (now (table .entry)) y m e)) ⌝ }
 {
-    bitset::join_rows(table[x * 64 + b], table, y * 64)
+    bitset::join_rows(table[x * MOMENTS + b], table, y * MOMENTS)
 }
 
 // 3, choice.
@@ -78,7 +79,7 @@ fn choice_row(table: &[u64], x: usize, y: usize, b: usize) -> u64
     requires { ⌜ TwoRows (now table) x y b ⌝ }
     ensures { λ r. ⌜ ((e : ℕ) → In r e ↔ (InTable (now (table .entry)) x b e ⊎ InTable (now (table .entry)) y b e)) ⌝ }
 {
-    bitset::union(table[x * 64 + b], table[y * 64 + b])
+    bitset::union(table[x * MOMENTS + b], table[y * MOMENTS + b])
 }
 
 // 4, if: an open formula takes neither.
@@ -87,10 +88,10 @@ fn if_row(value: u8, table: &[u64], y: usize, m: usize, b: usize) -> u64
     ensures { λ r. ⌜ ((e : ℕ) → In r e ↔ (((value ≡ holds) × InTable (now (table .entry)) y b e) ⊎ ((value ≡ fails) × InTable (now (table .entry)) m b e))) ⌝ }
 {
     if value == 2 {
-        return table[y * 64 + b];
+        return table[y * MOMENTS + b];
     }
     if value == 0 {
-        return table[m * 64 + b];
+        return table[m * MOMENTS + b];
     }
     0
 }
@@ -105,8 +106,8 @@ fn while_row(guard: u8, last: usize, table: &[u64], p: usize, y: usize, b: usize
         return bitset::single(b as u32);
     }
     if guard == 2 {
-        let passes = bitset::inter(table[y * 64 + b], window(b + 1, last, last));
-        return bitset::join_rows(passes, table, p * 64);
+        let passes = bitset::inter(table[y * MOMENTS + b], window(b + 1, last, last));
+        return bitset::join_rows(passes, table, p * MOMENTS);
     }
     0
 }
@@ -126,7 +127,10 @@ fn start_window_row(
     ensures { λ r. ⌜ ((e : ℕ) → In r e ↔ ((m : ℕ) × (b + least ≤ m) × (m ≤ b + most) × (m ≤ last) × ((k : ℕ) × (l : ℕ) × (e ≡ max k l) × InTable (now (table .entry)) x b k × InTable (now (table .entry)) y m l))) ⌝ }
 {
     let begins = window(b + least, b + most, last);
-    bitset::max_of(table[x * 64 + b], bitset::join_rows(begins, table, y * 64))
+    bitset::max_of(
+        table[x * MOMENTS + b],
+        bitset::join_rows(begins, table, y * MOMENTS),
+    )
 }
 
 // 7, end window: Y begins in the window after one of X's ends.
@@ -143,8 +147,8 @@ fn end_window_row(
     requires { ⌜ WindowReady last least most ⌝ }
     ensures { λ r. ⌜ ((e : ℕ) → In r e ↔ ((k : ℕ) × (m : ℕ) × (b ≤ k) × (k + least ≤ m) × (m ≤ k + most) × (m ≤ last) × InTable (now (table .entry)) x b k × InTable (now (table .entry)) y m e)) ⌝ }
 {
-    let begins = windows(table[x * 64 + b], least, most, last);
-    bitset::join_rows(begins, table, y * 64)
+    let begins = windows(table[x * MOMENTS + b], least, most, last);
+    bitset::join_rows(begins, table, y * MOMENTS)
 }
 
 // The row of a node, of which `word` is the word, at b: any form but 8, a task set, whose rows are filled together.
@@ -167,11 +171,11 @@ pub fn row(
     let most = words::node_n(word);
     match words::form_of(word) {
         0 => act_row(starts[x], durations[x], last, b),
-        1 => test_row(values[x * 64 + b], b),
+        1 => test_row(values[x * MOMENTS + b], b),
         2 => sequence_row(last, table, x, y, b),
         3 => choice_row(table, x, y, b),
-        4 => if_row(values[x * 64 + b], table, y, m, b),
-        5 => while_row(values[x * 64 + b], last, table, p, y, b),
+        4 => if_row(values[x * MOMENTS + b], table, y, m, b),
+        5 => while_row(values[x * MOMENTS + b], last, table, p, y, b),
         6 => start_window_row(last, table, x, y, m, most, b),
         7 => end_window_row(last, table, x, y, m, most, b),
         // a task set's rows are filled together, by `fill_set`

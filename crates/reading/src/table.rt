@@ -8,6 +8,7 @@ ghost use Rattle.model.specs.Code.Arrays.{alone, membersAt, conditionsAt, proce
 ghost use Rattle.sets.specs.Code.Rows.{taskSetOf, SetReady, SetRows};
 ghost use Rattle.reading.specs.Code.Forms.{Readable};
 ghost use Rattle.reading.specs.Code.Table.{NodeReady, NodeRows, Blank, Found, Tabulated, Entry};
+use words::MOMENTS;
 
 // Fills the rows of node p, which is no task set, begins descending: a loop's row rests on its later rows.
 fn fill_rows(
@@ -26,7 +27,7 @@ fn fill_rows(
     while 0 < b {
         b -= 1;
         let ends = crate::rows::row(word, starts, durations, values, last, table, p, b);
-        table[p * 64 + b] = ends;
+        table[p * MOMENTS + b] = ends;
     }
 }
 
@@ -124,5 +125,5 @@ pub fn has_end(table: &[u64], p: usize, b: usize, e: usize) -> bool
     requires { ⌜ Entry (now table) p b e ⌝ }
     ensures { λ r. ⌜ r ≡ endIn (now (table .entry)) p b e ⌝ }
 {
-    bitset::has(table[p * 64 + b], e as u32)
+    bitset::has(table[p * MOMENTS + b], e as u32)
 }

@@ -12,13 +12,14 @@ ghost use Rattle.model.specs.Code.Table.{InTable};
 ghost use Rattle.sets.specs.Code.Search.{EndSets, Begun, Completed, Searching, LastBegin};
 use crate::conditions;
 use crate::covering;
+use words::MOMENTS;
 
 // The ends of node m begun at x.
 pub fn ends_at(table: &[u64], m: usize, x: u32, n: u32) -> u64
     requires { ⌜ (m * 64 + 64 ≤ length (now table)) × (x < 64) × (n < 64) ⌝ }
     ensures { λ r. ⌜ ((e : ℕ) → In r e ↔ (InTable (now (table .entry)) m x e × (x ≤ e) × (e ≤ n))) ⌝ }
 {
-    bitset::inter(table[m * 64 + x as usize], bitset::between(x, n))
+    bitset::inter(table[m * MOMENTS + x as usize], bitset::between(x, n))
 }
 
 // The ends of node m begun from a to z.

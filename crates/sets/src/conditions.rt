@@ -10,6 +10,7 @@ ghost use Rattle.model.specs.Forms.{conditionNumber};
 ghost use Rattle.sets.specs.Set.{MetAs, MetAt};
 ghost use Rattle.model.specs.Code.Arrays.{valueIn};
 ghost use Rattle.sets.specs.Code.Search.{asked, Later, Allowed, Narrowable, Narrowed, SomeBegin, Allows, Possible};
+use words::MOMENTS;
 
 // Whether formula k holds at each moment t from `from` on with t + off ≤ upto.
 fn holds_through(values: &[u8; 4096], k: usize, from: usize, off: usize, upto: usize) -> bool
@@ -18,7 +19,7 @@ fn holds_through(values: &[u8; 4096], k: usize, from: usize, off: usize, upto: u
 {
     let mut t = from;
     while t + off <= upto {
-        if values[k * 64 + t] != 2 {
+        if values[k * MOMENTS + t] != 2 {
             return false;
         }
         t += 1;
@@ -103,7 +104,7 @@ pub fn fill_allowed(values: &[u8; 4096], conds: &[u32], n: usize, allow: &mut [u
     ensures { λ _. ⌜ Allowed (valueIn (now (values .entry))) (now (conds .entry)) n (length (now (conds .entry)) * 64) (now (allow .exit)) ⌝ }
 {
     let mut c = 0;
-    while c < conds.len() * 64 {
+    while c < conds.len() * MOMENTS {
         allow[c] = allowed(values, conds[c / 64], c % 64, n);
         c += 1;
     }
@@ -155,7 +156,7 @@ pub fn narrow(conds: &[u32], allow: &[u64], k: usize, begins: [u32; 4], ends: [u
         if is_later(i, j, k) {
             let mask = end_mask(
                 words::form_of(w),
-                allow[c * 64 + begins[j] as usize],
+                allow[c * MOMENTS + begins[j] as usize],
                 begins[i],
             );
             next[i] = bitset::inter(next[i], mask);
@@ -173,7 +174,7 @@ fn some_allowed(allow: &[u64], c: usize, form: u32, x: u32, n: u32) -> u64
     let mut r = 0;
     let mut y = 0;
     while y <= n {
-        r = bitset::union(r, end_mask(form, allow[c * 64 + y as usize], x));
+        r = bitset::union(r, end_mask(form, allow[c * MOMENTS + y as usize], x));
         y += 1;
     }
     r
@@ -187,7 +188,7 @@ fn own_mask(allow: &[u64], w: u32, c: usize, i: usize, x: u32, n: u32) -> u64
     let form = words::form_of(w);
     let some = some_allowed(allow, c, form, x, n);
     if words::condition_j(w) == i {
-        return bitset::inter(some, end_mask(form, allow[c * 64 + x as usize], x));
+        return bitset::inter(some, end_mask(form, allow[c * MOMENTS + x as usize], x));
     }
     some
 }

@@ -10,6 +10,7 @@ ghost use Rattle.model.specs.Code.Table.{InTable};
 ghost use Rattle.sets.specs.Code.Search.{SearchReady, OwnRows};
 use crate::begins;
 use crate::conditions;
+use words::MOMENTS;
 
 // The own rows of the members: the ends of each from each begin, without those that a condition leaves out, wherever its other member begins.
 pub fn fill_own(
@@ -24,7 +25,7 @@ pub fn fill_own(
     ensures { λ _. ⌜ OwnRows (now (members .entry)) (now (conds .entry)) n (now (allow .entry)) (now (table .entry)) (length (now (members .entry)) * 64) (now (own .exit)) ⌝ }
 {
     let mut c = 0;
-    while c < members.len() * 64 {
+    while c < members.len() * MOMENTS {
         let x = (c % 64) as u32;
         let ends = begins::ends_at(table, words::member_node(members[c / 64]), x, n);
         own[c] = conditions::own_row(conds, allow, c / 64, x, ends, n);
@@ -82,7 +83,7 @@ pub fn set_rows(
     let mut b = 0;
     while b <= n {
         let row = set_row(&places[..count], conds, values, &allow, &own, b, n);
-        table[p * 64 + b as usize] = row;
+        table[p * MOMENTS + b as usize] = row;
         b += 1;
     }
 }

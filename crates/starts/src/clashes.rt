@@ -25,8 +25,8 @@ fn has_clash(job: &[u32], effects: &[u8; 4096], a: usize, b: usize) -> bool
     let n = fluents_of(job[0]);
     let mut f = 0;
     while f < n {
-        let x = effects[a * 64 + f];
-        let y = effects[b * 64 + f];
+        let x = effects[a * FLUENTS + f];
+        let y = effects[b * FLUENTS + f];
         if ((x == 2) & (y == 0)) | ((x == 0) & (y == 2)) {
             return true;
         }
@@ -40,8 +40,8 @@ fn clash_entry(job: &[u32], effects: &[u8; 4096], k: usize) -> u8
     ensures { λ r. ⌜ (k / 64 < actions (now (job .entry)) → k % 64 < actions (now (job .entry)) → r ≡ indicator (clash (now (job .entry)) (k / 64) (k % 64))) ⌝ }
 {
     let n = actions_of(job[0]);
-    let a = k / 64;
-    let b = k % 64;
+    let a = k / ACTIONS;
+    let b = k % ACTIONS;
     if n <= a {
         return 0;
     }
@@ -72,7 +72,7 @@ fn clashes_after(job: &[u32], latest: &[usize; 64], table: &[u8; 4096], b: usize
     let n = actions_of(job[0]);
     let mut a = 0;
     while a < n {
-        if (u < latest[a]) & (table[a * 64 + b] == 1) {
+        if (u < latest[a]) & (table[a * ACTIONS + b] == 1) {
             return true;
         }
         a += 1;

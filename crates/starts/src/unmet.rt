@@ -18,7 +18,7 @@ fn is_unmet(head: u32, history: &[u8; 4096], t: usize, w: u32) -> bool
     ensures { λ r. ⌜ r ≡ unmet head (λ f. getD (now (history .entry)) (t * 64 + f) 0) w ⌝ }
 {
     let role = role_of(head, w);
-    let value = history[t * 64 + fluent_of(head, w)];
+    let value = history[t * FLUENTS + fluent_of(head, w)];
     ((role == 0) & !(value == HOLDS)) | ((role == 1) & !(value == FAILS))
 }
 
