@@ -1,2 +1,2 @@
--- What contracts between functions cite, and no public contract reaches.
+-- What passes between functions, and no public contract reaches: Packed (the range of an answer).
 pub mod Packed

@@ -1,2 +1,2 @@
--- What contracts between functions cite, and no public contract reaches.
+-- What passes between functions, and no public contract reaches: Members (a word as a set of numbers).
 pub mod Members

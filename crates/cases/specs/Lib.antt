@@ -1,3 +1,3 @@
--- The proved cases as data: Decision (a test that computes whether a node reads from one moment to another), Cases.
+-- The proved cases as data: Cases (jobs, plans, what find owes them, and the statement that it does), Code (the test that computes it).
 pub mod Cases
 pub mod Code

@@ -1,3 +1,2 @@
--- Writing out a reading: Search (the searches for the moments of two parts), Parts (a choice of parts, and when it makes a reading),
--- Contract (what the writers ask and promise).
+-- Writing out a reading: all in Code, since no public contract reaches it.
 pub mod Code

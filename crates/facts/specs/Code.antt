@@ -1,2 +1,2 @@
--- What contracts between functions cite, and no public contract reaches.
+-- What passes between functions, and no public contract reaches: Written (what the writers of facts ask, and leave in a buffer).
 pub mod Written

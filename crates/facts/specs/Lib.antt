@@ -1,3 +1,3 @@
--- The definitions that the contracts of `facts` cite: Facts (the list of facts), Written (what the writers ask, and leave in a buffer).
+-- The definitions that the contracts of `facts` cite: Facts (the list of facts), Code (what passes between functions).
 pub mod Facts
 pub mod Code

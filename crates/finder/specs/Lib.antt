@@ -1,3 +1,3 @@
--- What find answers and leaves behind: Find. Seek is what its search asks.
+-- What find answers and leaves behind: Find; Code (what passes between functions).
 pub mod Find
 pub mod Code

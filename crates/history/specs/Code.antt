@@ -1,4 +1,5 @@
--- What contracts between functions cite, and no public contract reaches.
+-- What passes between functions, and no public contract reaches: Tables (the tables of actions and states, and the history), Stores (what
+-- stores into them leave), Passes (the two passes of a step).
 pub mod Tables
 pub mod Stores
 pub mod Passes

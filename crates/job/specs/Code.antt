@@ -1,4 +1,5 @@
--- What contracts between functions cite, and no public contract reaches.
+-- What passes between functions, and no public contract reaches: Index (where the words of a kind stand), Parts (how many formulas there
+-- are), WellFormed (what a job has that is not refused), State (what the scan's state is of the words before).
 pub mod Index
 pub mod Parts
 pub mod WellFormed

@@ -35,6 +35,7 @@ duration job a = durationOf (wordOfKind 3 job a)
 unfoldable pub lawsOf : List ℕ → ℕ → List ℕ
 lawsOf job a = takeWhile (ofKind 4) (drop 1 (wordsFrom 3 job a))
 
+-- the word of formula k
 unfoldable pub formulaWord : List ℕ → ℕ → ℕ
 formulaWord job k = wordOfKind 5 job k
 

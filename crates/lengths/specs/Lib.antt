@@ -1,2 +1,2 @@
--- How long a reading can be: Bound (the sum over all nodes).
+-- How long a reading can be: all in Code, since no public contract reaches it.
 pub mod Code

@@ -1,4 +1,5 @@
--- What contracts between functions cite, and no public contract reaches.
+-- What passes between functions, and no public contract reaches: Forms (what the code asks of a procedure and a trajectory), Rule (one step
+-- of the rules, over any relation of ends), Table (what filling the table of ends asks and leaves).
 pub mod Forms
 pub mod Rule
 pub mod Table

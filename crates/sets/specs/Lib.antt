@@ -1,4 +1,3 @@
--- The definitions of `sets`: Set (the rule of a task set), Rows (what its rows and its placements ask and promise), Cover (when ends can be
--- chosen that cover), Search (the search for begins).
+-- The definitions of `sets`: Set (the rule of a task set), Code (what passes between functions).
 pub mod Set
 pub mod Code

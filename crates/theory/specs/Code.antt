@@ -1,2 +1,2 @@
--- What contracts between functions cite, and no public contract reaches.
+-- What passes between functions, and no public contract reaches: Judged (what the rows show of a plan that passes them).
 pub mod Judged

@@ -1,5 +1,5 @@
--- The definitions that the contracts of `theory` cite: Answers (the answers of check and fill, and what fill writes), Judged (what the rows
--- show of a plan that passes them), Trajectory (what a reading may use of a job and its starts), Demand (demand 2, as statements).
+-- The definitions that the contracts of `theory` cite: Answers (the answers of check and fill, and what fill writes), Trajectory (what a
+-- reading may use of a job and its starts), Code (what passes between functions); and Demand (demand 2, as statements).
 pub mod Answers
 pub mod Trajectory
 pub mod Demand

@@ -1,4 +1,4 @@
--- Between functions: what the 64-bit number of an answer is.
+-- Between functions: the range of an answer: its fields fit their bits.
 use Prim.Native.Nat.{ℕ, _^_, _<_}
 use Rattle.answers.specs.declared.Answer.{Answer}
 use Rattle.answers.specs.Packed.{numberOf, positionOf, lengthOf, countOf}

@@ -1,4 +1,4 @@
--- Between functions: the cases P1 to P9 as data: a job, a plan and the answer that find owes them.
+-- Between functions: the test of a case, by computing: the row that fits, which triples have a reading, how many words a reading has.
 use Prim.Native.Nat.{ℕ, zero, suc, _+_, _*_, _-_}
 use mathlib.Core.Bool.{Bool, true, false, _&&_, _||_, not}
 use mathlib.Core.List.{List, [], _∷_}
@@ -13,8 +13,6 @@ use Rattle.model.specs.Forms.{Form, Act, Test, Sequence, Choice, If, While, Sta
 use Rattle.model.specs.declared.Triple.{Triple}
 use Rattle.cases.specs.Code.Decision.{each, reads}
 use Rattle.cases.specs.Cases.{Expected, refuses, unread, read, readIn, Case, triple}
-
--- ---- the test of a case: the row that fits, and which triples have a reading by the rule of each form
 
 -- node p of the case reads from b to e
 unfoldable pub decided : List ℕ → List ℕ → ℕ → ℕ → ℕ → Bool

@@ -1,4 +1,5 @@
--- Between functions: the forms of a node and of a condition, a node's fields, and the nodes that it names as children.
+-- Between functions: all children of a node, those that its word names or the members of its set; which conditions ask for a formula; that
+-- each node is named once.
 use Prim.Native.Nat.{ℕ, suc, _<_}
 use mathlib.Core.Bool.{Bool, true, false}
 use mathlib.Core.Path.{_≡_}

@@ -1,4 +1,4 @@
--- What the two files leave in their buffers, and the room that the reply to them needs.
+-- Between functions: what the two files leave in their buffers, and the room that the reply to them needs.
 use Prim.Native.Nat.{ℕ, _/_, _≤_}
 use mathlib.Core.Path.{_≡_}
 use mathlib.Core.List.{List}

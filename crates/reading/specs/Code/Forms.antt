@@ -1,4 +1,4 @@
--- Between functions: the task set at a node, and what the code asks of a procedure and a trajectory; no part of the rules of reading.
+-- Between functions: what the code asks of a procedure and a trajectory; no part of the rules of reading.
 use Prim.Native.Nat.{ℕ, _<_, _≤_}
 use mathlib.Core.Path.{_≡_}
 use mathlib.Core.List.{List}

@@ -1,10 +1,10 @@
--- Between functions: the rule of a task set: its members, each read from some begin to some end within b..e, cover the moments of b..e, and
--- the conditions are met.
+-- Between functions: the rule of a task set over any relation of what the members read, and when a set is formed.
 use Prim.Native.Nat.{ℕ, _≤_, _<_}
 use lib.ListN.{length, getD}
 use Rattle.words.specs.Fields.{conditionI, conditionJ}
 use Rattle.sets.specs.Set.{TaskSet, memberCount, Placing}
 
+-- the node of member i
 abbrev pub member : TaskSet → ℕ → ℕ
 member s i = getD (s .members) i 0
 

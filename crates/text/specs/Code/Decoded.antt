@@ -1,4 +1,4 @@
--- The words of bytes, at the front of a buffer.
+-- Between functions: the words of bytes, at the front of a buffer.
 use Prim.Native.Nat.{ℕ, _+_}
 use mathlib.Core.Path.{_≡_}
 use mathlib.Core.List.{List}

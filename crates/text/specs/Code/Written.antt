@@ -1,4 +1,4 @@
--- A text that is written to a buffer of bytes: at an index, and at its start.
+-- Between functions: a text that is written to a buffer of bytes: at an index, and at its start.
 use Prim.Native.Nat.{ℕ, _+_}
 use mathlib.Core.Path.{_≡_}
 use mathlib.Core.List.{List, _++_}
