@@ -124,9 +124,7 @@ p9gap = record {
 abbrev pub table : List Case
 table = p1 ∷ p2 ∷ p3 ∷ p4 ∷ p5 ∷ p6 ∷ p7 ∷ p7late ∷ p8 ∷ p8soon ∷ p9 ∷ p9gap ∷ []
 
--- ---- the test of a case: the row that fits, and which triples have a reading by the rule of each form
-
--- ---- what find owes a case: its refusal, 13 with the count of the triples, or a reading with that count, of so many words if it says so
+-- what find owes a case: its refusal, 13 with the count of the triples, or a reading with that count, of so many words if it says so
 abbrev pub Owed : Expected → Answer → Type 0
 Owed (refuses n p) a = a ≡ Refused n p 0
 Owed (unread rs) a = a ≡ Refused 13 0 (length rs)

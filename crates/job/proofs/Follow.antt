@@ -9,7 +9,7 @@ use borrow.Author.Tests.{eqb-true}
 use lib.Dec.{eqb}
 use Rattle.words.specs.Fields.{kind, isSet}
 use Rattle.words.proofs.Choices.{true-false, cond-same}
-use Rattle.job.specs.Follow.{taskSet, nothing, predecessor, mayFollow}
+use Rattle.job.specs.Follow.{setNode, nothing, predecessor, mayFollow}
 
 -- the head alone has nothing before it
 pub first-head : (k : ℕ) → mayFollow k nothing ≡ true → k ≡ 1
@@ -20,7 +20,7 @@ first-head k h = cases (eqb k 1) refl
     cases false e = absurd (true-false (sym (simp (e, cond-same) at h)))
 
 -- a member alone stands directly after a task set
-pub set-member : (k : ℕ) → mayFollow k taskSet ≡ true → k ≡ 7
+pub set-member : (k : ℕ) → mayFollow k setNode ≡ true → k ≡ 7
 set-member k h = cases (eqb k 7) refl
   where
     cases : (t : Bool) → eqb k 7 ≡ t → k ≡ 7
@@ -32,7 +32,7 @@ pub member-after : (w : ℕ) (p : List ℕ) → mayFollow 7 (predecessor (w ∷ 
 unfolding predecessor
 member-after w p h = cases (isSet w) refl h
   where
-    cases : (s : Bool) → isSet w ≡ s → mayFollow 7 (cond s taskSet (kind w)) ≡ true → (isSet w ≡ true) ⊎ (kind w ≡ 7)
+    cases : (s : Bool) → isSet w ≡ s → mayFollow 7 (cond s setNode (kind w)) ≡ true → (isSet w ≡ true) ⊎ (kind w ≡ 7)
     cases true e z = inl e
     cases false e z = within (eqb (kind w) 16) (eqb (kind w) 7) refl refl z
       where
@@ -42,15 +42,15 @@ member-after w p h = cases (isSet w) refl h
         within false false e f z = absurd (true-false (sym z))
 
 -- a task set counts as one
-pub set-before : (w : ℕ) (p : List ℕ) → isSet w ≡ true → predecessor (w ∷ p) ≡ taskSet
+pub set-before : (w : ℕ) (p : List ℕ) → isSet w ≡ true → predecessor (w ∷ p) ≡ setNode
 unfolding predecessor
 set-before w p e = rw e
 
 -- otherwise the kind of the word before counts
-pub word-before : (w : ℕ) (p : List ℕ) → (predecessor (w ∷ p) ≡ kind w) ⊎ (predecessor (w ∷ p) ≡ taskSet)
+pub word-before : (w : ℕ) (p : List ℕ) → (predecessor (w ∷ p) ≡ kind w) ⊎ (predecessor (w ∷ p) ≡ setNode)
 unfolding predecessor
 word-before w p = cases (isSet w)
   where
-    cases : (s : Bool) → (cond s taskSet (kind w) ≡ kind w) ⊎ (cond s taskSet (kind w) ≡ taskSet)
+    cases : (s : Bool) → (cond s setNode (kind w) ≡ kind w) ⊎ (cond s setNode (kind w) ≡ setNode)
     cases true = inr refl
     cases false = inl refl

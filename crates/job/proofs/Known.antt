@@ -14,7 +14,7 @@ use Rattle.words.specs.Fields.{kind, field, fluentOf, roleOf}
 use Rattle.words.specs.Scan.{any}
 use Rattle.words.proofs.Choices.{true-false, either-true, within-true}
 use Rattle.job.specs.Rules.{sameFluent}
-use Rattle.job.specs.Follow.{nothing, taskSet}
+use Rattle.job.specs.Follow.{nothing, setNode}
 use Rattle.job.specs.Before.{before, since}
 use Rattle.job.specs.Refusal.{jobRefusal}
 use Rattle.job.specs.Parts.{headWord}
@@ -43,7 +43,7 @@ module _ (job : List ℕ) (ok : jobRefusal job .number ≡ 0) where
   one-head (suc i) p l h =
       cases _ (word-before (getD job i 0) (before job i)) (rw (before-suc job i) at (follows job ok 1 (suc i) l h))
     where
-      cases : (v : ℕ) → (v ≡ kind (getD job i 0)) ⊎ (v ≡ taskSet) → eqb v nothing ≡ true → ⊥
+      cases : (v : ℕ) → (v ≡ kind (getD job i 0)) ⊎ (v ≡ setNode) → eqb v nothing ≡ true → ⊥
       cases v (inl e) z = let q = eqb-true v nothing z in omega arith
       cases v (inr e) z = let q = eqb-true v nothing z in omega arith
 
@@ -52,7 +52,7 @@ module _ (job : List ℕ) (ok : jobRefusal job .number ≡ 0) where
   known-after i l h =
       cases _ (word-before (getD job i 0) (before job i)) (rw (before-suc job i) at (follows job ok 2 (suc i) l h))
     where
-      cases : (v : ℕ) → (v ≡ kind (getD job i 0)) ⊎ (v ≡ taskSet) → within 1 2 v ≡ true → (1 ≤ kind (getD job i 0)) × (kind (getD job i 0) ≤ 2)
+      cases : (v : ℕ) → (v ≡ kind (getD job i 0)) ⊎ (v ≡ setNode) → within 1 2 v ≡ true → (1 ≤ kind (getD job i 0)) × (kind (getD job i 0) ≤ 2)
       cases v (inl e) z = let q = within-true 1 2 v z in omega arith
       cases v (inr e) z = let q = within-true 1 2 v z in omega arith
 

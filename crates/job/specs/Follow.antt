@@ -12,15 +12,15 @@ byKind other k [] = other
 byKind other k (e ∷ rest) = cond (eqb k (e .0)) (e .1) (byKind other k rest)
 
 -- what stands directly before a word: a word of a kind, which is below 16, a task set (a node of form 8), or nothing
-abbrev pub taskSet : ℕ
-taskSet = 16
+abbrev pub setNode : ℕ
+setNode = 16
 
 abbrev pub nothing : ℕ
 nothing = 17
 
 unfoldable pub predecessor : List ℕ → ℕ
 predecessor [] = nothing
-predecessor (w ∷ p) = cond (isSet w) taskSet (kind w)
+predecessor (w ∷ p) = cond (isSet w) setNode (kind w)
 
 -- by kind, whether a word of it may stand directly after v
 abbrev pub predecessors : ℕ → List (ℕ × Bool)
@@ -31,7 +31,7 @@ predecessors v =
     ∷ (4, within 3 4 v)
     ∷ (5, within 1 5 v)
     ∷ (6, within 1 8 v)
-    ∷ (7, eqb v taskSet || eqb v 7)
+    ∷ (7, eqb v setNode || eqb v 7)
     ∷ (8, within 7 8 v)
     ∷ []
 

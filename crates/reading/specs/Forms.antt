@@ -1,4 +1,4 @@
--- The task set at a node, and what the code asks of a procedure and a trajectory; no part of the rules of reading.
+-- The task set at a node.
 use Prim.Native.Nat.{ℕ}
 use Rattle.model.specs.Trajectory.{Trajectory}
 use Rattle.model.specs.Procedure.{Procedure}

@@ -1,5 +1,5 @@
 // The row of a node at a begin, the set of the ends that it reads to: one function a form, each by the clause of its form in
-// specs/Rule.antt, over the rows that stand in the table already.
+// specs/Code/Rule.antt, over the rows that stand in the table already.
 ghost use mathlib.Core.Bool.{true};
 ghost use mathlib.Core.Path.{_≡_};
 ghost use mathlib.Core.Logic.{_↔_, _⊎_};

@@ -1,4 +1,4 @@
--- The digits that `io` makes are the decimal text and the hexadecimal lines of specs/Text.antt. Assumes nothing.
+-- The digits that `io` makes are the decimal text and the hexadecimal lines of specs/Report.antt. Assumes nothing.
 use Prim.Native.Nat.{ℕ, zero, suc, _+_, _*_, _-_, _/_, _%_, _^_, _≤_, _<_}
 use native.Mathlib.Nat.{one-le-pow, pow-le-pow-right, pow-suc}
 use native.Mathlib.Numerals.{add-one}

@@ -26,7 +26,7 @@ use Rattle.model.specs.declared.Arrays.{Arrays}
 use Rattle.model.proofs.Forms.{form-number, asks-number}
 
 -- what each array holds, in the definitions of the theory
-pub record Carried (job starts : List ℕ) (w : Arrays) : Type 0 where
+pub record Held (job starts : List ℕ) (w : Arrays) : Type 0 where
   pub count : w .count ≡ nodeCount job
   pub last : w .last ≡ lastMoment job
   pub places : Indexed job 6 (w .places)
@@ -34,7 +34,7 @@ pub record Carried (job starts : List ℕ) (w : Arrays) : Type 0 where
   pub durations : Durations job (w .durations)
   pub values : (k t : ℕ) → k < formulaCount job → t ≤ lastMoment job → getD (w .values) (k * 64 + t) 0 ≡ formulaAt andTable orTable job (valueAt job starts) k t
 
-module _ (job starts : List ℕ) (w : Arrays) (formed : WellFormed job) (c : Carried job starts w) where
+module _ (job starts : List ℕ) (w : Arrays) (formed : WellFormed job) (c : Held job starts w) where
   abbrev P : Procedure
   P = procedureIn job w
 
