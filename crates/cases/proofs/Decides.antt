@@ -18,7 +18,7 @@ use Rattle.model.specs.Procedure.{Procedure}
 use Rattle.sets.specs.Set.{TaskSet, memberCount, MetAs, Met, Placing}
 use Rattle.sets.specs.Code.Set.{SetRule, Formed}
 use Rattle.model.specs.Forms.{Form, Act, Test, Sequence, Choice, If, While, StartWindow, EndWindow, Set, Reserved, formAt, fieldX, fieldY, fieldM, fieldN, ConditionForm, BeginAfterBegin, BeginAfterEnd, HoldsBefore, HoldsAfter, HoldsBetween, ReservedCondition, conditionForm}
-use Rattle.reading.specs.Forms.{taskSet}
+use Rattle.reading.specs.Forms.{setAt}
 use Rattle.reading.specs.Code.Forms.{NodeReadable}
 use Rattle.reading.specs.Reading.{HasReading}
 use Rattle.reading.specs.Code.Rule.{Rule}
@@ -279,7 +279,7 @@ end-law n b M N f g = Iff·trans (some-law (λ k. (leb b k && f k) && some (begi
     inner : (k m : ℕ) → Tells (begin k m) (((k + M ≤ m) × (m ≤ k + N)) × (g m ≡ true))
     inner k m = and-law (leb (k + M) m && leb m (k + N)) (g m) (within-law (k + M) (k + N) m) Iff·rfl
 
-rule-law : (P : Procedure) (T : Trajectory) (R : ℕ → ℕ → ℕ → Bool) (k : Form) (p b e : ℕ) → (k ≡ Set → Formed (taskSet P T p))
+rule-law : (P : Procedure) (T : Trajectory) (R : ℕ → ℕ → ℕ → Bool) (k : Form) (p b e : ℕ) → (k ≡ Set → Formed (setAt P T p))
     → Tells (ruleb P T R k p b e) (Rule P T (λ q c d. R q c d ≡ true) k p b e)
 unfolding ruleb
 rule-law P T R Act p b e g = Iff·trans

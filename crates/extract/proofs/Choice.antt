@@ -13,7 +13,7 @@ use Rattle.sets.specs.Code.Rows.{taskSetOf, entryAt, Placeable, Placed}
 use Rattle.model.specs.Code.Table.{InTable}
 use Rattle.model.specs.Forms.{Form, Act, Test, Sequence, Choice, If, StartWindow, EndWindow, Set, Reserved, formAt, fieldX, fieldY, fieldM, fieldN}
 use Rattle.model.specs.Code.Forms.{childrenAs, Below}
-use Rattle.reading.specs.Forms.{taskSet}
+use Rattle.reading.specs.Forms.{setAt}
 use Rattle.reading.specs.Reading.{whole, Reading, act, test, sequence, first, second, taken, otherwise, startWindow, endWindow, set, HasReading}
 use Rattle.reading.specs.Code.Rule.{Rule}
 use Rattle.reading.proofs.Step.{step, carry}
@@ -171,7 +171,7 @@ module _ {P : Procedure} {T : Trajectory} {size : ℕ} {places table : List ℕ}
   -- ---- a task set
 
   module _ (f : formAt P p ≡ Set) where
-    pub set-some : Placeable (taskSet P T p) table b e
+    pub set-some : Placeable (setAt P T p) table b e
     set-some =
         let few = s .ready .few in
         record {
@@ -180,7 +180,7 @@ module _ {P : Procedure} {T : Trajectory} {size : ℕ} {places table : List ℕ}
           rule = rule Set f;
         }
 
-    pub set-chosen : {r : Parts} → PlacedParts (taskSet P T p) table b e r → Chosen P T table p b e r
+    pub set-chosen : {r : Parts} → PlacedParts (setAt P T p) table b e r → Chosen P T table p b e r
     set-chosen {r} c =
         let l = members-lower P T p f (s .ready .formed p node) in
         let pl = c .placed .placing in

@@ -26,7 +26,7 @@ use Rattle.extract.specs.declared.parts.Parts.{Parts}
 use Rattle.extract.specs.Code.Parts.{Prepared, Choosable, Chosen, nodeOf, beginOf, endOf, partOf}
 use Rattle.extract.specs.Code.Search.{CutAt, CutReady}
 use Rattle.extract.proofs.Choice.{end-last, moment}
-use Rattle.extract.specs.Code.Contract.{Full, Rest, Writable, Written}
+use Rattle.extract.specs.Code.Contract.{Full, Rest, Writable, ReadingWritten}
 use Rattle.extract.proofs.Written.{written-none, written-then, written-map}
 
 -- ---- readings taken apart
@@ -106,7 +106,7 @@ module _ {P : Procedure} {T : Trajectory} {r : Parts} where
 
 -- what the writer of a loop has done when it stands at m: what it wrote goes before any further passes, and the table says that there are such
 pub record Halfway (P : Procedure) (T : Trajectory) (table : List ℕ) (t : Triple) (before : List ℕ) (at m : ℕ) (buf : List ℕ) (end : ℕ) : Type 0 where
-  pub written : Written (λ ws. (vs : List ℕ) → Reading P T passes (t .node) m (t .end) vs → Reading P T passes (t .node) (t .begin) (t .end) (ws ++ vs)) before at buf end
+  pub written : ReadingWritten (λ ws. (vs : List ℕ) → Reading P T passes (t .node) m (t .end) vs → Reading P T passes (t .node) (t .begin) (t .end) (ws ++ vs)) before at buf end
   pub begin : m ≤ T .last
   pub ahead : InTable table (t .node) m (t .end)
 
@@ -183,7 +183,7 @@ module _ {P : Procedure} {T : Trajectory} {job : ℕ} {places table : List ℕ} 
         let (vs, y) = complete k (i + 1) (omega arith) (done-more d x) in
         (us ++ vs, rw append-assoc at y)
 
-    module _ {before buf : List ℕ} {i end : ℕ} (l : i < r .count) (w : Written (Done P T r i) before at buf end) where
+    module _ {before buf : List ℕ} {i end : ℕ} (l : i < r .count) (w : ReadingWritten (Done P T r i) before at buf end) where
       pub part-child : Writable Full P T job places table (partOf r i) end size
       part-child = record {
         prepared = s .prepared;
@@ -199,10 +199,10 @@ module _ {P : Procedure} {T : Trajectory} {job : ℕ} {places table : List ℕ} 
           left : (k : ℕ) × (i + 1 + k ≡ r .count)
           left = (r .count - (i + 1), omega arith)
 
-      pub part-more : {buf′ : List ℕ} {end′ : ℕ} → Written (Full P T (partOf r i)) buf end buf′ end′ → Written (Done P T r (i + 1)) before at buf′ end′
+      pub part-more : {buf′ : List ℕ} {end′ : ℕ} → ReadingWritten (Full P T (partOf r i)) buf end buf′ end′ → ReadingWritten (Done P T r (i + 1)) before at buf′ end′
       part-more x = written-then (λ ws us d y. done-more d y) w x
 
-    pub part-end : {before buf : List ℕ} {i end : ℕ} → i ≡ r .count → Written (Done P T r i) before at buf end → Written (Rest P T t) before at buf end
+    pub part-end : {before buf : List ℕ} {i end : ℕ} → i ≡ r .count → ReadingWritten (Done P T r i) before at buf end → ReadingWritten (Rest P T t) before at buf end
     part-end {i = i} h w = written-map (λ ws d. whole-parts (rw h at d)) w
 
   -- ---- passes
@@ -282,11 +282,11 @@ module _ {P : Procedure} {T : Trajectory} {job : ℕ} {places table : List ℕ} 
               omega (arith, s .room _ (loop f (longer (w .words) us (w .allowed) x vs r)), w .ended, length-append (w .words ++ us) vs, length-append (w .words) us);
         }
 
-        pub pass-more : {buf′ : List ℕ} {here′ : ℕ} → Written (Full P T (record { node = y; begin = m; end = k })) buf here buf′ here′
+        pub pass-more : {buf′ : List ℕ} {here′ : ℕ} → ReadingWritten (Full P T (record { node = y; begin = m; end = k })) buf here buf′ here′
             → Halfway P T table t before at k buf′ here′
         pass-more w = record { written = written-then longer (h .written) w; begin = rest-begin; ahead = rw same at (c .begins) }
 
-      pub pass-end : t .end ≤ m → Written (Rest P T t) before at buf here
+      pub pass-end : t .end ≤ m → ReadingWritten (Rest P T t) before at buf here
       pass-end l =
           let (us, r) = from (h .begin) (h .ahead) in
           let none = no-pass l r in

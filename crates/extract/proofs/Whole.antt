@@ -14,7 +14,7 @@ use Rattle.lengths.specs.Code.Bound.{lengthBound}
 use Rattle.lengths.proofs.Words.{lower}
 use Rattle.lengths.proofs.Length.{length-le, bound-4032}
 use Rattle.extract.specs.Code.Parts.{Prepared}
-use Rattle.extract.specs.Code.Contract.{Full, Writable, Written, Emittable, Emitted}
+use Rattle.extract.specs.Code.Contract.{Full, Writable, ReadingWritten, Emittable, Emitted}
 use Rattle.extract.proofs.Written.{written-parts}
 
 module _ {P : Procedure} {T : Trajectory} {job : ℕ} {places table : List ℕ} {size : ℕ} (s : Emittable P T job places table size) where
@@ -26,7 +26,7 @@ module _ {P : Procedure} {T : Trajectory} {job : ℕ} {places table : List ℕ} 
       let some = s .some in
       record { prepared = s .prepared; known = omega arith; within = omega arith; found = s .found; room = λ ws r. omega (arith, root-le r, s .room) }
 
-  pub emit-emitted : {l l′ : List ℕ} {end : ℕ} → length l ≡ size → Written (Reading P T whole (P .count - 1) 0 (T .last)) l 0 l′ end → Emitted P T l l′ end
+  pub emit-emitted : {l l′ : List ℕ} {end : ℕ} → length l ≡ size → ReadingWritten (Reading P T whole (P .count - 1) 0 (T .last)) l 0 l′ end → Emitted P T l l′ end
   emit-emitted {end = end} e w =
       let within : end ≤ lengthBound P (T .last) = omega (arith, w .ended, root-le (w .allowed)) in
       record {

@@ -4,7 +4,7 @@ ghost use mathlib.Core.Path.{_≡_};
 ghost use lib.ListN.{length};
 ghost use Rattle.model.specs.Forms.{While, formAt};
 ghost use Rattle.extract.specs.Code.Parts.{Unseen, procedureBy, trajectoryBy};
-ghost use Rattle.extract.specs.Code.Contract.{Full, Rest, WritableBy, Written};
+ghost use Rattle.extract.specs.Code.Contract.{Full, Rest, WritableBy, ReadingWritten};
 use crate::parts;
 use crate::search;
 use model::Triple;
@@ -21,7 +21,7 @@ pub fn write_reading(
     buffer: &mut [u32],
 ) -> usize
     requires { ⌜ ((u : Unseen) × WritableBy Full (now words) (now places) (now values) last (now table) triple at (length (now buffer)) u) ⌝ }
-    ensures { λ r. ⌜ ((u : Unseen) → WritableBy Full (now (words .entry)) (now (places .entry)) (now (values .entry)) last (now (table .entry)) triple at (length (now (buffer .entry))) u → Written (Full (procedureBy (now (words .entry)) (now (places .entry)) u) (trajectoryBy (now (values .entry)) last u) triple) (now (buffer .entry)) at (now (buffer .exit)) r) ⌝ }
+    ensures { λ r. ⌜ ((u : Unseen) → WritableBy Full (now (words .entry)) (now (places .entry)) (now (values .entry)) last (now (table .entry)) triple at (length (now (buffer .entry))) u → ReadingWritten (Full (procedureBy (now (words .entry)) (now (places .entry)) u) (trajectoryBy (now (values .entry)) last u) triple) (now (buffer .entry)) at (now (buffer .exit)) r) ⌝ }
 {
     let p = triple.node;
     let b = triple.begin;
@@ -46,7 +46,7 @@ fn write_parts(
     buffer: &mut [u32],
 ) -> usize
     requires { ⌜ ((u : Unseen) × WritableBy Rest (now words) (now places) (now values) last (now table) triple at (length (now buffer)) u × (formAt (procedureBy (now words) (now places) u) (triple .node) ≡ While → ⊥)) ⌝ }
-    ensures { λ r. ⌜ ((u : Unseen) → WritableBy Rest (now (words .entry)) (now (places .entry)) (now (values .entry)) last (now (table .entry)) triple at (length (now (buffer .entry))) u → (formAt (procedureBy (now (words .entry)) (now (places .entry)) u) (triple .node) ≡ While → ⊥) → Written (Rest (procedureBy (now (words .entry)) (now (places .entry)) u) (trajectoryBy (now (values .entry)) last u) triple) (now (buffer .entry)) at (now (buffer .exit)) r) ⌝ }
+    ensures { λ r. ⌜ ((u : Unseen) → WritableBy Rest (now (words .entry)) (now (places .entry)) (now (values .entry)) last (now (table .entry)) triple at (length (now (buffer .entry))) u → (formAt (procedureBy (now (words .entry)) (now (places .entry)) u) (triple .node) ≡ While → ⊥) → ReadingWritten (Rest (procedureBy (now (words .entry)) (now (places .entry)) u) (trajectoryBy (now (values .entry)) last u) triple) (now (buffer .entry)) at (now (buffer .exit)) r) ⌝ }
 {
     let parts = parts::choose_parts(words, places, values, last, table, triple);
     let number = parts.count;
@@ -79,7 +79,7 @@ fn write_passes(
     buffer: &mut [u32],
 ) -> usize
     requires { ⌜ ((u : Unseen) × WritableBy Rest (now words) (now places) (now values) last (now table) triple at (length (now buffer)) u × (formAt (procedureBy (now words) (now places) u) (triple .node) ≡ While)) ⌝ }
-    ensures { λ r. ⌜ ((u : Unseen) → WritableBy Rest (now (words .entry)) (now (places .entry)) (now (values .entry)) last (now (table .entry)) triple at (length (now (buffer .entry))) u → formAt (procedureBy (now (words .entry)) (now (places .entry)) u) (triple .node) ≡ While → Written (Rest (procedureBy (now (words .entry)) (now (places .entry)) u) (trajectoryBy (now (values .entry)) last u) triple) (now (buffer .entry)) at (now (buffer .exit)) r) ⌝ }
+    ensures { λ r. ⌜ ((u : Unseen) → WritableBy Rest (now (words .entry)) (now (places .entry)) (now (values .entry)) last (now (table .entry)) triple at (length (now (buffer .entry))) u → formAt (procedureBy (now (words .entry)) (now (places .entry)) u) (triple .node) ≡ While → ReadingWritten (Rest (procedureBy (now (words .entry)) (now (places .entry)) u) (trajectoryBy (now (values .entry)) last u) triple) (now (buffer .entry)) at (now (buffer .exit)) r) ⌝ }
 {
     let p = triple.node;
     let b = triple.begin;

@@ -6,7 +6,7 @@ ghost use lib.ListN.{getD};
 ghost use Rattle.history.specs.Values.{valueAt};
 ghost use Rattle.history.specs.Code.Tables.{History};
 ghost use Rattle.formulas.specs.Values.{andTable, orTable, byTable, formValue};
-ghost use Rattle.formulas.specs.Code.Table.{Small, Connectives, tabled, Grounds, ColumnsBefore, Fillable, FormulaTable};
+ghost use Rattle.formulas.specs.Code.Table.{Small, Connectives, tabled, Grounds, ColumnsBefore, ColumnReady, FormulaTable};
 use words::FAILS;
 use words::FLUENTS;
 use words::HOLDS;
@@ -69,7 +69,7 @@ fn fill_moment(
     t: usize,
     values: &mut [u8; 4096],
 )
-    requires { ⌜ Fillable (now and) (now or) (now job) (now formulas) count (now history) t (now values) ⌝ }
+    requires { ⌜ ColumnReady (now and) (now or) (now job) (now formulas) count (now history) t (now values) ⌝ }
     ensures { λ _. ⌜ ColumnsBefore (now (and .entry)) (now (or .entry)) (now (job .entry)) (tabled (now (history .entry))) (t + 1) (now (values .exit)) ⌝ }
 {
     let head = job[0];

@@ -13,7 +13,7 @@ use Rattle.history.specs.Actions.{makesFluent, lawValue, effect, finish,
 use Rattle.history.specs.Values.{hidesFluent, nextValue, valueAt}
 use Rattle.history.specs.Code.Tables.{Durations, Effects, Walkable, StateAt}
 use Rattle.history.specs.Code.Stores.{Overlaid, Mapped}
-use Rattle.history.specs.Code.Passes.{acts, leaves, changedBy, Passed}
+use Rattle.history.specs.Code.Passes.{acts, leaves, changedBy, AfterPass}
 use Rattle.history.proofs.Stores.{any-gives, overlaid-hit, overlaid-open}
 
 -- the values that an action makes, from its laws
@@ -29,7 +29,7 @@ state-start s = record { room = s .room; value = s .value }
 
 -- the two passes
 pub state-next : {job starts : List ℕ} (t : ℕ) {old mid new : List ℕ} → StateAt job starts t old
-    → Passed job false (t + 1) starts old mid → Passed job true (t + 1) starts mid new → StateAt job starts (t + 1) new
+    → AfterPass job false (t + 1) starts old mid → AfterPass job true (t + 1) starts mid new → StateAt job starts (t + 1) new
 unfolding valueAt nextValue
 state-next {job} {starts} t {old} {mid} {new} s g h = record { room = rw (h .size, g .size) (s .room); value = value }
   where
@@ -47,7 +47,7 @@ pub acts-tabled : {job durations : List ℕ} (hiding : Bool) (t s : ℕ) → Dur
 acts-tabled hiding t s d h e q r = r ∙ rw (e, q, finish-tabled d s h)
 
 pub start-applied : {job effects old new : List ℕ} (hiding : Bool) (t s : ℕ) → Effects job effects → startAction s < actions job → acts job hiding t s ≡ true
-    → Mapped (fluents job) (changedBy effects (startAction s) hiding) old new → Passed job hiding t (s ∷ []) old new
+    → Mapped (fluents job) (changedBy effects (startAction s) hiding) old new → AfterPass job hiding t (s ∷ []) old new
 start-applied {job} hiding t s e h q m =
     overlaid-hit (fluents job) (acts job hiding t) (affects job) (leaves job hiding) s q (m .size)
     (λ f l. rw (← e .entry (startAction s) f h l) (m .value f l))

@@ -11,7 +11,7 @@ ghost use Rattle.job.specs.Code.WellFormed.{WellFormed};
 ghost use Rattle.history.specs.Values.{lists};
 ghost use Rattle.history.specs.Code.Tables.{Walkable, StateAt, Steppable, History};
 ghost use Rattle.history.specs.Code.Stores.{Overlaid, Mapped};
-ghost use Rattle.history.specs.Code.Passes.{changed, changedBy, Passed};
+ghost use Rattle.history.specs.Code.Passes.{changed, changedBy, AfterPass};
 use crate::tables::store_row;
 use words::FLUENTS;
 use words::KNOWN;
@@ -96,7 +96,7 @@ fn apply_start(
     state: &mut [u8; 64],
 )
     requires { ⌜ Walkable (now job) (now durations) (now effects) (s ∷ []) × (fluents (now job) ≤ length (now state)) ⌝ }
-    ensures { λ _. ⌜ Passed (now (job .entry)) hiding t (s ∷ []) (now (state .entry)) (now (state .exit)) ⌝ }
+    ensures { λ _. ⌜ AfterPass (now (job .entry)) hiding t (s ∷ []) (now (state .entry)) (now (state .exit)) ⌝ }
 {
     let a = start_action(s);
     let u = start_moment(s);
@@ -116,7 +116,7 @@ fn apply_starts(
     state: &mut [u8; 64],
 )
     requires { ⌜ Walkable (now job) (now durations) (now effects) (now starts) × (fluents (now job) ≤ length (now state)) ⌝ }
-    ensures { λ _. ⌜ Passed (now (job .entry)) hiding t (now (starts .entry)) (now (state .entry)) (now (state .exit)) ⌝ }
+    ensures { λ _. ⌜ AfterPass (now (job .entry)) hiding t (now (starts .entry)) (now (state .entry)) (now (state .exit)) ⌝ }
 {
     let mut i = starts.len();
     while 0 < i {

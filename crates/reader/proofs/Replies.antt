@@ -12,7 +12,7 @@ use Rattle.text.specs.Files.{sized, startsOf, wordsOf}
 use Rattle.text.proofs.Plans.{starts-before, facts-after}
 use Rattle.text.proofs.Sizes.{sized-most}
 use Rattle.text.specs.Report.{reportOf}
-use Rattle.text.specs.Code.Written.{Written}
+use Rattle.text.specs.Code.Written.{WrittenText}
 use Rattle.reader.specs.Reply.{badFile, goodFiles, lent, Answered, Reply}
 
 pub length-lent : length lent ≡ 4096
@@ -21,7 +21,7 @@ length-lent = length-replicate {A = ℕ} 4096 0
 
 -- the report on what `find_reading` answered and wrote
 pub answered : (job plan before after out : List ℕ) (s r : ℕ) (a : Answer) → before ≡ lent → s ≡ length (startsOf plan)
-    → Outcome job (take s plan) (take (length plan - s) (drop s plan)) before a after → Written (reportOf a after) out r
+    → Outcome job (take s plan) (take (length plan - s) (drop s plan)) before a after → WrittenText (reportOf a after) out r
     → Counts r out × Answered job plan (take r out)
 answered job plan before after out s r a fresh ends outcome text = (
   text .counts,

@@ -6,7 +6,7 @@ ghost use lib.ListN.{length, take};
 ghost use Rattle.io.specs.Counts.{Counts};
 ghost use Rattle.text.specs.Files.{sized, wordsOf};
 ghost use Rattle.reader.specs.Reply.{badFile, lent, Answered, Reply};
-ghost use Rattle.reader.specs.Code.Buffers.{Room};
+ghost use Rattle.reader.specs.Code.Buffers.{ReplyRoom};
 use text::files;
 use text::report;
 
@@ -65,7 +65,7 @@ fn reply_in(
     buffer: &mut [u32],
     out: &mut [u8],
 ) -> usize
-    requires { ⌜ Room (now job) (now plan) (now «job_words») (now «plan_words») (now buffer) (now out) ⌝ }
+    requires { ⌜ ReplyRoom (now job) (now plan) (now «job_words») (now «plan_words») (now buffer) (now out) ⌝ }
     ensures counts { λ r. ⌜ Counts r (now (out .exit)) ⌝ }
     ensures text { λ r. ⌜ Answered (wordsOf (now (job .entry))) (wordsOf (now (plan .entry))) (take r (now (out .exit))) ⌝ }
 {

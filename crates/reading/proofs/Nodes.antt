@@ -14,7 +14,7 @@ use Rattle.model.specs.Code.Table.{InTable, rowAt}
 use Rattle.sets.proofs.Stored.{rule-map}
 use Rattle.model.specs.Forms.{Form, Act, Test, Sequence, Choice, If, While, StartWindow, EndWindow, Set, Reserved, formAt}
 use Rattle.model.proofs.Forms.{same-form, same-children, at-below}
-use Rattle.reading.specs.Forms.{taskSet}
+use Rattle.reading.specs.Forms.{setAt}
 use Rattle.reading.specs.Code.Forms.{NodeReadable}
 use Rattle.reading.specs.Code.Rule.{Rule}
 use Rattle.reading.specs.Code.Table.{NodeReady, NodeRows}
@@ -64,17 +64,17 @@ module _ (P : Procedure) (T : Trajectory) (p : ℕ) (f : formAt P p ≡ Set) whe
   pub members-lower : NodeReadable P T p → (i : ℕ) → i < length (P .members p) → getD (P .members p) i 0 < p
   members-lower h = at-below (P .members p) (rw f at (h .lower))
 
-  pub set-ready : {t : List ℕ} → NodeReady P T p t → SetReady (taskSet P T p) p (length t)
+  pub set-ready : {t : List ℕ} → NodeReady P T p t → SetReady (setAt P T p) p (length t)
   set-ready h = record { formed = h .formed .set f; lower = members-lower (h .formed); room = h .room }
 
-  pub set-node : {t u : List ℕ} → NodeReady P T p t → SetRows (taskSet P T p) p t u → NodeRows P T p t u
+  pub set-node : {t u : List ℕ} → NodeReady P T p t → SetRows (setAt P T p) p t u → NodeRows P T p t u
   set-node {t} {u} h r = record { rows = λ b l e. rw f (Iff·trans (r .rows b e l) (over b e l)); others = r .others }
     where
       same : (q c : ℕ) → q < p → c ≤ T .last → rowAt u q c ≡ rowAt t q c
       same q c k m = r .others (q * 64 + c) (inl (omega (arith, h .moments)))
 
-      over : (b e : ℕ) → b ≤ T .last → SetRule (taskSet P T p) (InTable t) b e ↔ SetRule (taskSet P T p) (InTable u) b e
+      over : (b e : ℕ) → b ≤ T .last → SetRule (setAt P T p) (InTable t) b e ↔ SetRule (setAt P T p) (InTable u) b e
       over b e l = (
-        rule-map (λ i c d k m x. subst (λ (y : ℕ). In y d) (sym (same (member (taskSet P T p) i) c (members-lower (h .formed) i k) m)) x),
-        rule-map (λ i c d k m x. subst (λ (y : ℕ). In y d) (same (member (taskSet P T p) i) c (members-lower (h .formed) i k) m) x),
+        rule-map (λ i c d k m x. subst (λ (y : ℕ). In y d) (sym (same (member (setAt P T p) i) c (members-lower (h .formed) i k) m)) x),
+        rule-map (λ i c d k m x. subst (λ (y : ℕ). In y d) (same (member (setAt P T p) i) c (members-lower (h .formed) i k) m) x),
       )

@@ -5,5 +5,5 @@ use Rattle.model.specs.Procedure.{Procedure}
 use Rattle.sets.specs.Set.{TaskSet}
 
 -- the task set at node p
-abbrev pub taskSet : Procedure → Trajectory → ℕ → TaskSet
-taskSet P T p = record { members = P .members p; conditions = P .conditions p; value = T .value; last = T .last }
+abbrev pub setAt : Procedure → Trajectory → ℕ → TaskSet
+setAt P T p = record { members = P .members p; conditions = P .conditions p; value = T .value; last = T .last }

@@ -11,7 +11,7 @@ use Rattle.model.specs.Trajectory.{Trajectory}
 use Rattle.model.specs.Procedure.{Procedure}
 use Rattle.sets.specs.Set.{Placing}
 use Rattle.model.specs.Forms.{Act, Test, Sequence, Choice, If, While, StartWindow, EndWindow, Set, formAt, fieldX, fieldY, fieldM, fieldN}
-use Rattle.reading.specs.Forms.{taskSet}
+use Rattle.reading.specs.Forms.{setAt}
 
 pub data Mode : Type 0 where
   whole passes : Mode
@@ -54,7 +54,7 @@ pub data Reading (P : Procedure) (T : Trajectory) : Mode → ℕ → ℕ → ℕ
   -- 8: each member i reads bs i to es i, and these begins and ends are lawful from b to e
   set : {p b e : ℕ} {bs es : ℕ → ℕ} {us : ℕ → List ℕ} → formAt P p ≡ Set
       → ((i : ℕ) → i < length (P .members p) → Reading P T whole (getD (P .members p) i 0) (bs i) (es i) (us i))
-      → Placing (taskSet P T p) b e bs es
+      → Placing (setAt P T p) b e bs es
       → Reading P T whole p b e (readingWord p b e ∷ concatBelow us (length (P .members p)))
 
 -- the triple (p, b, e) has a reading: e is no later than the last moment, and some list of words is a reading of p from b to e

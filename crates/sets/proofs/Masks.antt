@@ -14,7 +14,7 @@ use Rattle.words.specs.Fields.{conditionFormula, conditionI, conditionJ, condit
 use Rattle.sets.specs.Set.{TaskSet, MetAs, MetAt}
 use Rattle.sets.specs.Code.Set.{member}
 use Rattle.sets.specs.Code.Rows.{entryAt}
-use Rattle.sets.specs.Code.Search.{asked, Later, Allowed, EndOf, EndSets, Asks, Narrowed}
+use Rattle.sets.specs.Code.Search.{asked, Later, Allowed, EndOf, EndSets, MaskAsks, Narrowed}
 
 -- ---- one condition more
 
@@ -26,7 +26,7 @@ module _ {cs allow begins old new : List ℕ} {k c : ℕ} where
   -- a condition whose later member is another
   pub narrow-skip : (Later (conditionI (getD cs c 0)) (conditionJ (getD cs c 0)) k → ⊥) → Narrowed cs allow k begins old c new
       → Narrowed cs allow k begins old (c + 1) new
-  narrow-skip n h = record { mask = λ i e. with-more (Asks cs allow k begins i e) c (λ z l. absurd (n l)) (h .mask i e) }
+  narrow-skip n h = record { mask = λ i e. with-more (MaskAsks cs allow k begins i e) c (λ z l. absurd (n l)) (h .mask i e) }
 
   module _ (m v : ℕ) (long : length new ≡ 4) (named : conditionI (getD cs c 0) < 4) (small : (i e : ℕ) → In (entryAt old i) e → e < 64)
       (later : Later (conditionI (getD cs c 0)) (conditionJ (getD cs c 0)) k)
@@ -37,16 +37,16 @@ module _ {cs allow begins old new : List ℕ} {k c : ℕ} where
     narrow-more h = record {
       mask = λ i e. by-cases (ℕ-discrete i (conditionI (getD cs c 0)))
           (λ q. rw (q, getD-set-same new (conditionI (getD cs c 0)) v 0 (omega arith)) (here e))
-          (λ q. rw (getD-set-other new (conditionI (getD cs c 0)) i v 0 q) (with-more (Asks cs allow k begins i e) c (λ z. absurd (q (sym z))) (h .mask i e)));
+          (λ q. rw (getD-set-other new (conditionI (getD cs c 0)) i v 0 q) (with-more (MaskAsks cs allow k begins i e) c (λ z. absurd (q (sym z))) (h .mask i e)));
     }
       where
         -- the member that the condition is on
-        here : (e : ℕ) → let f = conditionI (getD cs c 0) in In v e ↔ (In (entryAt old f) e × ((d : ℕ) → d < c + 1 → Asks cs allow k begins f e d))
+        here : (e : ℕ) → let f = conditionI (getD cs c 0) in In v e ↔ (In (entryAt old f) e × ((d : ℕ) → d < c + 1 → MaskAsks cs allow k begins f e d))
         here e = let f = conditionI (getD cs c 0) in (
           λ t.
               let p = both e .0 t in
               let o = h .mask f e .0 (p .0) in
-              (o .0, below-more (Asks cs allow k begins f e) c (o .1) (λ z l. is e (small f e (o .0)) .0 (p .1))),
+              (o .0, below-more (MaskAsks cs allow k begins f e) c (o .1) (λ z l. is e (small f e (o .0)) .0 (p .1))),
           λ o. both e .1 (h .mask f e .1 (o .0, λ d l. o .1 d (omega arith)), is e (small f e (o .0)) .1 (o .1 c (omega arith) refl later)),
         )
 

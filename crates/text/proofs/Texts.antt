@@ -6,7 +6,7 @@ use mathlib.Core.Path.{_≡_, refl, sym, ap, _∙_}
 use mathlib.Core.List.{List, [], _++_, append-assoc, append-nil}
 use lib.ListN.{length, take, set, getD, length-append, length-take}
 use lib.Seq.{paste, paste-suc, take-paste, length-paste, take-all}
-use Rattle.text.specs.Code.Written.{Appended, Written}
+use Rattle.text.specs.Code.Written.{Appended, WrittenText}
 
 -- a copy of the whole text at `start`
 pub pasted : (old : List ℕ) (start : ℕ) (text out : List ℕ) (i : ℕ) → start + length text ≤ length old → i ≡ length text → out ≡ paste old start text i → Appended old start text out (start + i)
@@ -34,7 +34,7 @@ then {old} {mid} {out} {t} {u} {start} {m} {end} first next =
     }
 
 -- a text that begins at 0 is the whole
-pub text-of : {old t out : List ℕ} {r : ℕ} → Appended old 0 t out r → Written t out r
+pub text-of : {old t out : List ℕ} {r : ℕ} → Appended old 0 t out r → WrittenText t out r
 text-of {old} {t} {out} {r} h =
     let long : r ≡ length (take r out) = omega (arith, h .ends, ap length (h .reads)) in
     record { counts = (omega (arith, length-take r out), long); reads = h .reads }

@@ -4,13 +4,13 @@ ghost use Prim.Native.Nat.{_+_, _*_, _≤_};
 ghost use lib.ListN.{length, take};
 ghost use Rattle.answers.specs.Packed.{lengthOf};
 ghost use Rattle.text.specs.Report.{decimalOf, fieldText, hexLine, hexLines, acceptedText, refusedText, reportOf};
-ghost use Rattle.text.specs.Code.Written.{Appended, Written};
+ghost use Rattle.text.specs.Code.Written.{Appended, WrittenText};
 use answers::Answer;
 
 // Writes the answer's line and, where it is accepted, its words, one a line. Answers the number of bytes.
 pub fn report(answer: Answer, words: &[u32], out: &mut [u8]) -> usize
     requires { ⌜ (lengthOf answer ≤ length (now words)) × (lengthOf answer * 9 + 100 ≤ length (now out)) ⌝ }
-    ensures { λ r. ⌜ Written (reportOf answer (now (words .entry))) (now (out .exit)) r ⌝ }
+    ensures { λ r. ⌜ WrittenText (reportOf answer (now (words .entry))) (now (out .exit)) r ⌝ }
 {
     match answer {
         Answer::Accepted { length, count } => accepted(out, length, count, words),
@@ -25,14 +25,14 @@ pub fn report(answer: Answer, words: &[u32], out: &mut [u8]) -> usize
 // Writes a text at the start of out.
 pub fn line(out: &mut [u8], text: &[u8]) -> usize
     requires { ⌜ length (now text) ≤ length (now out) ⌝ }
-    ensures { λ r. ⌜ Written (now (text .entry)) (now (out .exit)) r ⌝ }
+    ensures { λ r. ⌜ WrittenText (now (text .entry)) (now (out .exit)) r ⌝ }
 {
     append(out, 0, text)
 }
 
 fn accepted(out: &mut [u8], n: usize, count: u64, words: &[u32]) -> usize
     requires { ⌜ (n ≤ length (now words)) × (n * 9 + 100 ≤ length (now out)) ⌝ }
-    ensures { λ r. ⌜ Written (acceptedText n count (now (words .entry))) (now (out .exit)) r ⌝ }
+    ensures { λ r. ⌜ WrittenText (acceptedText n count (now (words .entry))) (now (out .exit)) r ⌝ }
 {
     let a = field(out, 0, b"read ", n as u64);
     let b = field(out, a, b" triples ", count);
@@ -42,7 +42,7 @@ fn accepted(out: &mut [u8], n: usize, count: u64, words: &[u32]) -> usize
 
 fn refused(out: &mut [u8], number: u64, position: usize, count: u64) -> usize
     requires { ⌜ 100 ≤ length (now out) ⌝ }
-    ensures { λ r. ⌜ Written (refusedText number position count) (now (out .exit)) r ⌝ }
+    ensures { λ r. ⌜ WrittenText (refusedText number position count) (now (out .exit)) r ⌝ }
 {
     let a = field(out, 0, b"refused ", number);
     let b = field(out, a, b" at ", position as u64);

@@ -12,7 +12,7 @@ use Rattle.model.specs.Trajectory.{Trajectory}
 use Rattle.model.specs.Procedure.{Procedure}
 use Rattle.sets.specs.Set.{TaskSet, memberCount}
 use Rattle.model.specs.Forms.{Form, Act, Test, Sequence, Choice, If, While, StartWindow, EndWindow, Set, Reserved, formAt, fieldX, fieldY, fieldM, fieldN, ConditionForm, BeginAfterBegin, BeginAfterEnd, HoldsBefore, HoldsAfter, HoldsBetween, ReservedCondition, conditionForm}
-use Rattle.reading.specs.Forms.{taskSet}
+use Rattle.reading.specs.Forms.{setAt}
 
 -- some m below k passes; each does
 unfoldable pub some : (ℕ → Bool) → ℕ → Bool
@@ -78,7 +78,7 @@ ruleb P T R StartWindow p b e =
 ruleb P T R EndWindow p b e =
     some (λ k. (leb b k && R (fieldX P p) b k)
     && some (λ m. (leb (k + fieldM P p) m && leb m (k + fieldN P p)) && R (fieldY P p) m e) (suc (T .last))) (suc (T .last))
-ruleb P T R Set p b e = setb (taskSet P T p) R b e
+ruleb P T R Set p b e = setb (setAt P T p) R b e
 ruleb P T R Reserved p b e = false
 
 -- the rule, k steps deep

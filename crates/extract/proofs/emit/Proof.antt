@@ -6,7 +6,6 @@ use borrow.Author.Needs.{needs}
 use Rattle.extract.proofs.emit.Statement.{statement}
 use Rattle.extract.proofs.emit.Tie as tie
 
--- the places of the code that the proof speaks of
 abbrev entry : tie.After-write-reading-arg → tie.Start
 entry c = c .before .before .before .before
 
@@ -22,4 +21,7 @@ returns c = λ starts durations s.
     emit-emitted s refl (c .before .before .write-reading .ensures (record { count = a .args .count; starts = starts; durations = durations }) (emit-writable s))
 
 pub emit-spec : {M : Type 1} → statement M
-emit-spec = tie.close (tie.spec (λ c. let (starts, durations, s) = c .before .before .before .pre in omega (arith, s .some)) write-reading-requires (λ c. search needs) returns)
+emit-spec =
+    tie.close
+    (tie.spec (λ c. let (starts, durations, s) = c .before .before .before .pre in omega (arith, s .some)) write-reading-requires
+    (λ c. search needs) returns)

@@ -41,7 +41,7 @@ WritableBy R words places values last table t at size u = Writable R (procedureB
 
 -- words that R allows stand in the buffer from `at` up to `end`, and all else is as it was
 -- (`sets` stores a list's elements one after the other; `lib.Seq.sets-eq` gives it as take at .. ++ words ++ drop end ..)
-pub record Written (R : List ℕ → Type 0) (before : List ℕ) (at : ℕ) (after : List ℕ) (end : ℕ) : Type 0 where
+pub record ReadingWritten (R : List ℕ → Type 0) (before : List ℕ) (at : ℕ) (after : List ℕ) (end : ℕ) : Type 0 where
   pub words : List ℕ
   pub allowed : R words
   pub ended : end ≡ at + length words

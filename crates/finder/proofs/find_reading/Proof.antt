@@ -13,7 +13,6 @@ use borrow.Author.Needs.{needs}
 use Rattle.finder.proofs.find_reading.Statement.{statement}
 use Rattle.finder.proofs.find_reading.Tie as tie
 
--- the places of the code that the proof speaks of
 abbrev entry : tie.After-judge-facts → tie.Start
 entry c = c .before .before .before .before .before .before
 

@@ -8,7 +8,6 @@ use borrow.Author.Needs.{needs}
 use Rattle.finder.proofs.seek.Statement.{statement}
 use Rattle.finder.proofs.seek.Tie as tie
 
--- the places of the code that the proof speaks of
 abbrev entry : tie.After-table → tie.Start
 entry c = c .before .before .before .before .before .before .before .before .before .before .before .before
 
@@ -28,7 +27,7 @@ moments f = let s = entry (f .before) .pre in few-moments _ _ _ (s .clear) (s .r
 has-end-requires : tie.Need-has-end-requires
 has-end-requires c κs =
     let f = c .before .before in
-    record { node = omega (arith, nodes f); begin = omega arith; end = moments f; size = f .tabulate .ensures .table .size }
+    record { node = omega (arith, nodes f); begin = omega (arith, moments f); end = omega (arith, moments f); size = f .tabulate .ensures .table .size }
 
 emit-requires : tie.Need-emit-requires
 emit-requires c κs =

@@ -25,7 +25,6 @@ Inv-loop and or job formulas count history t values₀ head k₀ values k = Turn
 abbrev μ-loop : tie.MeasureT-loop
 μ-loop and or job formulas count history t values₀ head k₀ values k = count - k
 
--- the places of the code that the proof speaks of
 abbrev entry : tie.After-at Inv-loop μ-loop → tie.Start Inv-loop μ-loop
 entry c = c .before .before .before .before .before
 

@@ -14,7 +14,6 @@ Inv-loop and or job formulas count history last values₀ t₀ values t = (t ≤
 abbrev μ-loop : tie.MeasureT-loop
 μ-loop and or job formulas count history last values₀ t₀ values t = last + 1 - t
 
--- the places of the code that the proof speaks of
 abbrev entry : tie.At-loop Inv-loop μ-loop → tie.Start Inv-loop μ-loop
 entry c = c .before .before .before .before
 

@@ -42,7 +42,7 @@ pub record ColumnsBefore (conj disj job : List ℕ) (fluent : ℕ → ℕ → �
   pub column : (u : ℕ) → u < t → ColumnAt conj disj job fluent u (formulaCount job) values
 
 -- a column that can be filled: that of moment t, after those before it
-pub record Fillable (conj disj job places : List ℕ) (count : ℕ) (history : List ℕ) (t : ℕ) (values : List ℕ) : Type 0 where
+pub record ColumnReady (conj disj job places : List ℕ) (count : ℕ) (history : List ℕ) (t : ℕ) (values : List ℕ) : Type 0 where
   pub connectives : Connectives conj disj
   pub grounds : Grounds job places count history
   pub moment : t ≤ lastMoment job

@@ -29,5 +29,5 @@ abbrev pub changedBy : List ℕ → ℕ → Bool → ℕ → ℕ → ℕ
 changedBy effects a hiding f old = changed hiding (getD effects (a * 64 + f) 0) old
 
 -- a pass to moment t
-abbrev pub Passed : List ℕ → Bool → ℕ → List ℕ → List ℕ → List ℕ → Type 0
-Passed job hiding t starts old new = Overlaid (fluents job) (actsOn job hiding t) (leaves job hiding) old starts new
+abbrev pub AfterPass : List ℕ → Bool → ℕ → List ℕ → List ℕ → List ℕ → Type 0
+AfterPass job hiding t starts old new = Overlaid (fluents job) (actsOn job hiding t) (leaves job hiding) old starts new

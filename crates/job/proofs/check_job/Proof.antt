@@ -10,7 +10,6 @@ use Rattle.job.proofs.Refusal.{clear, few, limits-actions, limits-formu
 use Rattle.job.proofs.check_job.Statement.{statement}
 use Rattle.job.proofs.check_job.Tie as tie
 
--- the places of the code that the proof speaks of
 abbrev entry : tie.Else1 → tie.Start
 entry c = c .before .before .before .before
 

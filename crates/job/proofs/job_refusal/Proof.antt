@@ -8,7 +8,6 @@ use Rattle.job.proofs.Refusal.{by-length, by-words, by-end}
 use Rattle.job.proofs.job_refusal.Statement.{statement}
 use Rattle.job.proofs.job_refusal.Tie as tie
 
--- the places of the code that the proof speaks of
 abbrev else1 : tie.After-struct-known → tie.Else1
 else1 c = c .before .before .before
 

@@ -18,4 +18,7 @@ returns c =
     set-words (now (s .args .words)) (s .args .place) (c .before .run-length .result) (c .run-length2 .result) (s .pre) (c .before .run-length .ensures) (c .run-length2 .ensures)
 
 pub set-counts-spec : {M : Type 1} → statement M
-set-counts-spec = tie.close (tie.spec (λ c. search needs) (λ c κs. search needs) (λ c. omega (arith, members-inside c, c .before .before .good)) (λ c κs. members-inside c) returns)
+set-counts-spec =
+    tie.close
+    (tie.spec (λ c. search needs) (λ c κs. search needs) (λ c. omega (arith, members-inside c, c .before .before .good)) (λ c κs. members-inside c)
+    returns)

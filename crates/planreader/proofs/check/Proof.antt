@@ -15,4 +15,7 @@ in-range c =
     check-range (c .before .before .before .before .args .job .now) (c .before .before .before .before .args .starts .now) (λ i. omega (arith, c .before .before .shared-slice-known2 .given i)) (c .before .before .before .before .args .facts .now)
 
 pub check-spec : {M : Type 1} → statement M
-check-spec = tie.close (tie.spec (λ c κs. search needs) (λ c κs. subst InRange (sym (c .check-plan .ensures)) (in-range c)) (λ c. let e = c .pack .ensures ∙ ap packed (c .before .check-plan .ensures) in (e, reads-back e (in-range (c .before)))))
+check-spec =
+    tie.close
+    (tie.spec (λ c κs. search needs) (λ c κs. subst InRange (sym (c .check-plan .ensures)) (in-range c))
+    (λ c. let e = c .pack .ensures ∙ ap packed (c .before .check-plan .ensures) in (e, reads-back e (in-range (c .before)))))

@@ -21,4 +21,7 @@ returns c = let made = c .before .before .before .fill-plan .ensures in
     (e, (reads-back e (in-range (c .before)), rw (made .0) at (made .1)))
 
 pub fill-spec : {M : Type 1} → statement M
-fill-spec = tie.close (tie.spec (λ c κs. search needs) (λ c κs. subst InRange (sym (c .before .before .fill-plan .ensures .0)) (in-range c)) (λ c. search needs) returns)
+fill-spec =
+    tie.close
+    (tie.spec (λ c κs. search needs) (λ c κs. subst InRange (sym (c .before .before .fill-plan .ensures .0)) (in-range c)) (λ c. search needs)
+    returns)

@@ -14,7 +14,7 @@ InBuffer (Bytes n) buffer = Counts n buffer
 InBuffer Bad buffer = Unit {0}
 
 -- room for the words of both files, the buffer that find is lent, and room for the longest text
-pub record Room (job plan jobWords planWords buffer out : List ℕ) : Type 0 where
+pub record ReplyRoom (job plan jobWords planWords buffer out : List ℕ) : Type 0 where
   pub job-fits : length job / 4 ≤ length jobWords
   pub plan-fits : length plan / 4 ≤ length planWords
   pub fresh : buffer ≡ lent

@@ -8,12 +8,12 @@ use Rattle.model.specs.Procedure.{Procedure}
 use Rattle.model.specs.Forms.{Set, formAt}
 use Rattle.model.specs.Code.Forms.{children, Below}
 use Rattle.sets.specs.Code.Set.{Formed}
-use Rattle.reading.specs.Forms.{taskSet}
+use Rattle.reading.specs.Forms.{setAt}
 
 -- node p's children have lower numbers, and its task set is one
 pub record NodeReadable (P : Procedure) (T : Trajectory) (p : ℕ) : Type 0 where
   pub lower : Below p (children P p)
-  pub set : formAt P p ≡ Set → Formed (taskSet P T p)
+  pub set : formAt P p ≡ Set → Formed (setAt P T p)
 
 -- the reader may run: at most 64 nodes, each formed, whose words stand at these places of a list of that size, and moments below 64
 pub record Readable (P : Procedure) (T : Trajectory) (size : ℕ) (places : List ℕ) : Type 0 where

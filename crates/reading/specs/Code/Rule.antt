@@ -10,7 +10,7 @@ use Rattle.model.specs.Trajectory.{Trajectory}
 use Rattle.model.specs.Procedure.{Procedure}
 use Rattle.sets.specs.Code.Set.{SetRule}
 use Rattle.model.specs.Forms.{Form, Act, Test, Sequence, Choice, If, While, StartWindow, EndWindow, Set, Reserved, fieldX, fieldY, fieldM, fieldN}
-use Rattle.reading.specs.Forms.{taskSet}
+use Rattle.reading.specs.Forms.{setAt}
 
 abbrev pub Rule : Procedure → Trajectory → (ℕ → ℕ → ℕ → Type 0) → Form → ℕ → ℕ → ℕ → Type 0
 Rule P T R Act p b e = (T .starts (fieldX P p) b ≡ true) × (e ≡ b + T .duration (fieldX P p)) × (e ≤ T .last)
@@ -26,5 +26,5 @@ Rule P T R StartWindow p b e =
     × ((k : ℕ) × (l : ℕ) × (e ≡ max k l) × R (fieldX P p) b k × R (fieldY P p) m l)
 Rule P T R EndWindow p b e =
     (k : ℕ) × (m : ℕ) × (b ≤ k) × (k + fieldM P p ≤ m) × (m ≤ k + fieldN P p) × (m ≤ T .last) × R (fieldX P p) b k × R (fieldY P p) m e
-Rule P T R Set p b e = SetRule (taskSet P T p) R b e
+Rule P T R Set p b e = SetRule (setAt P T p) R b e
 Rule P T R Reserved p b e = ⊥

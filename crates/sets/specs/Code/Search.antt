@@ -93,13 +93,13 @@ pub record Later (i j k : ℕ) : Type 0 where
   pub one : (i ≡ k) ⊎ (j ≡ k)
 
 -- what condition d, where its later member is k, asks of the end e of member i, by its mask
-abbrev pub Asks : List ℕ → List ℕ → ℕ → List ℕ → ℕ → ℕ → ℕ → Type 0
-Asks cs allow k begins i e d = let w = getD cs d 0 in
+abbrev pub MaskAsks : List ℕ → List ℕ → ℕ → List ℕ → ℕ → ℕ → ℕ → Type 0
+MaskAsks cs allow k begins i e d = let w = getD cs d 0 in
     conditionI w ≡ i → Later (conditionI w) (conditionJ w) k → In (getD allow (d * 64 + entryAt begins (conditionJ w)) 0) (asked (conditionForm w) (entryAt begins i) e)
 
 -- the masks `new` are the masks `old` with the first c conditions
 pub record Narrowed (cs allow : List ℕ) (k : ℕ) (begins old : List ℕ) (c : ℕ) (new : List ℕ) : Type 0 where
-  pub mask : (i e : ℕ) → In (entryAt new i) e ↔ (In (entryAt old i) e × ((d : ℕ) → d < c → Asks cs allow k begins i e d))
+  pub mask : (i e : ℕ) → In (entryAt new i) e ↔ (In (entryAt old i) e × ((d : ℕ) → d < c → MaskAsks cs allow k begins i e d))
 
 -- condition d, of form f, allows the end e of its member i, begun at x, for some begin before z of its member j
 pub record SomeBegin (allow : List ℕ) (z : ℕ) (f : ConditionForm) (d x e : ℕ) : Type 0 where

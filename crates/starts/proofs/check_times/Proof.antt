@@ -7,7 +7,6 @@ use borrow.Author.Needs.{needs}
 use Rattle.starts.proofs.check_times.Statement.{statement}
 use Rattle.starts.proofs.check_times.Tie as tie
 
--- the places of the code that the proof speaks of
 abbrev entry : tie.Else1 → tie.Start
 entry c = c .before .before .before .before .before
 

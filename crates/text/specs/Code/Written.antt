@@ -12,6 +12,6 @@ pub record Appended (old : List ℕ) (start : ℕ) (text out : List ℕ) (end : 
   pub same : length out ≡ length old
 
 -- the first r bytes of out are the text
-pub record Written (text out : List ℕ) (r : ℕ) : Type 0 where
+pub record WrittenText (text out : List ℕ) (r : ℕ) : Type 0 where
   pub counts : Counts r out
   pub reads : take r out ≡ text

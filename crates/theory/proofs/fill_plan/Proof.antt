@@ -18,7 +18,6 @@ use native.Mathlib.Omega.{arith}
 use Rattle.theory.proofs.fill_plan.Statement.{statement}
 use Rattle.theory.proofs.fill_plan.Tie as tie
 
--- the places of the code that the proof speaks of
 abbrev judged : tie.Else2 → tie.After-judge
 judged c = c .before .before .before
 

@@ -11,7 +11,6 @@ use borrow.Author.Needs.{needs}
 use Rattle.theory.proofs.judge.Statement.{statement}
 use Rattle.theory.proofs.judge.Tie as tie
 
--- the places of the code that the proof speaks of
 abbrev checked : tie.After-index → tie.After-check-job
 checked c = c .before .before
 

@@ -18,7 +18,6 @@ use native.Mathlib.Omega.{arith}
 use Rattle.theory.proofs.judge_facts.Statement.{statement}
 use Rattle.theory.proofs.judge_facts.Tie as tie
 
--- the places of the code that the proof speaks of
 abbrev entry : tie.After-judge → tie.Start
 entry c = c .before .before .before .before
 

@@ -13,7 +13,6 @@ use borrow.Author.Needs.{needs}
 use Rattle.theory.proofs.judge_starts.Statement.{statement}
 use Rattle.theory.proofs.judge_starts.Tie as tie
 
--- the places of the code that the proof speaks of
 abbrev timed : tie.After-check-times → tie.Start
 timed c = c .before .before .before .before .before .before .before .before .before .before .before
 

@@ -18,7 +18,6 @@ Inv-loop ws at k i₀ i =
 abbrev μ-loop : tie.MeasureT-loop
 μ-loop ws at k i₀ i = length ws - i
 
--- the places of the code that the proof speaks of
 abbrev entry : tie.After-kind-of Inv-loop μ-loop → tie.Start Inv-loop μ-loop
 entry c = c .before .before .before .before .before
 

@@ -23,7 +23,6 @@ Inv-loop members nodes₀ i₀ nodes i = Passed members nodes i
 abbrev μ-loop : tie.MeasureT-loop
 μ-loop members nodes₀ i₀ nodes i = length members - i
 
--- the places of the code that the proof speaks of
 abbrev entry : tie.After-member-node Inv-loop μ-loop → tie.Start Inv-loop μ-loop
 entry c = c .before .before .before .before .before
 

@@ -9,7 +9,6 @@ use borrow.Author.Needs.{needs}
 use Rattle.extract.proofs.parts.set_parts.Statement.{statement}
 use Rattle.extract.proofs.parts.set_parts.Tie as tie
 
--- the places of the code that the proof speaks of
 abbrev after-set-counts : tie.After-place → tie.After-set-counts
 after-set-counts c = c .before .before .before .before
 

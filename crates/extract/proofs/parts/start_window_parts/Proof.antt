@@ -6,7 +6,6 @@ use Rattle.extract.proofs.Searches.{start-meets, start-at}
 use Rattle.extract.proofs.parts.start_window_parts.Statement.{statement}
 use Rattle.extract.proofs.parts.start_window_parts.Tie as tie
 
--- the places of the code that the proof speaks of
 abbrev entry : tie.After-ends → tie.Start
 entry c = c .before .before .before .before .before
 

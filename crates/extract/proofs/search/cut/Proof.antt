@@ -13,7 +13,6 @@ Inv-loop table x y b e least most from left₀ left = Left table x y b e least m
 abbrev μ-loop : tie.MeasureT-loop
 μ-loop table x y b e least most from left₀ left = popCount left
 
--- the places of the code that the proof speaks of
 abbrev entry : tie.At-loop Inv-loop μ-loop → tie.Start Inv-loop μ-loop
 entry c = c .before .before .before .before .before
 

@@ -12,4 +12,7 @@ returns-2 : tie.Need-returns-2
 returns-2 c = ends-second (c .before .before .before .pre .1) (sym (c .before .before .has .ensures) ∙ c .before .if1 .left) (c .lowest2 .ensures)
 
 pub ends-spec : {M : Type 1} → statement M
-ends-spec = tie.close (tie.spec (λ c. search needs) (λ c κs. search needs) (λ c κs. nonempty _ _ (c .before .before .pre .1 .in-b)) (λ c. search needs) returns (λ c κs. nonempty _ _ (c .before .before .pre .1 .in-a)) (λ c. search needs) returns-2)
+ends-spec =
+    tie.close
+    (tie.spec (λ c. search needs) (λ c κs. search needs) (λ c κs. nonempty _ _ (c .before .before .pre .1 .in-b)) (λ c. search needs) returns
+    (λ c κs. nonempty _ _ (c .before .before .pre .1 .in-a)) (λ c. search needs) returns-2)

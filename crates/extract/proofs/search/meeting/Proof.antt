@@ -14,7 +14,6 @@ Inv-loop xs table y first end e m₀ m = Onward xs table y first end e m
 abbrev μ-loop : tie.MeasureT-loop
 μ-loop xs table y first end e m₀ m = 128 - m
 
--- the places of the code that the proof speaks of
 abbrev turn : tie.After-has Inv-loop μ-loop → tie.At-loop Inv-loop μ-loop
 turn c = c .before .before .before .before .before
 

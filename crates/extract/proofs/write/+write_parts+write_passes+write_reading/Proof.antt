@@ -11,7 +11,7 @@ use Rattle.model.specs.Forms.{While, formNumber, formAt}
 use Rattle.model.specs.declared.Triple.{Triple}
 use Rattle.model.proofs.Forms.{form-number}
 use Rattle.extract.specs.Code.Parts.{Unseen, procedureBy, trajectoryBy, ChosenBy}
-use Rattle.extract.specs.Code.Contract.{Rest, WritableBy, Written}
+use Rattle.extract.specs.Code.Contract.{Rest, WritableBy, ReadingWritten}
 use Rattle.extract.proofs.Written.{written-none, written-under, written-length}
 use Rattle.extract.proofs.Steps.{Done, done-none, Halfway, resize, has-room, moments, place-inside, choosable, headed, part-moments, part-child, part-more, part-end, body-lower, pass-start, pass-ready, pass-child, pass-more, pass-end}
 use Rattle.extract.proofs.write.write_parts.Reads as parts
@@ -73,7 +73,7 @@ Inv-parts words places values last table at buffer₀ number nodes begins ends e
     (i ≤ number)
     × ((u : Unseen) (t : Triple) → WritableBy Rest words places values last table t at (length buffer₀) u
     → ChosenBy words places values last table t (record { count = number; nodes = nodes; begins = begins; ends = ends }) u
-    → Written (Done (procedureBy words places u) (trajectoryBy values last u) (record { count = number; nodes = nodes; begins = begins; ends = ends }) i) buffer₀ at buffer end)
+    → ReadingWritten (Done (procedureBy words places u) (trajectoryBy values last u) (record { count = number; nodes = nodes; begins = begins; ends = ends }) i) buffer₀ at buffer end)
 
 abbrev μ-loop-parts : parts-lts.MeasureT-loop
 μ-loop-parts words places values last table at buffer₀ number nodes begins ends end₀ i₀ buffer end i = number - i

@@ -4,7 +4,6 @@ use borrow.Author.Needs.{needs}
 use Rattle.facts.proofs.list.fill_facts.Statement.{statement}
 use Rattle.facts.proofs.list.fill_facts.Tie as tie
 
--- the places of the code that the proof speaks of
 abbrev after-last-of : tie.After-slice-known2 → tie.After-last-of
 after-last-of c = c .before .before .before .before
 

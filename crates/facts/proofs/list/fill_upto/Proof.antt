@@ -22,7 +22,6 @@ Inv-loop job history last buffer₀ head n at₀ t₀ buffer at t = Turn history
 abbrev μ-loop : tie.MeasureT-loop
 μ-loop job history last buffer₀ head n at₀ t₀ buffer at t = last + 1 - t
 
--- the places of the code that the proof speaks of
 abbrev entry : tie.After-fluents-of Inv-loop μ-loop → tie.Start Inv-loop μ-loop
 entry c = c .before .before .before .before
 

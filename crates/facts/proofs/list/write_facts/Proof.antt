@@ -14,7 +14,6 @@ Inv-loop history head t n buffer₀ at end₀ f₀ buffer end f = (f ≤ n) × W
 abbrev μ-loop : tie.MeasureT-loop
 μ-loop history head t n buffer₀ at end₀ f₀ buffer end f = n - f
 
--- the places of the code that the proof speaks of
 abbrev entry : tie.After-write-fact-arg2 Inv-loop μ-loop → tie.Start Inv-loop μ-loop
 entry c = c .before .before .before .before .before
 

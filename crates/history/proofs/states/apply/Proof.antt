@@ -15,7 +15,6 @@ Inv-loop effects a n hiding state₀ f₀ state f = (f ≤ n) × Mapped f (chang
 abbrev μ-loop : tie.MeasureT-loop
 μ-loop effects a n hiding state₀ f₀ state f = n - f
 
--- the places of the code that the proof speaks of
 abbrev turn : tie.After-changed Inv-loop μ-loop → tie.At-loop Inv-loop μ-loop
 turn c = c .before .before .before .before
 

@@ -10,7 +10,6 @@ use borrow.Author.Needs.{needs}
 use Rattle.history.proofs.states.apply_start.Statement.{statement}
 use Rattle.history.proofs.states.apply_start.Tie as tie
 
--- the places of the code that the proof speaks of
 abbrev entry : tie.After-acts-arg → tie.Start
 entry c = c .before .before .before .before
 

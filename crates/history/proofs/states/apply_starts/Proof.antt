@@ -2,7 +2,7 @@
 use mathlib.Core.Path.{_≡_}
 use Prim.Native.Nat.{_-_, _≤_}
 use lib.ListN.{length, drop}
-use Rattle.history.specs.Code.Passes.{Passed}
+use Rattle.history.specs.Code.Passes.{AfterPass}
 use Rattle.history.proofs.Stores.{overlaid-none, overlaid-back}
 use Rattle.history.proofs.Moments.{walkable-one}
 use native.Mathlib.Omega.{arith}
@@ -11,12 +11,11 @@ use Rattle.history.proofs.states.apply_starts.Statement.{statement}
 use Rattle.history.proofs.states.apply_starts.Tie as tie
 
 abbrev Inv-loop : tie.InvT-loop
-Inv-loop job durations effects starts hiding t state₀ i₀ state i = (i ≤ length starts) × Passed job hiding t (drop i starts) state₀ state
+Inv-loop job durations effects starts hiding t state₀ i₀ state i = (i ≤ length starts) × AfterPass job hiding t (drop i starts) state₀ state
 
 abbrev μ-loop : tie.MeasureT-loop
 μ-loop job durations effects starts hiding t state₀ i₀ state i = i
 
--- the places of the code that the proof speaks of
 abbrev entry : tie.After-apply-start-arg Inv-loop μ-loop → tie.Start Inv-loop μ-loop
 entry c = c .before .before .before .before .before .before
 

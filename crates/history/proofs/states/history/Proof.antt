@@ -24,7 +24,6 @@ Inv-loop job durations effects starts last table₀ state₀ t₀ table state t 
 abbrev μ-loop : tie.MeasureT-loop
 μ-loop job durations effects starts last table₀ state₀ t₀ table state t = last + 1 - t
 
--- the places of the code that the proof speaks of
 abbrev start : tie.After-last-of Inv-loop μ-loop → tie.Start Inv-loop μ-loop
 start c = c .before .before .before .before
 

@@ -17,7 +17,6 @@ Inv-loop job head state₀ i₀ state i = (i ≤ length job) × Overlaid 64 (lis
 abbrev μ-loop : tie.MeasureT-loop
 μ-loop job head state₀ i₀ state i = i
 
--- the places of the code that the proof speaks of
 abbrev entry : tie.After-loop Inv-loop μ-loop → tie.Start Inv-loop μ-loop
 entry c = c .before .before .before .before
 

@@ -4,7 +4,6 @@ use borrow.Author.Needs.{needs}
 use Rattle.history.proofs.states.step.Statement.{statement}
 use Rattle.history.proofs.states.step.Tie as tie
 
--- the places of the code that the proof speaks of
 abbrev entry : tie.After-apply-starts-arg2 → tie.Start
 entry c = c .before .before .before .before .before
 

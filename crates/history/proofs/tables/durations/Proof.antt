@@ -24,7 +24,6 @@ Inv-loop job places n table₀ a₀ table a = Turn job n a table
 abbrev μ-loop : tie.MeasureT-loop
 μ-loop job places n table₀ a₀ table a = n - a
 
--- the places of the code that the proof speaks of
 abbrev entry : tie.In-loop Inv-loop μ-loop → tie.Start Inv-loop μ-loop
 entry c = c .before .before .before .before .before
 

@@ -20,7 +20,6 @@ Inv-loop job places head n table₀ a₀ table a = Turn job n a table
 abbrev μ-loop : tie.MeasureT-loop
 μ-loop job places head n table₀ a₀ table a = n - a
 
--- the places of the code that the proof speaks of
 abbrev entry-of : tie.At-loop Inv-loop μ-loop → tie.Start Inv-loop μ-loop
 entry-of c = c .before .before .before .before
 

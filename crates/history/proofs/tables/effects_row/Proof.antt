@@ -17,7 +17,6 @@ Inv-loop head laws row₀ i₀ row i = (i ≤ length laws) × Overlaid 64 (makes
 abbrev μ-loop : tie.MeasureT-loop
 μ-loop head laws row₀ i₀ row i = i
 
--- the places of the code that the proof speaks of
 abbrev turn : tie.After-store-law Inv-loop μ-loop → tie.At-loop Inv-loop μ-loop
 turn c = c .before .before .before .before
 

@@ -27,7 +27,6 @@ module _ {job places : List ℕ} {a : ℕ} (w : WellFormed job) (p : Indexed job
       let q : getD places a 0 + 1 + n - (getD places a 0 + 1) ≡ n = omega arith in
       rw (q, e, takeWhile-take (ofKind 4) (drop (getD places a 0 + 1) job)) (sym (laws-place p a (action-counted w h)))
 
--- the places of the code that the proof speaks of
 abbrev entry : tie.After-result → tie.Start
 entry c = c .before .before .before .before
 

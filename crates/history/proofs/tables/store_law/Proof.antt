@@ -9,7 +9,6 @@ use borrow.Author.Needs.{needs}
 use Rattle.history.proofs.tables.store_law.Statement.{statement}
 use Rattle.history.proofs.tables.store_law.Tie as tie
 
--- the places of the code that the proof speaks of
 abbrev entry : tie.After-fluent-of → tie.Start
 entry c = c .before .before .before .before .before
 

@@ -21,7 +21,6 @@ Inv-loop job root v₀ v = (v ≤ root) × (firstOf (nameRefusal (before job (le
 abbrev μ-loop : tie.MeasureT-loop
 μ-loop job root v₀ v = root - v
 
--- the places of the code that the proof speaks of
 abbrev entry : tie.After-none Inv-loop μ-loop → tie.Start Inv-loop μ-loop
 entry c = c .before .before .before .before
 

@@ -22,7 +22,6 @@ Inv-loop job v n₀ i₀ n i = Counting job v n i
 abbrev μ-loop : tie.MeasureT-loop
 μ-loop job v n₀ i₀ n i = length job - i
 
--- the places of the code that the proof speaks of
 abbrev entry : tie.After-names-of Inv-loop μ-loop → tie.Start Inv-loop μ-loop
 entry c = c .before .before .before .before .before
 

@@ -16,7 +16,6 @@ Inv-loop job k n position₀ total₀ i₀ position total i = (i ≤ n) × Marke
 abbrev μ-loop : tie.MeasureT-loop
 μ-loop job k n position₀ total₀ i₀ position total i = n - i
 
--- the places of the code that the proof speaks of
 abbrev entry : tie.Then1 Inv-loop μ-loop → tie.Start Inv-loop μ-loop
 entry c = c .before .before .before .before .before .before
 

@@ -5,4 +5,6 @@ use Rattle.job.proofs.rules.condition_shape.Tie as tie
 
 pub condition-shape-spec : {M : Type 1} → statement M
 condition-shape-spec =
-    tie.close (tie.spec (λ c κs. search needs) (λ c κs. search needs) (λ c κs. search needs) (λ c. rw (c .condition-j .ensures .0, c .before .condition-formula .ensures .0, c .before .before .form-of .ensures .0)))
+    tie.close
+    (tie.spec (λ c κs. search needs) (λ c κs. search needs) (λ c κs. search needs)
+    (λ c. rw (c .condition-j .ensures .0, c .before .condition-formula .ensures .0, c .before .before .form-of .ensures .0)))

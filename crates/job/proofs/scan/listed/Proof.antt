@@ -19,7 +19,6 @@ Inv-loop job i k head w j₀ j =
 abbrev μ-loop : tie.MeasureT-loop
 μ-loop job i k head w j₀ j = j
 
--- the places of the code that the proof speaks of
 abbrev turn : tie.After-kind-of Inv-loop μ-loop → tie.At-loop Inv-loop μ-loop
 turn c = c .before .before .before
 

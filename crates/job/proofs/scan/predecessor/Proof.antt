@@ -8,7 +8,6 @@ use Rattle.job.proofs.Before.{before-less}
 use Rattle.job.proofs.scan.predecessor.Statement.{statement}
 use Rattle.job.proofs.scan.predecessor.Tie as tie
 
--- the places of the code that the proof speaks of
 abbrev entry : tie.After-pick-word → tie.Start
 entry c = c .before .before .before .before .before .before
 

@@ -27,7 +27,6 @@ Inv-loop job s₀ i₀ s i = Scanning job s i
 abbrev μ-loop : tie.MeasureT-loop
 μ-loop job s₀ i₀ s i = length job - i
 
--- the places of the code that the proof speaks of
 abbrev entry : tie.After-none Inv-loop μ-loop → tie.Start Inv-loop μ-loop
 entry c = c .before .before .before .before
 

@@ -8,7 +8,6 @@ use borrow.Author.Needs.{needs}
 use Rattle.reader.proofs.reply.reply.Statement.{statement}
 use Rattle.reader.proofs.reply.reply.Tie as tie
 
--- the places of the code that the proof speaks of
 abbrev unsized : tie.After-slice-known2 → tie.Then1
 unsized c = c .before .before .before .before
 

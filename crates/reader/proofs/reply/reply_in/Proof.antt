@@ -3,7 +3,6 @@ use borrow.Author.Needs.{needs}
 use Rattle.reader.proofs.reply.reply_in.Statement.{statement}
 use Rattle.reader.proofs.reply.reply_in.Tie as tie
 
--- the places of the code that the proof speaks of
 abbrev after-decode : tie.After-decode2 → tie.After-decode
 after-decode c = c .before .before .before .before
 

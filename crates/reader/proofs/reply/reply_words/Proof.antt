@@ -11,7 +11,6 @@ use borrow.Author.Needs.{needs}
 use Rattle.reader.proofs.reply.reply_words.Statement.{statement}
 use Rattle.reader.proofs.reply.reply_words.Tie as tie
 
--- the places of the code that the proof speaks of
 abbrev entry : tie.After-starts-length → tie.Start
 entry c = c .before .before .before .before .before
 

@@ -4,7 +4,6 @@ use borrow.Author.Needs.{needs}
 use Rattle.reading.proofs.rows.end_window_row.Statement.{statement}
 use Rattle.reading.proofs.rows.end_window_row.Tie as tie
 
--- the places of the code that the proof speaks of
 abbrev entry : tie.After-join-rows → tie.Start
 entry c = c .before .before .before .before
 

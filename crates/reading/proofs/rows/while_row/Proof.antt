@@ -6,7 +6,6 @@ use borrow.Author.Needs.{needs}
 use Rattle.reading.proofs.rows.while_row.Statement.{statement}
 use Rattle.reading.proofs.rows.while_row.Tie as tie
 
--- the places of the code that the proof speaks of
 abbrev then2 : tie.After-join-rows → tie.Then2
 then2 c = c .before .before .before .before
 

@@ -12,7 +12,6 @@ Inv-loop ends least most last found₀ left₀ found left = Split ends least mos
 abbrev μ-loop : tie.MeasureT-loop
 μ-loop ends least most last found₀ left₀ found left = popCount left
 
--- the places of the code that the proof speaks of
 abbrev turn : tie.After-drop-lowest Inv-loop μ-loop → tie.At-loop Inv-loop μ-loop
 turn c = c .before .before .before .before .before
 

@@ -13,7 +13,6 @@ use borrow.Author.Needs.{needs}
 use Rattle.reading.proofs.table.fill_node.Statement.{statement}
 use Rattle.reading.proofs.table.fill_node.Tie as tie
 
--- the places of the code that the proof speaks of
 abbrev then1 : tie.After-slice-known2 → tie.Then1
 then1 c = c .before .before .before .before
 

@@ -13,7 +13,6 @@ Inv-loop word starts durations values last p table₀ b₀ table b = (b ≤ last
 abbrev μ-loop : tie.MeasureT-loop
 μ-loop word starts durations values last p table₀ b₀ table b = b
 
--- the places of the code that the proof speaks of
 abbrev entry : tie.After-row-arg Inv-loop μ-loop → tie.Start Inv-loop μ-loop
 entry c = c .before .before .before .before
 

@@ -4,7 +4,6 @@ use borrow.Author.Needs.{needs}
 use Rattle.reading.proofs.table.fill_set.Statement.{statement}
 use Rattle.reading.proofs.table.fill_set.Tie as tie
 
--- the places of the code that the proof speaks of
 abbrev after-set-counts : tie.After-set-rows-arg3 → tie.After-set-counts
 after-set-counts c = c .before .before .before .before .before
 

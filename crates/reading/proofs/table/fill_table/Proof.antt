@@ -19,7 +19,6 @@ Inv-loop words places count starts durations values last table₀ p₀ table p =
 abbrev μ-loop : tie.MeasureT-loop
 μ-loop words places count starts durations values last table₀ p₀ table p = count - p
 
--- the places of the code that the proof speaks of
 abbrev entry1 : tie.At-loop Inv-loop μ-loop → tie.Start Inv-loop μ-loop
 entry1 c = c .before .before .before
 

@@ -4,7 +4,6 @@ use borrow.Author.Needs.{needs}
 use Rattle.reading.proofs.table.tabulate.Statement.{statement}
 use Rattle.reading.proofs.table.tabulate.Tie as tie
 
--- the places of the code that the proof speaks of
 abbrev entry : tie.After-count-all → tie.Start
 entry c = c .before .before .before .before .before .before .before .before
 

@@ -17,4 +17,6 @@ returns-2 c =
 
 pub greatest-upto-spec : {M : Type 1} → statement M
 greatest-upto-spec =
-    tie.close (tie.spec (λ c κs. search needs) (λ c. search needs) (λ c. search needs) (λ c. subst (HighestUpto _ _) (c .before .m .given .1) (c .before .before .before .highest-upto .ensures)) returns-2)
+    tie.close
+    (tie.spec (λ c κs. search needs) (λ c. search needs) (λ c. search needs)
+    (λ c. subst (HighestUpto _ _) (c .before .m .given .1) (c .before .before .before .highest-upto .ensures)) returns-2)

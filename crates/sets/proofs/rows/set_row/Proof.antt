@@ -15,4 +15,7 @@ complete-requires : tie.Need-complete-requires
 complete-requires c κs = let s = c .before .before .before .before .before in search-start (s .pre) (later-start (s .args .members .now) (c .later-ends .ensures .0)) (c .later-ends .ensures .1)
 
 pub set-row-spec : {M : Type 1} → statement M
-set-row-spec = tie.close (tie.spec later-ends-requires complete-requires (λ c. λ e. let h = from-none (c .complete .ensures e) in (λ t. h .0 t .rule, λ r. h .1 (nothing-placed .1 r))))
+set-row-spec =
+    tie.close
+    (tie.spec later-ends-requires complete-requires
+    (λ c. λ e. let h = from-none (c .complete .ensures e) in (λ t. h .0 t .rule, λ r. h .1 (nothing-placed .1 r))))

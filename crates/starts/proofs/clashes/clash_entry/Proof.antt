@@ -5,7 +5,6 @@ use native.Mathlib.Omega.{arith}
 use Rattle.starts.proofs.clashes.clash_entry.Statement.{statement}
 use Rattle.starts.proofs.clashes.clash_entry.Tie as tie
 
--- the places of the code that the proof speaks of
 abbrev entry : tie.Else2 → tie.Start
 entry c = c .before .before .before .before .before
 

@@ -15,7 +15,6 @@ Inv-loop job latest table b u n a₀ a = Sought (clashesAfter job latest b u) (a
 abbrev μ-loop : tie.MeasureT-loop
 μ-loop job latest table b u n a₀ a = n - a
 
--- the places of the code that the proof speaks of
 abbrev entry : tie.In-loop Inv-loop μ-loop → tie.Start Inv-loop μ-loop
 entry c = c .before .before .before .before .before
 

@@ -19,7 +19,6 @@ Inv-loop job durations effects starts table latest₀ i₀ latest i = Tried 9 (c
 abbrev μ-loop : tie.MeasureT-loop
 μ-loop job durations effects starts table latest₀ i₀ latest i = length starts - i
 
--- the places of the code that the proof speaks of
 abbrev entry : tie.After-start-action Inv-loop μ-loop → tie.Start Inv-loop μ-loop
 entry c = c .before .before .before .before .before .before .before
 

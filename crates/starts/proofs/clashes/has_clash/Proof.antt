@@ -16,7 +16,6 @@ Inv-loop job effects a b n f₀ f = Sought (opposed job a b) (fluents job) f
 abbrev μ-loop : tie.MeasureT-loop
 μ-loop job effects a b n f₀ f = n - f
 
--- the places of the code that the proof speaks of
 abbrev entry : tie.In-loop Inv-loop μ-loop → tie.Start Inv-loop μ-loop
 entry c = c .before .before .before .before .before
 

@@ -15,7 +15,6 @@ Inv-loop job starts i₀ i = Tried 6 (wrongWord job starts) (length starts) i
 abbrev μ-loop : tie.MeasureT-loop
 μ-loop job starts i₀ i = length starts - i
 
--- the places of the code that the proof speaks of
 abbrev entry : tie.After-shared-slice-known3 Inv-loop μ-loop → tie.Start Inv-loop μ-loop
 entry c = c .before .before .before .before .before
 

@@ -18,7 +18,6 @@ Inv-loop job durations starts last i₀ i = Tried 7 (endsLate job starts) (lengt
 abbrev μ-loop : tie.MeasureT-loop
 μ-loop job durations starts last i₀ i = length starts - i
 
--- the places of the code that the proof speaks of
 abbrev entry : tie.After-shared-slice-known4 Inv-loop μ-loop → tie.Start Inv-loop μ-loop
 entry c = c .before .before .before .before .before .before .before
 

@@ -20,7 +20,6 @@ Inv-loop job durations starts latest₀ i₀ latest i = Tried 8 (inHandAlready j
 abbrev μ-loop : tie.MeasureT-loop
 μ-loop job durations starts latest₀ i₀ latest i = length starts - i
 
--- the places of the code that the proof speaks of
 abbrev entry : tie.After-start-action Inv-loop μ-loop → tie.Start Inv-loop μ-loop
 entry c = c .before .before .before .before .before .before
 

@@ -17,7 +17,6 @@ Inv-loop job places history starts head i₀ i = Tried 10 (needsUnmet job starts
 abbrev μ-loop : tie.MeasureT-loop
 μ-loop job places history starts head i₀ i = length starts - i
 
--- the places of the code that the proof speaks of
 abbrev entry : tie.After-start-action Inv-loop μ-loop → tie.Start Inv-loop μ-loop
 entry c = c .before .before .before .before .before .before .before
 

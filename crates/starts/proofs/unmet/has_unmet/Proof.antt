@@ -17,7 +17,6 @@ Inv-loop head history t laws i₀ i = (i ≤ length laws)
 abbrev μ-loop : tie.MeasureT-loop
 μ-loop head history t laws i₀ i = length laws - i
 
--- the places of the code that the proof speaks of
 abbrev turn : tie.After-is-unmet Inv-loop μ-loop → tie.At-loop Inv-loop μ-loop
 turn c = c .before .before .before
 

@@ -21,7 +21,6 @@ Inv-loop bytes out₀ n i₀ out i = Copied bytes out₀ out n i
 abbrev μ-loop : tie.MeasureT-loop
 μ-loop bytes out₀ n i₀ out i = n - i
 
--- the places of the code that the proof speaks of
 abbrev entry : tie.At-loop Inv-loop μ-loop → tie.Start Inv-loop μ-loop
 entry c = c .before .before .before
 

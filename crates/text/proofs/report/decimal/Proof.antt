@@ -5,7 +5,6 @@ use borrow.Author.Needs.{needs}
 use Rattle.text.proofs.report.decimal.Statement.{statement}
 use Rattle.text.proofs.report.decimal.Tie as tie
 
--- the places of the code that the proof speaks of
 abbrev after-decimal : tie.After-slice-known2 → tie.After-decimal
 after-decimal c = c .before .before .before .before .before
 

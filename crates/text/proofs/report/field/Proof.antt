@@ -5,7 +5,6 @@ use borrow.Author.Needs.{needs}
 use Rattle.text.proofs.report.field.Statement.{statement}
 use Rattle.text.proofs.report.field.Tie as tie
 
--- the places of the code that the proof speaks of
 abbrev after-append : tie.After-slice-known3 → tie.After-append
 after-append c = c .before .before .before .before .before .before
 

@@ -6,7 +6,6 @@ use borrow.Author.Needs.{needs}
 use Rattle.text.proofs.report.hex_line.Statement.{statement}
 use Rattle.text.proofs.report.hex_line.Tie as tie
 
--- the places of the code that the proof speaks of
 abbrev entry : tie.After-hex → tie.Start
 entry c = c .before .before .before
 

@@ -22,7 +22,6 @@ Inv-loop out₀ at words n i₀ end₀ out i end = Begun out₀ at words n out i
 abbrev μ-loop : tie.MeasureT-loop
 μ-loop out₀ at words n i₀ end₀ out i end = n - i
 
--- the places of the code that the proof speaks of
 abbrev entry : tie.After-loop Inv-loop μ-loop → tie.Start Inv-loop μ-loop
 entry c = c .before .before .before .before
 

@@ -5,7 +5,6 @@ use borrow.Author.Needs.{needs}
 use Rattle.text.proofs.report.refused.Statement.{statement}
 use Rattle.text.proofs.report.refused.Tie as tie
 
--- the places of the code that the proof speaks of
 abbrev after-field3 : tie.After-slice-known5 → tie.After-field3
 after-field3 c = c .before .before .before .before .before .before .before
 

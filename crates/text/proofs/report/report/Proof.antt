@@ -5,12 +5,11 @@ use lib.ListN.{length}
 use Rattle.answers.specs.declared.Answer.{Answer}
 use Rattle.answers.specs.Packed.{lengthOf}
 use Rattle.text.specs.Report.{reportOf}
-use Rattle.text.specs.Code.Written.{Written}
+use Rattle.text.specs.Code.Written.{WrittenText}
 use borrow.Author.Needs.{needs}
 use Rattle.text.proofs.report.report.Statement.{statement}
 use Rattle.text.proofs.report.report.Tie as tie
 
--- the places of the code that the proof speaks of
 abbrev entry : tie.After-answer → tie.Start
 entry c = c .before .before .before .before
 
@@ -32,13 +31,13 @@ returns : tie.Need-returns
 returns c =
     let arm = after-answer c in
     let made = c .before .before .accepted in
-    subst (λ (a : Answer). Written (reportOf a (entry arm .args .words .now)) (made .last .0) (made .result)) (sym (arm .answer .given .1)) (made .ensures)
+    subst (λ (a : Answer). WrittenText (reportOf a (entry arm .args .words .now)) (made .last .0) (made .result)) (sym (arm .answer .given .1)) (made .ensures)
 
 returns-2 : tie.Need-returns-2
 returns-2 c =
     let arm = after-answer2 c in
     let made = c .before .before .refused in
-    subst (λ (a : Answer). Written (reportOf a (entry2 arm .args .words .now)) (made .last .0) (made .result)) (sym (arm .answer2 .given .1)) (made .ensures)
+    subst (λ (a : Answer). WrittenText (reportOf a (entry2 arm .args .words .now)) (made .last .0) (made .result)) (sym (arm .answer2 .given .1)) (made .ensures)
 
 pub report-spec : {M : Type 1} → statement M
 report-spec =

@@ -6,7 +6,6 @@ use borrow.Author.Needs.{needs}
 use Rattle.theory.proofs.arrays.arrays_of.Statement.{statement}
 use Rattle.theory.proofs.arrays.arrays_of.Tie as tie
 
--- the places of the code that the proof speaks of
 abbrev entry : tie.After-last-of → tie.Start
 entry c = c .before .before .before .before .before .before .before .before .before .before .before
 
@@ -33,4 +32,6 @@ returns c =
 
 pub arrays-of-spec : {M : Type 1} → statement M
 arrays-of-spec =
-    tie.close (tie.spec (λ c. plan-formed _ _ (c .before .before .before .before .before .before .before .before .before .before .pre .clear) .some) (λ c κs. search needs) standard-values-requires (λ c κs. search needs) returns)
+    tie.close
+    (tie.spec (λ c. plan-formed _ _ (c .before .before .before .before .before .before .before .before .before .before .pre .clear) .some)
+    (λ c κs. search needs) standard-values-requires (λ c κs. search needs) returns)
