@@ -36,12 +36,10 @@ pub const OPEN: u8 = 1;
 
 pub const HOLDS: u8 = 2;
 
-// The strides of tables: how many fluents, actions, nodes and moments there can be.
+// The strides of tables: how many fluents, actions and moments there can be.
 pub const FLUENTS: usize = 64;
 
 pub const ACTIONS: usize = 64;
-
-pub const NODES: usize = 64;
 
 pub const MOMENTS: usize = 64;
 
