@@ -1,7 +1,7 @@
 -- The children of a node, by its word and, of a task set, its members. Assumes nothing.
 use mathlib.Core.List.{List, [], _∷_, map}
 use mathlib.Core.Logic.{by-cases}
-use mathlib.Core.Path.{_≡_, refl, ap, sym, _∙_}
+use mathlib.Core.Path.{_≡_, refl, ap}
 use Prim.Native.Nat.{ℕ, zero, suc, _<_}
 use native.Mathlib.Decide.{ℕ-discrete}
 use native.Mathlib.Omega.{arith}
@@ -36,13 +36,6 @@ module _ (P : Procedure) (p : ℕ) where
 
   pub own-children : (form (P .node p) ≡ 8 → ⊥) → children P p ≡ nodeChildren (P .node p)
   own-children h = own (form (P .node p)) h
-
--- nodes with the same word and members have the same children
-pub same-children : (P Q : Procedure) (p q : ℕ) → P .node p ≡ Q .node q → P .members p ≡ Q .members q → children P p ≡ children Q q
-same-children P Q p q e m =
-    by-cases (ℕ-discrete (form (P .node p)) 8)
-    (λ f. set-children P p f ∙ m ∙ sym (set-children Q q (sym (ap form e) ∙ f)))
-    (λ n. own-children P p n ∙ ap nodeChildren e ∙ sym (own-children Q q (λ z. n (ap form e ∙ z))))
 
 -- a list whose elements are each below n
 below-each : {n : ℕ} (xs : List ℕ) → ((q : ℕ) → 0 < count q xs → q < n) → Below n xs

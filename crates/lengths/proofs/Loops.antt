@@ -12,6 +12,7 @@ use Rattle.model.specs.Forms.{formAt}
 use Rattle.model.specs.Code.Forms.{children, NamedOnce}
 use Rattle.lengths.specs.Code.Bound.{isWhile, isChild, loopWithin, loopAbove}
 use Rattle.words.specs.Scan.{anyBelow, count}
+use Rattle.words.proofs.AnyBelow.{some-none}
 use Rattle.lengths.proofs.Sums.{below-times, sum-two}
 use Rattle.lengths.proofs.Tree.{Lower}
 
@@ -26,18 +27,13 @@ or-false : (t : Bool) → (t || false) ≡ t
 or-false true = refl
 or-false false = refl
 
-anyBelow-none : {f : ℕ → Bool} (n : ℕ) → ((i : ℕ) → i < n → f i ≡ false) → anyBelow f n ≡ false
-unfolding anyBelow
-anyBelow-none zero h = refl
-anyBelow-none (suc n) h = ap₂ _||_ (anyBelow-none n (λ i l. h i (omega arith))) (h n (omega arith))
-
 -- where one number alone may pass, it decides
 anyBelow-one : {f : ℕ → Bool} (n i : ℕ) → i < n → ((j : ℕ) → j < n → (j ≡ i → ⊥) → f j ≡ false) → anyBelow f n ≡ f i
 unfolding anyBelow
 anyBelow-one zero i l h = absurd (omega arith)
 anyBelow-one {f} (suc n) i l h =
     by-cases (ℕ-discrete n i)
-    (λ e. ap₂ _||_ (anyBelow-none n (λ j k. h j (omega arith) (λ d. omega arith))) (ap f e))
+    (λ e. ap₂ _||_ (some-none f n (λ j k. h j (omega arith) (λ d. omega arith))) (ap f e))
     (λ ne. ap₂ _||_ (anyBelow-one n i (omega arith) (λ j k. h j (omega arith))) (h n (omega arith) ne) ∙ or-false (f i))
 
 -- ---- loops above a node
@@ -53,7 +49,7 @@ module _ {P : Procedure} (low : Lower P) where
   -- more steps than there are nodes above q lead to no more
   steady : (k q : ℕ) → P .count ≤ q + k → loopWithin P (suc k) q ≡ loopWithin P k q
   unfolding loopWithin
-  steady zero q h = anyBelow-none (P .count) (λ p l. ap (λ (t : Bool). t && (isWhile (formAt P p) || false)) (unnamed p q l (omega arith)))
+  steady zero q h = some-none _ (P .count) (λ p l. ap (λ (t : Bool). t && (isWhile (formAt P p) || false)) (unnamed p q l (omega arith)))
   steady (suc k) q h =
       anyBelow-cong (P .count) (λ p l. by-cases (decLt q p)
       (λ g. ap (λ (t : Bool). isChild P p q && (isWhile (formAt P p) || t)) (steady k p (omega arith)))
@@ -62,7 +58,7 @@ module _ {P : Procedure} (low : Lower P) where
   -- no loop is above the root
   pub root-free : (r : ℕ) → suc r ≡ P .count → loopAbove P r ≡ false
   unfolding loopWithin
-  root-free r e = sym (steady (P .count) r (omega arith)) ∙ anyBelow-none (P .count) (λ p l. rw (unnamed p r l (omega arith)) refl)
+  root-free r e = sym (steady (P .count) r (omega arith)) ∙ some-none _ (P .count) (λ p l. rw (unnamed p r l (omega arith)) refl)
 
   -- node p is the one parent of q
   sole : NamedOnce P → (p q : ℕ) → p < P .count → 0 < count q (children P p) → (j : ℕ) → j < P .count → (j ≡ p → ⊥) → isChild P j q ≡ false

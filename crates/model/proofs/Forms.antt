@@ -87,12 +87,12 @@ pub below-le : {n m : ℕ} (xs : List ℕ) → n ≤ m → Below n xs → Below 
 below-le [] l h = tt
 below-le (x ∷ xs) l h = let g = h .0 in (omega arith, below-le xs l (h .1))
 
--- a node has the same children where its word is the same, and its members where it is a task set
-module _ (P P′ : Procedure) (p : ℕ) (n : P′ .node p ≡ P .node p) where
-  pub same-form : formAt P′ p ≡ formAt P p
+-- nodes have the same children where their words are the same, and their members where they are task sets
+module _ (P P′ : Procedure) (p p′ : ℕ) (n : P′ .node p′ ≡ P .node p) where
+  pub same-form : formAt P′ p′ ≡ formAt P p
   same-form = ap (λ (w : ℕ). formNumber (form w)) n
 
-  children-as : (f : Form) → (f ≡ Set → P′ .members p ≡ P .members p) → childrenAs P′ f p ≡ childrenAs P f p
+  children-as : (f : Form) → (f ≡ Set → P′ .members p′ ≡ P .members p) → childrenAs P′ f p′ ≡ childrenAs P f p
   children-as Act m = refl
   children-as Test m = refl
   children-as Sequence m = rw n
@@ -104,5 +104,5 @@ module _ (P P′ : Procedure) (p : ℕ) (n : P′ .node p ≡ P .node p) where
   children-as Set m = m refl
   children-as Reserved m = refl
 
-  pub same-children : (formAt P p ≡ Set → P′ .members p ≡ P .members p) → children P′ p ≡ children P p
-  same-children m = ap (λ (f : Form). childrenAs P′ f p) same-form ∙ children-as (formAt P p) m
+  pub same-children : (formAt P p ≡ Set → P′ .members p′ ≡ P .members p) → children P′ p′ ≡ children P p
+  same-children m = ap (λ (f : Form). childrenAs P′ f p′) same-form ∙ children-as (formAt P p) m

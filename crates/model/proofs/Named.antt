@@ -15,5 +15,5 @@ pub named-there : {P : Procedure} {T : Trajectory} {P′ : Procedure} {T′ : Tr
 named-there {P} {P′ = P′} x once q h =
     let e = x .count in
     ap (sumBelow (λ p. count q (children P p))) (sym e)
-    ∙ sum-cong (P′ .count) (λ p l. let k : p < P .count = omega arith in ap (count q) (sym (same-children P P′ p (x .node p k) (λ f. x .members p k))))
+    ∙ sum-cong (P′ .count) (λ p l. let k : p < P .count = omega arith in ap (count q) (sym (same-children P P′ p p (x .node p k) (λ f. x .members p k))))
     ∙ once q (omega arith)

@@ -41,7 +41,7 @@ module _ {P : Procedure} {T : Trajectory} {P′ : Procedure} {T′ : Trajectory}
   }
 
   form-same : (p : ℕ) → p < P .count → formAt P′ p ≡ formAt P p
-  form-same p h = same-form P P′ p (x .node p h)
+  form-same p h = same-form P P′ p p (x .node p h)
 
   -- what a node of P′ asks for
   asks-as : (p k : ℕ) → p < P .count → (f : Form) → Asks P′ f p k → Asks P f p k
@@ -77,7 +77,7 @@ module _ {P : Procedure} {T : Trajectory} {P′ : Procedure} {T′ : Trajectory}
       let q = x .count in
       let l : p < P .count = omega arith in
       let g = formed p l in record {
-        lower = rw (same-children P P′ p (x .node p l) (λ f. x .members p l)) (g .lower);
+        lower = rw (same-children P P′ p p (x .node p l) (λ f. x .members p l)) (g .lower);
         set = λ f. formed-same (x .members p l) (x .conditions p l) (x .last) (g .set (sym (form-same p l) ∙ f));
       }
 

@@ -26,8 +26,8 @@ module _ (P P′ : Procedure) (T : Trajectory) (p : ℕ) (n : P′ .node p ≡ P
 
   same-formed : Same (formAt P p) → NodeReadable P T p → NodeReadable P′ T p
   same-formed s g = record {
-    lower = rw (same-children P P′ p n (λ f. s f .0)) (g .lower);
-    set = λ f. let f′ = sym (same-form P P′ p n) ∙ f in let q = s f′ in rw (q .0, q .1) (g .set f′);
+    lower = rw (same-children P P′ p p n (λ f. s f .0)) (g .lower);
+    set = λ f. let f′ = sym (same-form P P′ p p n) ∙ f in let q = s f′ in rw (q .0, q .1) (g .set f′);
   }
 
   same-rule : (R : ℕ → ℕ → ℕ → Type 0) (b e : ℕ) (k : Form) → Same k → Rule P′ T R k p b e ↔ Rule P T R k p b e
@@ -53,7 +53,7 @@ module _ (P P′ : Procedure) (T : Trajectory) (p : ℕ) (n : P′ .node p ≡ P
   pub same-rows : {t u : List ℕ} → Same (formAt P p) → NodeRows P′ T p t u → NodeRows P T p t u
   same-rows {u = u} s h = record {
     rows = λ b l e.
-        Iff·trans (subst (λ (k : Form). In (rowAt u p b) e ↔ Rule P′ T (InTable u) k p b e) (same-form P P′ p n) (h .rows b l e))
+        Iff·trans (subst (λ (k : Form). In (rowAt u p b) e ↔ Rule P′ T (InTable u) k p b e) (same-form P P′ p p n) (h .rows b l e))
         (same-rule (InTable u) b e (formAt P p) s);
     others = h .others;
   }

@@ -24,7 +24,8 @@ use Rattle.job.proofs.Before.{before-suc}
 use Rattle.job.proofs.WordPositions.{count-cons}
 use Rattle.job.proofs.Follow.{member-after}
 use Rattle.job.proofs.Parts.{follows, head}
-use Rattle.job.proofs.Procedure.{set-children, own-children, same-children}
+use Rattle.model.proofs.Forms.{same-children}
+use Rattle.job.proofs.Procedure.{set-children, own-children}
 use Rattle.job.proofs.WellFormed.{well-formed}
 
 -- how often node p of a list of words has node v as a child
@@ -98,13 +99,13 @@ module _ (v w : ℕ) (ws : List ℕ) where
 
     node-next : (p : ℕ) → childTimes (w ∷ ws) v (suc p) ≡ childTimes ws v p
     unfolding procedureOf nodeWord memberWords fromNth
-    node-next p = ap (count v) (same-children (procedureOf (w ∷ ws)) (procedureOf ws) (suc p) p (rw node) (rw node))
+    node-next p = ap (count v) (same-children (procedureOf ws) (procedureOf (w ∷ ws)) p (suc p) (rw node) (λ f. rw node))
 
   module _ (no : kind w ≡ 6 → ⊥) where
     other-same : (p : ℕ) → childTimes (w ∷ ws) v p ≡ childTimes ws v p
     unfolding procedureOf nodeWord memberWords fromNth
-    other-same zero = ap (count v) (same-children (procedureOf (w ∷ ws)) (procedureOf ws) zero zero (rw (ne-eqb (kind w) 6 no)) (rw (ne-eqb (kind w) 6 no)))
-    other-same (suc p) = ap (count v) (same-children (procedureOf (w ∷ ws)) (procedureOf ws) (suc p) (suc p) (rw (ne-eqb (kind w) 6 no)) (rw (ne-eqb (kind w) 6 no)))
+    other-same zero = ap (count v) (same-children (procedureOf ws) (procedureOf (w ∷ ws)) zero zero (rw (ne-eqb (kind w) 6 no)) (λ f. rw (ne-eqb (kind w) 6 no)))
+    other-same (suc p) = ap (count v) (same-children (procedureOf ws) (procedureOf (w ∷ ws)) (suc p) (suc p) (rw (ne-eqb (kind w) 6 no)) (λ f. rw (ne-eqb (kind w) 6 no)))
 
   member-leads : kind w ≡ 7 → leads v (w ∷ ws) ≡ count v (wordChildren w) + leads v ws
   unfolding takeWhile count
