@@ -22,13 +22,13 @@ use Rattle.job.specs.Procedure.{procedureOf}
 use Rattle.reading.specs.Reading.{HasReading}
 use Rattle.model.specs.declared.Triple.{Triple}
 use Rattle.reading.specs.Count.{Distinct, none, more, Read}
-use Rattle.cases.specs.Code.Decision.{each}
+use Rattle.cases.proofs.Decision.{each}
 use Rattle.cases.proofs.Decides.{Tells, and-law, or-law, eq-law, le-law, each-law, decides}
 use Rattle.finder.specs.Find.{findRefusal, RootReading, Triples, Outcome, refused, sought, unread as without-reading, read as with-reading}
 use Rattle.finder.proofs.Job.{formed-job}
 use Rattle.finder.proofs.Refusals.{same-row}
 use Rattle.cases.specs.Cases.{Expected, refuses, unread, reads, Case, triple, table, left, EachOwed}
-use Rattle.cases.specs.Code.Cases.{decided, same, listed, distinct, sound, complete, exactly, fits, rooted, sameWords, only, answers, passed, allPassed}
+use Rattle.cases.proofs.Test.{decided, same, listed, distinct, sound, complete, exactly, fits, rooted, sameWords, only, answers, passed, allPassed}
 use Rattle.cases.proofs.Counts.{counted-once}
 use Rattle.cases.proofs.Only.{on-each}
 use Rattle.cases.proofs.Computed.{computed}

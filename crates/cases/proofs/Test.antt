@@ -1,5 +1,5 @@
--- Between functions: the test of a case, by computing: the row that fits, which triples have a reading, the root's only reading, and the packed
--- number.
+-- The test of a case, by computing: the row that fits, which triples have a reading, the root's only reading, and the packed
+-- number. Assumes nothing.
 use Prim.Native.Nat.{ℕ, suc, _*_, _-_}
 use mathlib.Core.Bool.{Bool, true, false, _&&_, _||_, not}
 use mathlib.Core.List.{List, [], _∷_}
@@ -14,8 +14,8 @@ use Rattle.theory.specs.Trajectory.{planTrajectory}
 use Rattle.job.specs.Procedure.{procedureOf}
 use Rattle.model.specs.declared.Triple.{Triple}
 use Rattle.reading.specs.Reading.{whole}
-use Rattle.cases.specs.Code.Decision.{each, reads as readsb}
-use Rattle.cases.specs.Code.Only.{onEach}
+use Rattle.cases.proofs.Decision.{each, reads as readsb}
+use Rattle.cases.proofs.Only.{onEach}
 use Rattle.cases.specs.Cases.{Expected, refuses, unread, reads, Case, triple}
 
 -- node p of the case reads from b to e
