@@ -27,7 +27,7 @@ use Rattle.cases.proofs.Decides.{Tells, and-law, or-law, eq-law, le-law
 use Rattle.finder.specs.Find.{findRefusal, RootReading, Triples, Outcome, refused, sought, unread as without-reading, read as with-reading}
 use Rattle.finder.proofs.Job.{formed-job}
 use Rattle.finder.proofs.Refusals.{same-row}
-use Rattle.cases.specs.Cases.{Expected, refuses, unread, reads, Case, triple, table, left, EachOwed}
+use Rattle.cases.specs.Cases.{Expected, refuses, unread, reads, Case, triple, table, bufferAfter, EachOwed}
 use Rattle.cases.proofs.Test.{decided, same, listed, distinct, sound, complete, exactly, fits, rooted, sameWords, only, answers, passed, allPassed}
 use Rattle.cases.proofs.Counts.{counted-once}
 use Rattle.cases.proofs.Only.{on-each}
@@ -138,7 +138,7 @@ module _ (job starts facts before : List ℕ) (room : 4096 ≤ length before) wh
   root-words us h {ws} r = same-words ws us (on-each _ _ (nodeCount job * 64) (λ ws. sameWords ws us) r h)
 
   owed : (x : Expected) (n : ℕ) → answers job starts row x n ≡ true → {a : Answer} {after : List ℕ} → Outcome job starts facts before a after
-      → (packed a ≡ n) × (after ≡ left x before)
+      → (packed a ≡ n) × (after ≡ bufferAfter x before)
   unfolding answers fits trajectoryOf
   owed (refuses n p) k h (refused {n = m} {p = q} e z) =
       let (f, g) = both (fits row n p && not (eqb n 0)) _ h in
@@ -187,5 +187,5 @@ each-passed (d ∷ cs) h c m = let (a, b) = both (passed d) (allPassed cs) h in 
 pub each-owed : EachOwed
 unfolding passed
 each-owed c m before after r room found =
-    let (number, left) = owed (c .job) (c .starts) (c .facts) before room (c .expected) (c .number) (each-passed table computed c m) (found .outcome) in
-    (found .number ∙ number, left)
+    let (number, buffer) = owed (c .job) (c .starts) (c .facts) before room (c .expected) (c .number) (each-passed table computed c m) (found .outcome) in
+    (found .number ∙ number, buffer)

@@ -143,13 +143,13 @@ abbrev pub table : List Case
 table = p1 ∷ p2 ∷ p3 ∷ p4 ∷ p5 ∷ p6 ∷ p7 ∷ p7late ∷ p8 ∷ p8soon ∷ p9 ∷ p9gap ∷ []
 
 -- the buffer afterwards: the reading's words in front, and else as it was
-abbrev pub left : Expected → List ℕ → List ℕ
-left (refuses n p) before = before
-left (unread rs) before = before
-left (reads ws rs) before = ws ++ drop (length ws) before
+abbrev pub bufferAfter : Expected → List ℕ → List ℕ
+bufferAfter (refuses n p) before = before
+bufferAfter (unread rs) before = before
+bufferAfter (reads ws rs) before = ws ++ drop (length ws) before
 
 -- whatever find's contract allows for a case of the table, with a buffer of at least 4,096 words: the number and the buffer are the case's
 abbrev pub EachOwed : Type 0
 EachOwed =
     (c : Case) → List·Memᴰ c table → (before after : List ℕ) (r : ℕ) → 4096 ≤ length before
-    → Promised (c .job) (c .starts) (c .facts) before r after → (r ≡ c .number) × (after ≡ left (c .expected) before)
+    → Promised (c .job) (c .starts) (c .facts) before r after → (r ≡ c .number) × (after ≡ bufferAfter (c .expected) before)
