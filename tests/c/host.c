@@ -65,6 +65,25 @@ static void small(void)
     same("fill wrote after the facts", buffer + 2, before + 2, 4998);
 }
 
+/* Example 3 of 004 with the theory of its Example 1, the scope's P3: it has one reading alone, and the facts are 004's six states. */
+static void example3(void)
+{
+    const uint32_t windows[] = {0x10030305u, 0x20000040u, 0x20000041u, 0x20000042u, 0x30000002u, 0x40000082u, 0x30000042u, 0x40000081u, 0x30000083u,
+                                0x40000001u, 0x40000002u, 0x40000080u, 0x60000000u, 0x60040000u, 0x66001000u, 0x60080000u, 0x67083000u};
+    const uint32_t three[] = {0x90000000u, 0x90000001u, 0x90000082u};
+    const uint32_t states[] = {0xa0000001u, 0xa0000003u, 0xa0000005u, 0xa0000081u, 0xa0000101u, 0xa0000102u, 0xa0000104u,
+                               0xa0000182u, 0xa0000184u, 0xa0000202u, 0xa0000204u, 0xa0000280u, 0xa0000282u, 0xa0000284u};
+    const uint32_t reading[] = {0xb0004005u, 0xb0002002u, 0xb0000002u, 0xb0001002u, 0xb0003085u};
+    for (size_t i = 0; i < 5000; i++) buffer[i] = before[i];
+    expect("fill, Example 3", fill(windows, 17, three, 3, buffer, 5000), 0, 0, 14);
+    same("fill wrote other states than 004's", buffer, states, 14);
+    expect("check, Example 3", check(windows, 17, three, 3, states, 14), 0, 0, 0);
+    for (size_t i = 0; i < 14; i++) buffer[i] = before[i];
+    expect_count("find, Example 3", find(windows, 17, three, 3, states, 14, buffer, 5000), 0, 0, 5, 5);
+    same("find wrote another reading of Example 3", buffer, reading, 5);
+    same("find wrote after the reading of Example 3", buffer + 5, before + 5, 4995);
+}
+
 static uint32_t large_job[JOB_WORDS], large_starts[STARTS], large_facts[4096];
 
 static uint32_t large_reading[4096];
@@ -121,6 +140,7 @@ static void measure(void)
 int main(void)
 {
     small();
+    example3();
     make_plan(large_job, large_starts);
     measure();
     printf("c host: %s\n", faults ? "FAILED" : "ok");

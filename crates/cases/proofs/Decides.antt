@@ -22,7 +22,7 @@ use Rattle.reading.specs.Forms.{setAt}
 use Rattle.reading.specs.Code.Forms.{NodeReadable}
 use Rattle.reading.specs.Reading.{HasReading}
 use Rattle.reading.specs.Code.Rule.{Rule}
-use Rattle.cases.specs.Code.Decision.{some, each, through, metb, insideb, coveredb, conditionb, placingb, tried, setb, ruleb, reads}
+use Rattle.cases.proofs.Decision.{some, each, through, metb, insideb, coveredb, conditionb, placingb, tried, setb, ruleb, reads}
 use Rattle.reading.proofs.Step.{step, Filled, carry}
 
 -- ---- tests

@@ -3,13 +3,14 @@ use Prim.Native.Nat.{ℕ, zero, suc, _-_, _*_, _≤_, _<_}
 use mathlib.Core.Bool.{Bool, true, false, _&&_, _||_, not, false≢true}
 use mathlib.Core.Path.{_≡_, refl, sym, ap, _∙_, subst}
 use mathlib.Core.Logic.{⊎-elim, Iff·rfl, Iff·trans}
-use mathlib.Core.List.{List, [], _∷_, List·Memᴰ, List·Memᴰ·head, List·Memᴰ·tail, List·Memᴰ·cases-cons, List·Memᴰ·not-nil}
+use mathlib.Core.List.{List, [], _∷_, _++_, List·Memᴰ, List·Memᴰ·head, List·Memᴰ·tail, List·Memᴰ·cases-cons, List·Memᴰ·not-nil}
 use native.Mathlib.Omega.{arith}
 use lib.Dec.{eqb, leb}
-use lib.ListN.{length}
+use lib.ListN.{length, drop}
 use Rattle.answers.specs.declared.Refusal.{Refusal}
 use Rattle.answers.specs.declared.Answer.{Answer}
 use Rattle.answers.specs.declared.Answer.the-variants.{Accepted, Refused}
+use Rattle.answers.specs.Packed.{packed}
 use Rattle.answers.specs.Rows.{refusal}
 use Rattle.answers.proofs.Rows.{or-none}
 use Rattle.job.specs.Refusal.{jobRefusal}
@@ -21,15 +22,15 @@ use Rattle.job.specs.Procedure.{procedureOf}
 use Rattle.reading.specs.Reading.{HasReading}
 use Rattle.model.specs.declared.Triple.{Triple}
 use Rattle.reading.specs.Count.{Distinct, none, more, Read}
-use Rattle.cases.specs.Code.Decision.{each}
+use Rattle.cases.proofs.Decision.{each}
 use Rattle.cases.proofs.Decides.{Tells, and-law, or-law, eq-law, le-law, each-law, decides}
 use Rattle.finder.specs.Find.{findRefusal, RootReading, Triples, Outcome, refused, sought, unread as without-reading, read as with-reading}
 use Rattle.finder.proofs.Job.{formed-job}
 use Rattle.finder.proofs.Refusals.{same-row}
-use Rattle.cases.specs.Cases.{Expected, refuses, unread, read, readIn, Case, triple, table, Owed, EachOwed}
-use Rattle.cases.specs.Code.Cases.{decided, same, listed, distinct, sound, complete, exactly, fits, rooted, rootWords, worded, answers, passes, all}
+use Rattle.cases.specs.Cases.{Expected, refuses, unread, reads, Case, triple, table, bufferAfter, EachOwed}
+use Rattle.cases.proofs.Test.{decided, same, listed, distinct, sound, complete, exactly, fits, rooted, sameWords, only, answers, passed, allPassed}
 use Rattle.cases.proofs.Counts.{counted-once}
-use Rattle.cases.proofs.Words.{words-are}
+use Rattle.cases.proofs.Only.{on-each}
 use Rattle.cases.proofs.Computed.{computed}
 
 -- ---- the tests on lists of triples
@@ -55,6 +56,13 @@ distinct-law : (rs : List Triple) → distinct rs ≡ true → Distinct rs
 unfolding distinct
 distinct-law [] h = none
 distinct-law (r ∷ rs) h = let (a, b) = both (not (listed r rs)) (distinct rs) h in more (λ m. no (listed r rs) a (listed-law r rs .1 m)) (distinct-law rs b)
+
+same-words : (us vs : List ℕ) → sameWords us vs ≡ true → us ≡ vs
+unfolding sameWords
+same-words [] [] h = refl
+same-words [] (v ∷ vs) h = absurd (false≢true h)
+same-words (u ∷ us) [] h = absurd (false≢true h)
+same-words (u ∷ us) (v ∷ vs) h = let (a, b) = both (eqb u v) (sameWords us vs) h in let e = eq-law u v .0 a in let q = same-words us vs b in cc
 
 -- ---- a job that is well formed: the test tells the readings, and the listed triples are those that have one
 
@@ -110,9 +118,10 @@ module _ (job starts facts before : List ℕ) (room : 4096 ≤ length before) wh
   not-refused : {n p : ℕ} → row .number ≡ 0 → findRefusal (length before) job starts facts ≡ refusal n p → n ≡ 0
   not-refused z e = sym (ap (λ (r : Refusal). r .number) (sym (same-row job starts facts before room) ∙ e)) ∙ z
 
-  -- a plan that passes, whose root reads: a reading is found, with the count of the listed triples
+  -- a plan that passes, whose root reads: a reading is found, with the count of the listed triples, and left in front
   found : (rs : List Triple) → (eqb (row .number) 0 && (rooted job starts && exactly job starts rs)) ≡ true
-      → {a : Answer} {after : List ℕ} → Outcome job starts facts before a after → (ws : List ℕ) × RootReading job starts ws × (a ≡ Accepted (length ws) (length rs))
+      → {a : Answer} {after : List ℕ} → Outcome job starts facts before a after
+      → (ws : List ℕ) × RootReading job starts ws × (a ≡ Accepted (length ws) (length rs)) × (after ≡ ws ++ drop (length ws) before)
   found rs h (refused e z) = absurd (z (not-refused (eq-law (row .number) 0 .0 (both (eqb (row .number) 0) _ h .0)) e))
   found rs h (sought e (without-reading t f)) =
       let (a, b) = both (eqb (row .number) 0) _ h in
@@ -121,50 +130,62 @@ module _ (job starts facts before : List ℕ) (room : 4096 ≤ length before) wh
   found rs h (sought e (with-reading {ws = ws} t r)) =
       let (a, b) = both (eqb (row .number) 0) _ h in
       let ok = formed (eq-law (row .number) 0 .0 a) in
-      (ws, r, ap (Accepted (length ws)) (counted-once t (exactly-law job starts ok rs (both (rooted job starts) _ b .1))))
+      (ws, r, ap (Accepted (length ws)) (counted-once t (exactly-law job starts ok rs (both (rooted job starts) _ b .1))), refl)
 
-  -- each reading of the root has l words
-  root-words : (l : ℕ) → worded job l ≡ true → {ws : List ℕ} → RootReading job starts ws → length ws ≡ l
-  unfolding worded
-  root-words zero h r = absurd (false≢true (both (eqb (rootWords job) 0) false h .1))
-  root-words (suc l) h r = words-are (nodeCount job) r l (eq-law (rootWords job) (suc l) .0 (both (eqb (rootWords job) (suc l)) (not (eqb (suc l) 0)) h .0))
+  -- each reading of the root has these words
+  root-words : (us : List ℕ) → only job starts us ≡ true → {ws : List ℕ} → RootReading job starts ws → ws ≡ us
+  unfolding only
+  root-words us h {ws} r = same-words ws us (on-each _ _ (nodeCount job * 64) (λ ws. sameWords ws us) r h)
 
-  owed : (x : Expected) → answers job starts row x ≡ true → {a : Answer} {after : List ℕ} → Outcome job starts facts before a after → Owed x a
+  owed : (x : Expected) (n : ℕ) → answers job starts row x n ≡ true → {a : Answer} {after : List ℕ} → Outcome job starts facts before a after
+      → (packed a ≡ n) × (after ≡ bufferAfter x before)
   unfolding answers fits trajectoryOf
-  owed (refuses n p) h (refused {n = m} {p = q} e z) =
-      let (a, b) = both (eqb (row .number) n && eqb (row .position) p) (not (eqb n 0)) h in
+  owed (refuses n p) k h (refused {n = m} {p = q} e z) =
+      let (f, g) = both (fits row n p && not (eqb n 0)) _ h in
+      let (a, b) = both (fits row n p) (not (eqb n 0)) f in
       let (c, d) = and-law _ _ (eq-law (row .number) n) (eq-law (row .position) p) .0 a in
       let same = sym (same-row job starts facts before room) ∙ e in
       let i : m ≡ n = sym (ap (λ (r : Refusal). r .number) same) ∙ c in
       let j : q ≡ p = sym (ap (λ (r : Refusal). r .position) same) ∙ d in
-      rw (i, j)
-  owed (refuses n p) h (sought e s) =
-      let (a, b) = both (eqb (row .number) n && eqb (row .position) p) (not (eqb n 0)) h in
+      (rw (i, j) (sym (eq-law k (packed (Refused n p 0)) .0 g)), refl)
+  owed (refuses n p) k h (sought e s) =
+      let (f, g) = both (fits row n p && not (eqb n 0)) _ h in
+      let (a, b) = both (fits row n p) (not (eqb n 0)) f in
       let (c, d) = and-law _ _ (eq-law (row .number) n) (eq-law (row .position) p) .0 a in
       let zero : row .number ≡ 0 = rw (same-row job starts facts before room) at e in
       absurd (no (eqb n 0) b (eq-law n 0 .1 (sym c ∙ zero)))
-  owed (unread rs) h (refused e z) = absurd (z (not-refused (eq-law (row .number) 0 .0 (both (eqb (row .number) 0) _ h .0)) e))
-  owed (unread rs) h (sought e (without-reading t f)) =
-      let (a, b) = both (eqb (row .number) 0) _ h in
+  owed (unread rs) k h (refused e z) =
+      let (f, g) = both _ (eqb k (packed (Refused 13 0 (length rs)))) h in
+      absurd (z (not-refused (eq-law (row .number) 0 .0 (both (eqb (row .number) 0) _ f .0)) e))
+  owed (unread rs) k h (sought e (without-reading t s)) =
+      let (f, g) = both _ (eqb k (packed (Refused 13 0 (length rs)))) h in
+      let (a, b) = both (eqb (row .number) 0) _ f in
       let ok = formed (eq-law (row .number) 0 .0 a) in
-      ap (Refused 13 0) (counted-once t (exactly-law job starts ok rs (both (not (rooted job starts)) (exactly job starts rs) b .1)))
-  owed (unread rs) h (sought e (with-reading {ws = ws} t r)) =
-      let (a, b) = both (eqb (row .number) 0) _ h in
+      let count = counted-once t (exactly-law job starts ok rs (both (not (rooted job starts)) (exactly job starts rs) b .1)) in
+      (ap (λ (c : ℕ). packed (Refused 13 0 c)) count ∙ sym (eq-law k (packed (Refused 13 0 (length rs))) .0 g), refl)
+  owed (unread rs) k h (sought e (with-reading {ws = ws} t r)) =
+      let (f, g) = both _ (eqb k (packed (Refused 13 0 (length rs)))) h in
+      let (a, b) = both (eqb (row .number) 0) _ f in
       let ok = formed (eq-law (row .number) 0 .0 a) in
       absurd (no _ (both (not (rooted job starts)) (exactly job starts rs) b .0) (root-law job starts ok .1 (omega arith, (ws, r))))
-  owed (read rs) h o = let f = found rs h o in (length (f .0), f .2)
-  owed (readIn l rs) h o =
-      let (a, b) = both (worded job l) _ h in
-      let f = found rs b o in
-      f .2 ∙ ap (λ (m : ℕ). Accepted m (length rs)) (root-words l a (f .1))
+  owed (reads us rs) k h o =
+      let (f, g) = both _ (only job starts us && eqb k (packed (Accepted (length us) (length rs)))) h in
+      let (a, b) = both (only job starts us) _ g in
+      let (ws, r, answer, after) = found rs f o in
+      let same = root-words us a r in (
+        ap packed answer ∙ ap (λ (vs : List ℕ). packed (Accepted (length vs) (length rs))) same ∙ sym (eq-law k (packed (Accepted (length us) (length rs))) .0 b),
+        after ∙ ap (λ (vs : List ℕ). vs ++ drop (length vs) before) same,
+      )
 
 -- each case of a list that passes does
-each-passes : (cs : List Case) → all cs ≡ true → (c : Case) → List·Memᴰ c cs → passes c ≡ true
-unfolding all
-each-passes [] h c m = absurd (List·Memᴰ·not-nil m)
-each-passes (d ∷ cs) h c m = let (a, b) = both (passes d) (all cs) h in ⊎-elim (λ e. ap passes e ∙ a) (each-passes cs b c) (List·Memᴰ·cases-cons m)
+each-passed : (cs : List Case) → allPassed cs ≡ true → (c : Case) → List·Memᴰ c cs → passed c ≡ true
+unfolding allPassed
+each-passed [] h c m = absurd (List·Memᴰ·not-nil m)
+each-passed (d ∷ cs) h c m = let (a, b) = both (passed d) (allPassed cs) h in ⊎-elim (λ e. ap passed e ∙ a) (each-passed cs b c) (List·Memᴰ·cases-cons m)
 
 -- the law of the table: whatever find's contract allows for a case, with at least 4,096 words of buffer, is what the case is owed
 pub each-owed : EachOwed
-unfolding passes
-each-owed c m before after a room o = owed (c .job) (c .starts) (c .facts) before room (c .expected) (each-passes table computed c m) o
+unfolding passed
+each-owed c m before after r room found =
+    let (number, buffer) = owed (c .job) (c .starts) (c .facts) before room (c .expected) (c .number) (each-passed table computed c m) (found .outcome) in
+    (found .number ∙ number, buffer)

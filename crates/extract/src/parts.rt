@@ -198,7 +198,6 @@ pub fn choose_parts(
         7 => end_window_parts(table, x, y, m, most, b, e),
         8 => set_parts(words, place, values, last, table, b, e),
         // reserved: refused in a job, and nothing reads such a node
-        9..=15 => none(),
-        _ => none(),
+        9.. => none(),
     }
 }

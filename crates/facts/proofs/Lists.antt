@@ -69,6 +69,10 @@ module _ (history : List ℕ) (head t : ℕ) where
   unfolding rowFacts concatBelow
   row-none = refl
 
+  -- before the first fluent nothing is written
+  pub row-start : {old : List ℕ} {at : ℕ} → Written old at (rowFacts history head t 0) at old
+  row-start = rw row-none written-none
+
   pub row-more : (n : ℕ) → rowFacts history head t (n + 1) ≡ rowFacts history head t n ++ factOf head t n (getD history (t * 64 + n) 0)
   unfolding rowFacts
   row-more n = gather-more (λ (f : ℕ). factOf head t f (getD history (t * 64 + f) 0)) n

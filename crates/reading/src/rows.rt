@@ -178,10 +178,7 @@ pub fn row(
         5 => while_row(values[x * MOMENTS + b], last, table, p, y, b),
         6 => start_window_row(last, table, x, y, m, most, b),
         7 => end_window_row(last, table, x, y, m, most, b),
-        // a task set's rows are filled together, by `fill_set`
-        8 => 0,
-        // reserved: refused in a job, and nothing reads such a node
-        9..=15 => 0,
-        _ => 0,
+        // 9 to 15 are reserved: refused in a job, and nothing reads such a node (8 is none of `row`'s, see `fill_node`)
+        8.. => 0,
     }
 }

@@ -74,10 +74,11 @@ fn fill_node(
 {
     let place = places[p];
     let word = words[place];
-    if words::form_of(word) == 8 {
-        fill_set(words, place, values, last, p, table);
-    } else {
-        fill_rows(word, starts, durations, values, last, p, table);
+    match words::form_of(word) {
+        // a row for each begin, by the match of `row`
+        0..=7 | 9.. => fill_rows(word, starts, durations, values, last, p, table),
+        // a task set: all its rows together
+        8 => fill_set(words, place, values, last, p, table),
     }
 }
 

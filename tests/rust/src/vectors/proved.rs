@@ -41,16 +41,27 @@ fn p2() -> Case {
     case
 }
 
-/// "b, c last 2, a lasts 3, n = 5; b start window 0..0 c, end window 0..0 a": 5 words, count 5.
+/// "P3 Example 3 of 004 (b, c last 2, a lasts 3, n = 5; b start window 0..0 c, end window 0..0 a): 5 words, count 5", with the theory of
+/// its Example 1: f, g, h initially false; b makes h, c makes g, a needs g and h and makes f. The facts are the six states that 004 gives.
 fn p3() -> Case {
-    let (a, b, c) = (0, 1, 2);
+    let (f, g, h) = (0, 1, 2);
+    let (b, c, a) = (0, 1, 2);
+    let (needs, makes) = (0, 2);
     Case {
-        name: "P3, windows",
+        name: "P3, Example 3 of 004",
         job: vec![
-            head(1, 3, 5),
-            action(a, 3),
+            head(3, 3, 5),
+            initially(f, false),
+            initially(g, false),
+            initially(h, false),
             action(b, 2),
+            law(makes, h),
             action(c, 2),
+            law(makes, g),
+            action(a, 3),
+            law(needs, g),
+            law(needs, h),
+            law(makes, f),
             act(b),
             act(c),
             node(6, 0, 1, 0, 0),
@@ -58,17 +69,37 @@ fn p3() -> Case {
             node(7, 2, 3, 0, 0),
         ],
         starts: vec![start(0, b), start(0, c), start(2, a)],
-        facts: vec![],
+        facts: p3_states(f, g, h),
         find: [0, 0, 5, 5],
     }
 }
 
-/// The extra start is of an action that no node names.
+/// s1 = {¬f, ¬g, ¬h}, s2 = {¬f}, s3 = {¬f, g, h}, s4 = s5 = {g, h}, s6 = {f, g, h}; 004 counts moments from 1.
+fn p3_states(f: usize, g: usize, h: usize) -> Vec<u32> {
+    vec![
+        fact(0, f, false),
+        fact(0, g, false),
+        fact(0, h, false),
+        fact(1, f, false),
+        fact(2, f, false),
+        fact(2, g, true),
+        fact(2, h, true),
+        fact(3, g, true),
+        fact(3, h, true),
+        fact(4, g, true),
+        fact(4, h, true),
+        fact(5, f, true),
+        fact(5, g, true),
+        fact(5, h, true),
+    ]
+}
+
+/// The extra start is of an action that no node names, and that makes nothing.
 fn p3_extra() -> Case {
     let mut case = p3();
     case.name = "P3 with an extra harmless start";
-    case.job[0] = head(1, 4, 5);
-    case.job.insert(4, action(3, 1));
+    case.job[0] = head(3, 4, 5);
+    case.job.insert(12, action(3, 1));
     case.starts.insert(2, start(1, 3));
     case
 }
@@ -169,6 +200,22 @@ mod tests {
     use crate::checker::job::read_job;
     use crate::checker::readings::build::readings;
     use crate::checker::readings::literal::Triple;
+
+    /// The words of P3 as the proved table has them.
+    #[test]
+    fn p3_is_the_proved_table_s() {
+        let job = [
+            0x10030305, 0x20000040, 0x20000041, 0x20000042, 0x30000002, 0x40000082, 0x30000042, 0x40000081, 0x30000083,
+            0x40000001, 0x40000002, 0x40000080, 0x60000000, 0x60040000, 0x66001000, 0x60080000, 0x67083000,
+        ];
+        let facts = [
+            0xa0000001, 0xa0000003, 0xa0000005, 0xa0000081, 0xa0000101, 0xa0000102, 0xa0000104, 0xa0000182, 0xa0000184,
+            0xa0000202, 0xa0000204, 0xa0000280, 0xa0000282, 0xa0000284,
+        ];
+        assert_eq!(p3().job, job);
+        assert_eq!(p3().starts, [0x90000000, 0x90000001, 0x90000082]);
+        assert_eq!(p3().facts, facts);
+    }
 
     #[test]
     fn every_proved_job_is_well_formed() {

@@ -155,7 +155,7 @@ set-returns c = λ u h. let a = c .before in
 
 reserved-returns : tie.Need-returns-10
 reserved-returns c = λ u h.
-    let a = c .before .before in
+    let a = c .before in
     let f = a .before in
     reserved-chosen (h .prepared) (h .known) (h .within) (h .found) (ap formNumber (sym (f .form-of .ensures .0)) ∙ no-form (f .form-of .result) (a .match .rest))
 
@@ -170,6 +170,6 @@ choose-parts-spec =
     (λ c. omega (arith, moments (entry (c .before)) .0, c .before .before .before .before .before .node-x .ensures .1))
     (λ c. omega (arith, moments (entry (c .before)) .0, c .before .before .before .before .before .node-x .ensures .1))
     (λ c κs. moments (entry (c .before .before))) (λ c κs. search needs) start-requires end-requires set-requires (λ c κs. search needs)
-    (λ c κs. search needs) act-returns test-returns sequence-returns choice-returns if-returns
+    act-returns test-returns sequence-returns choice-returns if-returns
     (λ c. λ u h. let a = c .before in absurd (h .other (form-is (a .before) (a .match .keys6)))) start-returns end-returns set-returns
-    reserved-returns (λ c. absurd (omega (arith, c .before .before .before .form-of .ensures .1))))
+    reserved-returns)

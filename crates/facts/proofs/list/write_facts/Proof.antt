@@ -2,7 +2,7 @@
 use mathlib.Core.Path.{_≡_}
 use Prim.Native.Nat.{_-_, _≤_}
 use Rattle.facts.specs.Code.Written.{rowFacts, Written}
-use Rattle.facts.proofs.Lists.{row-none, row-more, row-most, written-none, written-more, written-size}
+use Rattle.facts.proofs.Lists.{row-start, row-more, row-most, written-more, written-size}
 use native.Mathlib.Omega.{arith}
 use borrow.Author.Needs.{needs}
 use Rattle.facts.proofs.list.write_facts.Statement.{statement}
@@ -35,6 +35,6 @@ loop-again c =
 pub write-facts-spec : {M : Type 1} → statement M
 write-facts-spec =
     tie.close
-    (tie.spec Inv-loop μ-loop (λ c. (omega arith, simp row-none written-none)) (λ c. search needs) (λ c. search needs) (λ c. search needs)
+    (tie.spec Inv-loop μ-loop (λ c. let a = c .before .args in (omega arith, row-start (a .history .now) (a .head) (a .t))) (λ c. search needs) (λ c. search needs) (λ c. search needs)
     write-fact-requires (λ c. search needs) (λ c. search needs) loop-again (λ c. written-size (c .before .loop .inv .1))
     (λ c. let e : c .before .loop .f ≡ c .before .before .before .args .n = omega arith in rw e at (c .before .loop .inv .1)))

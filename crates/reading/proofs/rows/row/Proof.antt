@@ -115,10 +115,10 @@ returns-8 : tie.Need-returns-8
 returns-8 c = let a = c .before in λ e.
     rw (form-is (a .before) (a .match .keys8), ← n-is (a .before), ← m-is (a .before), ← y-is (a .before), ← x-is (a .before)) (c .end-window-row .ensures e)
 
-returns-10 : tie.Need-returns-10
-returns-10 c =
-    let f = c .before .before in
-    λ e. rw (rw (f .form-of .ensures .0) at (no-form (f .form-of .result) (c .before .match .rest))) (in-none (λ e z. z) e)
+returns-9 : tie.Need-returns-9
+returns-9 c =
+    let f = c .before in
+    λ e. rw (rw (f .form-of .ensures .0) at (no-form (f .form-of .result) (c .match .rest, λ k. entry f .pre .single (ap formNumber (form-is f k))))) (in-none (λ e z. z) e)
 
 pub row-spec : {M : Type 1} → statement M
 row-spec =
@@ -130,5 +130,4 @@ row-spec =
     (λ c. let a = c .before .before .before in λ e. rw (form-is (a .before) (a .match .keys1), ← x-is (a .before)) (c .act-row .ensures e))
     (λ c. let a = c .before .before in λ e. rw (form-is (a .before) (a .match .keys2), ← x-is (a .before)) (c .test-row .ensures e)) returns-3
     returns-4 returns-5 returns-6 returns-7 returns-8
-    (λ c. absurd (entry (c .before) .pre .single (ap formNumber (form-is (c .before) (c .match .keys9))))) returns-10
-    (λ c. absurd (omega (arith, c .before .before .form-of .ensures .1))))
+    returns-9)

@@ -13,11 +13,11 @@ use borrow.Author.Needs.{needs}
 use Rattle.reading.proofs.table.fill_node.Statement.{statement}
 use Rattle.reading.proofs.table.fill_node.Tie as tie
 
-abbrev then1 : tie.After-slice-known2 → tie.Then1
-then1 c = c .before .before .before .before
+abbrev at-set : tie.After-slice-known2 → tie.At-match-keys1
+at-set c = c .before .before .before .before
 
-abbrev else1 : tie.After-slice-known3 → tie.Else1
-else1 c = c .before .before .before .before
+abbrev at-other : tie.After-slice-known3 → tie.At-match-rest
+at-other c = c .before .before .before .before
 
 -- the function's entry, seen from the form
 abbrev entry : tie.After-form-of → tie.Start
@@ -43,28 +43,28 @@ fill-set-requires : tie.Need-fill-set-requires
 fill-set-requires c κs =
     let f = c .before .before in
     let s = entry f in
-    (s .pre .0 .1, set-ready (procedure s) (trajectory s) (s .args .p) (is-set f (c .before .if1 .taken)) (s .pre .1))
+    (s .pre .0 .1, set-ready (procedure s) (trajectory s) (s .args .p) (is-set f (c .before .match .keys1)) (s .pre .1))
 
 fill-rows-requires : tie.Need-fill-rows-requires
 fill-rows-requires c κs =
     let f = c .before .before in
     let s = entry f in
-    let other = no-set f (c .before .if1 .left) in
+    let other = no-set f (c .before .match .rest .1) in
     (same-ready (procedure s) (own s) (trajectory s) (s .args .p) refl (λ q. absurd (other q)) (s .pre .1), other)
 
 returns : tie.Need-returns
 returns c =
-    let i = then1 c in
+    let i = at-set c in
     let f = i .before in
     let s = entry f in
-    set-node (procedure s) (trajectory s) (s .args .p) (is-set f (i .if1 .taken)) (s .pre .1) (c .before .before .fill-set .ensures)
+    set-node (procedure s) (trajectory s) (s .args .p) (is-set f (i .match .keys1)) (s .pre .1) (c .before .before .fill-set .ensures)
 
 returns-2 : tie.Need-returns-2
 returns-2 c =
-    let i = else1 c in
+    let i = at-other c in
     let f = i .before in
     let s = entry f in
-    same-rows (procedure s) (own s) (trajectory s) (s .args .p) refl (λ q. absurd (no-set f (i .if1 .left) q)) (c .before .before .fill-rows .ensures)
+    same-rows (procedure s) (own s) (trajectory s) (s .args .p) refl (λ q. absurd (no-set f (i .match .rest .1) q)) (c .before .before .fill-rows .ensures)
 
 pub fill-node-spec : {M : Type 1} → statement M
 fill-node-spec =

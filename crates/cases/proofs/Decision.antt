@@ -1,5 +1,5 @@
--- Between functions: a test that computes whether node p reads from b to e: the rule of each form over tests. `decides` of
--- proofs/Decides.antt is its law: it tells what has a reading.
+-- A test that computes whether node p reads from b to e: the rule of each form over tests. `decides` (Decides.antt) is its law: it tells what
+-- has a reading. Assumes nothing.
 use Prim.Native.Nat.{ℕ, zero, suc, _+_, max}
 use mathlib.Core.Bool.{Bool, true, false, _&&_, _||_}
 use mathlib.Core.List.{List, [], _∷_}

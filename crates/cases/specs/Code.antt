@@ -1,4 +1,0 @@
--- What passes between functions, and no public contract reaches: Decision (a test that computes whether a node reads from one moment to
--- another), Cases (the test of a case).
-pub mod Decision
-pub mod Cases
