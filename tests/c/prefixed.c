@@ -1,6 +1,5 @@
 /* A host that has a check, fill and find of its own, with the prefixed archive: jobs made by the header's makers, with every kind and form,
- * go through all three calls. Compiled as C11 and as C++17. */
-#define PLANREADER_PREFIXED
+ * go through all three calls. Compiled with PLANREADER_PREFIXED defined, as C11 and as C++17. */
 #include "planreader.h"
 #include <stdio.h>
 #include <string.h>
