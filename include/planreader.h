@@ -69,6 +69,8 @@ uint64_t PLANREADER_CALL(fill)(const uint32_t *job, size_t job_len, const uint32
 uint64_t PLANREADER_CALL(find)(const uint32_t *job, size_t job_len, const uint32_t *starts, size_t starts_len,
                                const uint32_t *facts, size_t facts_len, uint32_t *buffer, size_t buffer_len);
 
+#undef PLANREADER_CALL
+
 /* The version of the archive that is linked, to be held to PLANREADER_VERSION, that of this header. Of the archives of the package alone:
  * it is no part of the proved code, and stands in an object file of its own. */
 extern const char planreader_version[];
