@@ -19,7 +19,7 @@
  * lawful input: there is nothing to test before a call, and no call relies on an earlier one. The buffer lent to a call is the caller's
  * again when it returns, and need not be cleared before it is lent a second time.
  *
- * Time: find takes at most 1 s on the hardest jobs that the bench tries, a few ms on ordinary ones; check and fill take a few ms. It can't be
+ * Time: find takes at most 1 s on the hardest jobs that were tried, a few ms on ordinary ones; check and fill take a few ms. It can't be
  * stopped on its way; a host that must stay responsive calls it on a thread of its own.
  *
  * Each call returns one 64-bit number: refusal number, 0 for success, in bits 63..56; position, counted from 0 within the list
@@ -178,53 +178,103 @@ enum planreader_condition_form {
 
 /* Makers of words. Give 0 for fields that a form does not use, and is_true 0 for false. A value that does not fit its field makes the
  * word 0, which no list may have: check refuses it, by 2 in a job, 6 among starts, 11 among facts. Whether another word is right where it
- * stands check says too. */
+ * stands check says too. Mind the order: the parameters are those of the word's fields from the highest bit down, but is_true is the last. */
+
+/* Number of fluents, number of actions, last moment. */
 static inline uint32_t planreader_head(unsigned fluents, unsigned actions, unsigned last)
 {
     return fluents < 256 && actions < 256 && last < 256 ? 1u << 28 | fluents << 16 | actions << 8 | last : 0;
 }
+/* The fluent, then whether it is true at moment 0. */
 static inline uint32_t planreader_known(unsigned fluent, int is_true)
 {
     return fluent < 64 ? 2u << 28 | (is_true ? 0u : 1u) << 6 | fluent : 0;
 }
+/* The action's number, then how long it lasts. */
 static inline uint32_t planreader_action(unsigned number, unsigned duration)
 {
     return number < 64 && duration < 64 ? 3u << 28 | number << 6 | duration : 0;
 }
+/* The role (PLANREADER_NEEDS_TRUE ..), then the fluent. */
 static inline uint32_t planreader_law(unsigned role, unsigned fluent)
 {
     return role < 4 && fluent < 64 ? 4u << 28 | role << 6 | fluent : 0;
 }
+/* The form (PLANREADER_ALWAYS ..), X, Y. */
 static inline uint32_t planreader_formula(unsigned form, unsigned x, unsigned y)
 {
     return form < 16 && x < 64 && y < 64 ? 5u << 28 | form << 24 | x << 6 | y : 0;
 }
+/* The form (PLANREADER_ACT ..), X, Y, M, N. */
 static inline uint32_t planreader_node(unsigned form, unsigned x, unsigned y, unsigned m, unsigned n)
 {
     return form < 16 && x < 64 && y < 64 && m < 64 && n < 64 ? 6u << 28 | form << 24 | x << 18 | y << 12 | m << 6 | n : 0;
 }
+/* The member's node. */
 static inline uint32_t planreader_member(unsigned node)
 {
     return node < 64 ? 7u << 28 | node : 0;
 }
+/* The form (PLANREADER_BEGIN_AFTER_BEGIN ..), the formula, members i and j by their places from 0, M, N. */
 static inline uint32_t planreader_condition(unsigned form, unsigned formula, unsigned i, unsigned j, unsigned m, unsigned n)
 {
     return form < 16 && formula < 64 && i < 8 && j < 8 && m < 64 && n < 64
                ? 8u << 28 | form << 24 | formula << 18 | i << 15 | j << 12 | m << 6 | n
                : 0;
 }
+/* The moment, then the action. */
 static inline uint32_t planreader_start(unsigned moment, unsigned action)
 {
     return moment < 64 && action < 64 ? 9u << 28 | moment << 6 | action : 0;
 }
+/* The moment, the fluent, then whether it is true. */
 static inline uint32_t planreader_fact(unsigned moment, unsigned fluent, int is_true)
 {
     return moment < 64 && fluent < 64 ? 10u << 28 | moment << 7 | fluent << 1 | (is_true ? 0u : 1u) : 0;
 }
+/* The node, its begin, its end. */
 static inline uint32_t planreader_reading(unsigned node, unsigned begin, unsigned end)
 {
     return node < 64 && begin < 64 && end < 64 ? 11u << 28 | node << 12 | begin << 6 | end : 0;
 }
+
+/* Shorter makers, of one form each. Laws: the fluent, then whether it is needed or made true. */
+static inline uint32_t planreader_needs(unsigned fluent, int is_true)
+{
+    return planreader_law(is_true ? PLANREADER_NEEDS_TRUE : PLANREADER_NEEDS_FALSE, fluent);
+}
+static inline uint32_t planreader_makes(unsigned fluent, int is_true)
+{
+    return planreader_law(is_true ? PLANREADER_MAKES_TRUE : PLANREADER_MAKES_FALSE, fluent);
+}
+/* Formulas: of a fluent; of lower formulas. */
+static inline uint32_t planreader_always(void) { return planreader_formula(PLANREADER_ALWAYS, 0, 0); }
+static inline uint32_t planreader_fluent(unsigned fluent) { return planreader_formula(PLANREADER_FLUENT, fluent, 0); }
+static inline uint32_t planreader_not(unsigned formula) { return planreader_formula(PLANREADER_NOT, formula, 0); }
+static inline uint32_t planreader_and(unsigned x, unsigned y) { return planreader_formula(PLANREADER_AND, x, y); }
+static inline uint32_t planreader_or(unsigned x, unsigned y) { return planreader_formula(PLANREADER_OR, x, y); }
+/* Nodes: of an action, of a formula, of lower nodes in their order; a window's least and greatest offset or pause last. */
+static inline uint32_t planreader_act(unsigned action) { return planreader_node(PLANREADER_ACT, action, 0, 0, 0); }
+static inline uint32_t planreader_test(unsigned formula) { return planreader_node(PLANREADER_TEST, formula, 0, 0, 0); }
+static inline uint32_t planreader_sequence(unsigned first, unsigned second)
+{
+    return planreader_node(PLANREADER_SEQUENCE, first, second, 0, 0);
+}
+static inline uint32_t planreader_choice(unsigned one, unsigned other) { return planreader_node(PLANREADER_CHOICE, one, other, 0, 0); }
+static inline uint32_t planreader_if(unsigned formula, unsigned then_node, unsigned else_node)
+{
+    return planreader_node(PLANREADER_IF, formula, then_node, else_node, 0);
+}
+static inline uint32_t planreader_while(unsigned formula, unsigned body) { return planreader_node(PLANREADER_WHILE, formula, body, 0, 0); }
+static inline uint32_t planreader_start_window(unsigned first, unsigned second, unsigned least, unsigned greatest)
+{
+    return planreader_node(PLANREADER_START_WINDOW, first, second, least, greatest);
+}
+static inline uint32_t planreader_end_window(unsigned first, unsigned second, unsigned least, unsigned greatest)
+{
+    return planreader_node(PLANREADER_END_WINDOW, first, second, least, greatest);
+}
+static inline uint32_t planreader_task_set(void) { return planreader_node(PLANREADER_TASK_SET, 0, 0, 0, 0); }
 
 /* Readers of words: the field of a word of the kind in the name, whatever the others are. */
 static inline unsigned planreader_kind(uint32_t word) { return word >> 28; }

@@ -161,6 +161,41 @@ static void try_listed(void)
         if (pairs[i][0] != pairs[i][1]) fault("listed", pairs[i][1] >> 28, 0, pairs[i][0]);
 }
 
+/* The shorter makers: as the scope lists the forms and their fields, on four different values, and on one that does not fit. */
+static void try_short(void)
+{
+    const unsigned x = 5, y = 6, m = 7, n = 8;
+    const struct {
+        uint32_t word;
+        unsigned kind, fields[FIELDS];
+    } made_short[] = {
+        {planreader_needs(x, 1), 4, {0, x}},
+        {planreader_needs(x, 0), 4, {1, x}},
+        {planreader_makes(x, 1), 4, {2, x}},
+        {planreader_makes(x, 0), 4, {3, x}},
+        {planreader_always(), 5, {0}},
+        {planreader_fluent(x), 5, {1, x}},
+        {planreader_not(x), 5, {2, x}},
+        {planreader_and(x, y), 5, {3, x, y}},
+        {planreader_or(x, y), 5, {4, x, y}},
+        {planreader_act(x), 6, {0, x}},
+        {planreader_test(x), 6, {1, x}},
+        {planreader_sequence(x, y), 6, {2, x, y}},
+        {planreader_choice(x, y), 6, {3, x, y}},
+        {planreader_if(x, y, m), 6, {4, x, y, m}},
+        {planreader_while(x, y), 6, {5, x, y}},
+        {planreader_start_window(x, y, m, n), 6, {6, x, y, m, n}},
+        {planreader_end_window(x, y, m, n), 6, {7, x, y, m, n}},
+        {planreader_task_set(), 6, {8}},
+    };
+    for (size_t i = 0; i < sizeof made_short / sizeof *made_short; i++)
+        if (made_short[i].word != word_laid(made_short[i].kind, made_short[i].fields)) fault("short", made_short[i].kind, (int)i, made_short[i].word);
+    const uint32_t none[] = {planreader_needs(64, 1), planreader_makes(64, 0), planreader_fluent(64), planreader_or(0, 64), planreader_act(64),
+                             planreader_if(0, 0, 64), planreader_end_window(0, 0, 0, 64)};
+    for (size_t i = 0; i < sizeof none / sizeof *none; i++)
+        if (none[i] != 0) fault("short of too much", 0, (int)i, none[i]);
+}
+
 /* Forms that no listing has, and refusals: in the scope's order. */
 static void try_numbers(void)
 {
@@ -203,6 +238,7 @@ int main(void)
         try_readers(kind);
     }
     try_listed();
+    try_short();
     try_numbers();
     try_texts();
     if (strcmp(PLANREADER_VERSION, VERSION_FILE) != 0) fault("PLANREADER_VERSION is not that of VERSION", 0, 0, 0);
