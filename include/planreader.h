@@ -110,7 +110,7 @@ static inline const char *planreader_refusal_text(unsigned number)
          "or the job's end, with another number of actions than its head says"),
         "a job word that names a fluent a second time",
         "a job without nodes, a task set without members, or a node not named as a child exactly once",
-        "a start that is not above the one before it, is after the last moment, has an action that the job lacks, or is no start word",
+        "a start not sorted after the one before it, after the last moment, or of an action that the job lacks; or no start word",
         "a start that ends after the last moment",
         "a start of an action that is still in hand",
         "a start that clashes with an earlier one",
