@@ -1,4 +1,4 @@
-# Functions that write jobs and starts as listings, a word a line. In a script of sh: '. words.sh', with its folder in PATH.
+# Functions that write jobs and starts as listings, a word a line, for sh and bash: '. words.sh', with its folder in PATH.
 #
 #     Head FLUENTS ACTIONS LAST     Known FLUENT true|false                          the head, initially known
 #     Action NUMBER DURATION        Needs FLUENT true|false   Makes FLUENT true|false
