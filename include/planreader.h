@@ -1,28 +1,37 @@
-/* The plan reader's calls. Link with libplanreader.a, which needs memcpy and memset of the C library and nothing else.
+/* The plan reader's calls, and the words that they take and write. Link with libplanreader.a, which needs memcpy and memset of the C library
+ * and nothing else. C11 or later, C++17 or later.
  *
- * Each list is a pointer and its number of 32-bit words, in the machine's own byte order. A job, a plan's starts, a plan's facts and
- * the words that a call writes are as the scope lays them out; examples/door lists such words, and examples/host.c is a whole host.
+ * Each list is a pointer and its number of 32-bit words, in the machine's own byte order. docs/FORMAT.md says what each word means,
+ * examples/door lists such words, and examples/host.c is a whole host.
  *
  * What the caller owes. Nothing checks it, and where it is broken the proofs say nothing of the call.
  *  - A pointer with n > 0 points to n whole words, is aligned for uint32_t, and n * 4 is below 2^63.
  *    The words are initialised, those of the buffer too.
  *  - A pointer with n == 0 is never followed: it may be NULL.
+ *  - The memory is ordinary memory (static, stack, heap or mapped) that stays readable, and for the buffer writable, until the call
+ *    returns; job, starts and facts may be read-only. No registers of a device, and no mapped file that is cut meanwhile.
  *  - The buffer overlaps none of the other lists. job, starts and facts may overlap each other, and may be one list.
  *  - During the call nothing else (a thread, a signal handler, a device) writes to any of the lists, or reads the buffer.
  *  - PLANREADER_STACK bytes of stack are free.
  *
  * What the caller may count on. A call returns, reads and writes nothing but its lists and its stack, keeps no pointer, allocates
  * nothing, sets no errno, and never unwinds or jumps. Calls on several threads at one time are independent. Any contents and any lengths are
- * lawful input: there is nothing to test before a call, and no call relies on an earlier one.
+ * lawful input: there is nothing to test before a call, and no call relies on an earlier one. The buffer lent to a call is the caller's
+ * again when it returns, and need not be cleared before it is lent a second time.
  *
- * Each call hands back one 64-bit number: refusal number, 0 for success, in bits 63..56; position, counted from 0 within the list
+ * Time: find takes at most 1 s on the hardest jobs that were tried, a few ms on ordinary ones; check and fill take a few ms. It can't be
+ * stopped on its way; a host that must stay responsive calls it on a thread of its own.
+ *
+ * Each call returns one 64-bit number: refusal number, 0 for success, in bits 63..56; position, counted from 0 within the list
  * concerned, in 55..40; length in 39..24; count in 23..0.
  *
  *     uint32_t facts[PLANREADER_BUFFER_WORDS] = {0};
  *     uint64_t filled = fill(job, job_len, starts, starts_len, facts, PLANREADER_BUFFER_WORDS);
  *     if (planreader_number(filled) == 0)
  *         passes = check(job, job_len, starts, starts_len, facts, planreader_length(filled)) == 0;
- */
+ *
+ * A host that has a check, fill or find of its own defines PLANREADER_PREFIXED before this header and links libplanreader-prefixed.a, the
+ * same code: the calls are then planreader_check, planreader_fill and planreader_find, and the three short names are free. */
 #ifndef PLANREADER_H
 #define PLANREADER_H
 
@@ -33,29 +42,272 @@
 extern "C" {
 #endif
 
+#define PLANREADER_VERSION "0.1.0"
+
 #define PLANREADER_BUFFER_WORDS 4096u /* a shorter buffer is refusal 12 */
+#define PLANREADER_JOB_WORDS 2048u /* a longer job is refusal 1 */
 #define PLANREADER_STACK 131072u /* bytes: what the tests measured, rounded up */
 
+#ifdef PLANREADER_PREFIXED
+#define PLANREADER_CALL(name) planreader_##name
+#else
+#define PLANREADER_CALL(name) name
+#endif
+
 /* Is the plan lawful? Refusals 1 to 11, or 0. Writes nothing. */
-uint64_t check(const uint32_t *job, size_t job_len, const uint32_t *starts, size_t starts_len,
-               const uint32_t *facts, size_t facts_len);
+uint64_t PLANREADER_CALL(check)(const uint32_t *job, size_t job_len, const uint32_t *starts, size_t starts_len,
+                                const uint32_t *facts, size_t facts_len);
 
 /* From lawful starts, writes the list of known facts to the buffer's first planreader_length words; with it the plan passes.
  * Refusals 12 and 1 to 10. A refusal changes no word of the buffer, and a success none after the list. */
-uint64_t fill(const uint32_t *job, size_t job_len, const uint32_t *starts, size_t starts_len,
-              uint32_t *buffer, size_t buffer_len);
+uint64_t PLANREADER_CALL(fill)(const uint32_t *job, size_t job_len, const uint32_t *starts, size_t starts_len,
+                               uint32_t *buffer, size_t buffer_len);
 
 /* Reads the job's procedure against the plan from moment 0 to the last. Refusals 12 and 1 to 11; then 13, no list of words is a reading of
  * the root, with the true count; or a reading's words in the buffer's first planreader_length words, with the true count: the number of
  * (node, begin, end) triples that have a reading. A refusal, 13 too, changes no word of the buffer, and a success none after the reading. */
-uint64_t find(const uint32_t *job, size_t job_len, const uint32_t *starts, size_t starts_len,
-              const uint32_t *facts, size_t facts_len, uint32_t *buffer, size_t buffer_len);
+uint64_t PLANREADER_CALL(find)(const uint32_t *job, size_t job_len, const uint32_t *starts, size_t starts_len,
+                               const uint32_t *facts, size_t facts_len, uint32_t *buffer, size_t buffer_len);
+
+#undef PLANREADER_CALL
+
+/* The version of the archive that is linked, to be held to PLANREADER_VERSION, that of this header. Of the archives of the package alone:
+ * it is no part of the proved code, and stands in an object file of its own. */
+extern const char planreader_version[];
 
 /* The fields of an answer. */
 static inline unsigned planreader_number(uint64_t answer) { return (unsigned)(answer >> 56); }
 static inline unsigned planreader_position(uint64_t answer) { return (unsigned)(answer >> 40 & 0xffff); }
 static inline unsigned planreader_length(uint64_t answer) { return (unsigned)(answer >> 24 & 0xffff); }
 static inline unsigned planreader_count(uint64_t answer) { return (unsigned)(answer & 0xffffff); }
+
+/* Refusal numbers. The position is that of a word of the job (2, 3, 4), of a start (6 to 10) or of a fact (11), or as said here. */
+enum planreader_refusal {
+    PLANREADER_ACCEPTED = 0,
+    PLANREADER_JOB_LENGTH = 1, /* position 0 */
+    PLANREADER_JOB_SHAPE = 2,
+    PLANREADER_JOB_VALUE = 3, /* or, at the job's length: not as many actions as the head says */
+    PLANREADER_JOB_FLUENT_TWICE = 4,
+    PLANREADER_JOB_NODES = 5, /* position 0 for a job without nodes, else a node's number: see examples/common.h */
+    PLANREADER_START_WORD = 6,
+    PLANREADER_START_ENDS_LATE = 7,
+    PLANREADER_START_IN_HAND = 8,
+    PLANREADER_START_CLASHES = 9,
+    PLANREADER_START_NEEDS = 10,
+    PLANREADER_FACTS_DIFFER = 11, /* the first difference; if one list begins the other, the shorter length */
+    PLANREADER_BUFFER_SHORT = 12, /* position 0 */
+    PLANREADER_NO_READING = 13 /* position 0 */
+};
+
+/* What a refusal number says of what stands at the position; a text for every number. */
+static inline const char *planreader_refusal_text(unsigned number)
+{
+    static const char *const texts[] = {
+        "no refusal",
+        "a job without words, or with more than 2,048",
+        "a job word whose kind, form or place is not allowed, or with a spare bit set",
+        ("a job word with a wrong number, reference, range or window, or one too many; "
+         "or the job's end, with another number of actions than its head says"),
+        "a job word that names a fluent a second time",
+        "a job without nodes, a task set without members, or a node not named as a child exactly once",
+        "a start not sorted after the one before it, after the last moment, or of an action that the job lacks; or no start word",
+        "a start that ends after the last moment",
+        "a start of an action that is still in hand",
+        "a start that clashes with an earlier one",
+        "a start with a need that is not met: the fluent is open, or has the other value",
+        "a fact that does not follow from the starts, or that is missing",
+        "a buffer that is too short",
+        "the procedure has no reading",
+    };
+    return number < sizeof texts / sizeof *texts ? texts[number] : "no number of a refusal";
+}
+
+/* The kind of a word, bits 31..28. A job has kinds 1 to 8, a plan 9 and 10, a reading 11. */
+enum planreader_word_kind {
+    PLANREADER_KIND_HEAD = 1,
+    PLANREADER_KIND_KNOWN = 2,
+    PLANREADER_KIND_ACTION = 3,
+    PLANREADER_KIND_LAW = 4,
+    PLANREADER_KIND_FORMULA = 5,
+    PLANREADER_KIND_NODE = 6,
+    PLANREADER_KIND_MEMBER = 7,
+    PLANREADER_KIND_CONDITION = 8,
+    PLANREADER_KIND_START = 9,
+    PLANREADER_KIND_FACT = 10,
+    PLANREADER_KIND_READING = 11
+};
+
+/* The role of a law. */
+enum planreader_role {
+    PLANREADER_NEEDS_TRUE = 0,
+    PLANREADER_NEEDS_FALSE = 1,
+    PLANREADER_MAKES_TRUE = 2,
+    PLANREADER_MAKES_FALSE = 3
+};
+
+/* Forms, bits 27..24: of formulas, */
+enum planreader_formula_form {
+    PLANREADER_ALWAYS = 0,
+    PLANREADER_FLUENT = 1, /* fluent X */
+    PLANREADER_NOT = 2, /* not formula X */
+    PLANREADER_AND = 3, /* formulas X and Y */
+    PLANREADER_OR = 4
+};
+
+/* of nodes, */
+enum planreader_node_form {
+    PLANREADER_ACT = 0, /* action X */
+    PLANREADER_TEST = 1, /* formula X */
+    PLANREADER_SEQUENCE = 2, /* node X, then node Y */
+    PLANREADER_CHOICE = 3, /* node X or node Y */
+    PLANREADER_IF = 4, /* if formula X then node Y else node M */
+    PLANREADER_WHILE = 5, /* while formula X do node Y */
+    PLANREADER_START_WINDOW = 6, /* node Y begins M to N moments after node X begins */
+    PLANREADER_END_WINDOW = 7, /* node Y begins M to N moments after node X ends */
+    PLANREADER_TASK_SET = 8 /* the members that follow */
+};
+
+/* and of conditions of a task set. */
+enum planreader_condition_form {
+    PLANREADER_BEGIN_AFTER_BEGIN = 0, /* member j begins M to N moments after member i begins */
+    PLANREADER_BEGIN_AFTER_END = 1, /* member j begins M to N moments after member i ends */
+    PLANREADER_HOLDS_BEFORE = 2, /* the formula holds from N to M moments before member i begins */
+    PLANREADER_HOLDS_AFTER = 3, /* the formula holds from M to N moments after member i ends */
+    PLANREADER_HOLDS_BETWEEN = 4 /* the formula holds from M moments after member i ends to N before member j begins */
+};
+
+/* Makers of words. Give 0 for fields that a form does not use, and is_true 0 for false. A value that does not fit its field makes the
+ * word 0, which no list may have: check refuses it, by 2 in a job, 6 among starts, 11 among facts. Whether another word is right where it
+ * stands check says too. Mind the order: the parameters are those of the word's fields from the highest bit down, but is_true is the last. */
+
+/* Number of fluents, number of actions, last moment. */
+static inline uint32_t planreader_head(unsigned fluents, unsigned actions, unsigned last)
+{
+    return fluents < 256 && actions < 256 && last < 256 ? 1u << 28 | fluents << 16 | actions << 8 | last : 0;
+}
+/* The fluent, then whether it is true at moment 0. */
+static inline uint32_t planreader_known(unsigned fluent, int is_true)
+{
+    return fluent < 64 ? 2u << 28 | (is_true ? 0u : 1u) << 6 | fluent : 0;
+}
+/* The action's number, then how long it lasts. */
+static inline uint32_t planreader_action(unsigned number, unsigned duration)
+{
+    return number < 64 && duration < 64 ? 3u << 28 | number << 6 | duration : 0;
+}
+/* The role (PLANREADER_NEEDS_TRUE ..), then the fluent. */
+static inline uint32_t planreader_law(unsigned role, unsigned fluent)
+{
+    return role < 4 && fluent < 64 ? 4u << 28 | role << 6 | fluent : 0;
+}
+/* The form (PLANREADER_ALWAYS ..), X, Y. */
+static inline uint32_t planreader_formula(unsigned form, unsigned x, unsigned y)
+{
+    return form < 16 && x < 64 && y < 64 ? 5u << 28 | form << 24 | x << 6 | y : 0;
+}
+/* The form (PLANREADER_ACT ..), X, Y, M, N. */
+static inline uint32_t planreader_node(unsigned form, unsigned x, unsigned y, unsigned m, unsigned n)
+{
+    return form < 16 && x < 64 && y < 64 && m < 64 && n < 64 ? 6u << 28 | form << 24 | x << 18 | y << 12 | m << 6 | n : 0;
+}
+/* The member's node. */
+static inline uint32_t planreader_member(unsigned node)
+{
+    return node < 64 ? 7u << 28 | node : 0;
+}
+/* The form (PLANREADER_BEGIN_AFTER_BEGIN ..), the formula, members i and j by their places from 0, M, N. */
+static inline uint32_t planreader_condition(unsigned form, unsigned formula, unsigned i, unsigned j, unsigned m, unsigned n)
+{
+    return form < 16 && formula < 64 && i < 8 && j < 8 && m < 64 && n < 64
+               ? 8u << 28 | form << 24 | formula << 18 | i << 15 | j << 12 | m << 6 | n
+               : 0;
+}
+/* The moment, then the action. */
+static inline uint32_t planreader_start(unsigned moment, unsigned action)
+{
+    return moment < 64 && action < 64 ? 9u << 28 | moment << 6 | action : 0;
+}
+/* The moment, the fluent, then whether it is true. */
+static inline uint32_t planreader_fact(unsigned moment, unsigned fluent, int is_true)
+{
+    return moment < 64 && fluent < 64 ? 10u << 28 | moment << 7 | fluent << 1 | (is_true ? 0u : 1u) : 0;
+}
+/* The node, its begin, its end. */
+static inline uint32_t planreader_reading(unsigned node, unsigned begin, unsigned end)
+{
+    return node < 64 && begin < 64 && end < 64 ? 11u << 28 | node << 12 | begin << 6 | end : 0;
+}
+
+/* Shorter makers, of one form each. Laws: the fluent, then whether it is needed or made true. */
+static inline uint32_t planreader_needs(unsigned fluent, int is_true)
+{
+    return planreader_law(is_true ? PLANREADER_NEEDS_TRUE : PLANREADER_NEEDS_FALSE, fluent);
+}
+static inline uint32_t planreader_makes(unsigned fluent, int is_true)
+{
+    return planreader_law(is_true ? PLANREADER_MAKES_TRUE : PLANREADER_MAKES_FALSE, fluent);
+}
+/* Formulas: of a fluent; of lower formulas. */
+static inline uint32_t planreader_always(void) { return planreader_formula(PLANREADER_ALWAYS, 0, 0); }
+static inline uint32_t planreader_fluent(unsigned fluent) { return planreader_formula(PLANREADER_FLUENT, fluent, 0); }
+static inline uint32_t planreader_not(unsigned formula) { return planreader_formula(PLANREADER_NOT, formula, 0); }
+static inline uint32_t planreader_and(unsigned x, unsigned y) { return planreader_formula(PLANREADER_AND, x, y); }
+static inline uint32_t planreader_or(unsigned x, unsigned y) { return planreader_formula(PLANREADER_OR, x, y); }
+/* Nodes: of an action, of a formula, of lower nodes in their order; a window's least and greatest offset or pause last. */
+static inline uint32_t planreader_act(unsigned action) { return planreader_node(PLANREADER_ACT, action, 0, 0, 0); }
+static inline uint32_t planreader_test(unsigned formula) { return planreader_node(PLANREADER_TEST, formula, 0, 0, 0); }
+static inline uint32_t planreader_sequence(unsigned first, unsigned second)
+{
+    return planreader_node(PLANREADER_SEQUENCE, first, second, 0, 0);
+}
+static inline uint32_t planreader_choice(unsigned one, unsigned other) { return planreader_node(PLANREADER_CHOICE, one, other, 0, 0); }
+static inline uint32_t planreader_if(unsigned formula, unsigned then_node, unsigned else_node)
+{
+    return planreader_node(PLANREADER_IF, formula, then_node, else_node, 0);
+}
+static inline uint32_t planreader_while(unsigned formula, unsigned body) { return planreader_node(PLANREADER_WHILE, formula, body, 0, 0); }
+static inline uint32_t planreader_start_window(unsigned first, unsigned second, unsigned least, unsigned greatest)
+{
+    return planreader_node(PLANREADER_START_WINDOW, first, second, least, greatest);
+}
+static inline uint32_t planreader_end_window(unsigned first, unsigned second, unsigned least, unsigned greatest)
+{
+    return planreader_node(PLANREADER_END_WINDOW, first, second, least, greatest);
+}
+static inline uint32_t planreader_task_set(void) { return planreader_node(PLANREADER_TASK_SET, 0, 0, 0, 0); }
+
+/* Readers of words: the field of a word of the kind in the name, whatever the others are. */
+static inline unsigned planreader_kind(uint32_t word) { return word >> 28; }
+static inline unsigned planreader_form(uint32_t word) { return word >> 24 & 15; } /* kinds 5, 6 and 8 */
+static inline unsigned planreader_head_fluents(uint32_t word) { return word >> 16 & 255; }
+static inline unsigned planreader_head_actions(uint32_t word) { return word >> 8 & 255; }
+static inline unsigned planreader_head_last(uint32_t word) { return word & 255; }
+static inline unsigned planreader_known_fluent(uint32_t word) { return word & 63; }
+static inline int planreader_known_is_true(uint32_t word) { return (word >> 6 & 1) == 0; }
+static inline unsigned planreader_action_number(uint32_t word) { return word >> 6 & 63; }
+static inline unsigned planreader_action_duration(uint32_t word) { return word & 63; }
+static inline unsigned planreader_law_role(uint32_t word) { return word >> 6 & 3; }
+static inline unsigned planreader_law_fluent(uint32_t word) { return word & 63; }
+static inline unsigned planreader_formula_x(uint32_t word) { return word >> 6 & 63; }
+static inline unsigned planreader_formula_y(uint32_t word) { return word & 63; }
+static inline unsigned planreader_node_x(uint32_t word) { return word >> 18 & 63; }
+static inline unsigned planreader_node_y(uint32_t word) { return word >> 12 & 63; }
+static inline unsigned planreader_node_m(uint32_t word) { return word >> 6 & 63; }
+static inline unsigned planreader_node_n(uint32_t word) { return word & 63; }
+static inline unsigned planreader_member_node(uint32_t word) { return word & 63; }
+static inline unsigned planreader_condition_formula(uint32_t word) { return word >> 18 & 63; }
+static inline unsigned planreader_condition_i(uint32_t word) { return word >> 15 & 7; }
+static inline unsigned planreader_condition_j(uint32_t word) { return word >> 12 & 7; }
+static inline unsigned planreader_condition_m(uint32_t word) { return word >> 6 & 63; }
+static inline unsigned planreader_condition_n(uint32_t word) { return word & 63; }
+static inline unsigned planreader_start_moment(uint32_t word) { return word >> 6 & 63; }
+static inline unsigned planreader_start_action(uint32_t word) { return word & 63; }
+static inline unsigned planreader_fact_moment(uint32_t word) { return word >> 7 & 63; }
+static inline unsigned planreader_fact_fluent(uint32_t word) { return word >> 1 & 63; }
+static inline int planreader_fact_is_true(uint32_t word) { return (word & 1) == 0; }
+static inline unsigned planreader_reading_node(uint32_t word) { return word >> 12 & 63; }
+static inline unsigned planreader_reading_begin(uint32_t word) { return word >> 6 & 63; }
+static inline unsigned planreader_reading_end(uint32_t word) { return word & 63; }
 
 #ifdef __cplusplus
 }

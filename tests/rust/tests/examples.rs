@@ -1,4 +1,4 @@
-//! The examples for people: their listings, files and expected texts, and the README's blocks, against the checker written apart.
+//! The examples for people: their listings, files and expected texts, against the checker written apart.
 
 use planreader_tests::built::printed_in;
 use planreader_tests::checker::calls::{self, Outcome};
@@ -123,35 +123,4 @@ fn the_door_has_one_reading_and_it_is_the_listed_one() {
     let listed = listed("door", "reading.txt");
     assert_eq!(readings(&world, &decision, whole, 2), std::slice::from_ref(&listed));
     assert_eq!(text(example("door", "expected.txt")), reading_text(&listed, decision.count()));
-}
-
-/// The lines of a text as a block of a Markdown page.
-fn block(text: &str) -> String {
-    text.lines().map(|line| format!("    {line}\n")).collect()
-}
-
-#[test]
-fn the_readme_shows_the_expected_texts() {
-    let readme = text(root().join("README.md"));
-    for folder in FOLDERS {
-        assert!(readme.contains(&block(&text(example(folder, "expected.txt")))), "{folder}");
-    }
-    let reading = text(example("door", "reading.txt"));
-    let words: String = reading.lines().filter(|line| line.starts_with('b')).map(|line| format!("{line}\n")).collect();
-    assert!(readme.contains(&block(&words)), "the reading, word by word");
-    let said: String = text(example("door", "host.txt")).lines().take(4).map(|line| format!("{line}\n")).collect();
-    assert!(readme.contains(&block(&said)), "what the host says first");
-}
-
-/// The C lines of the README stand in the example that is compiled and run.
-#[test]
-fn the_readme_s_c_lines_are_the_host_s() {
-    let readme = text(root().join("README.md"));
-    let host = text(root().join("examples/host.c"));
-    let section = readme.split("## Calling it from C").nth(1).and_then(|rest| rest.split("\n## ").next());
-    let lines: Vec<&str> = section.expect("that section").lines().filter(|line| line.ends_with(';')).collect();
-    assert!(lines.len() > 3);
-    for line in lines {
-        assert!(host.lines().any(|written| written.trim() == line.trim()), "{line}");
-    }
 }

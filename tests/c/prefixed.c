@@ -1,0 +1,97 @@
+/* A host that has a check, fill and find of its own, with the prefixed archive: jobs made by the header's makers, with every kind and form,
+ * go through all three calls. Compiled with PLANREADER_PREFIXED defined, as C11 and as C++17. */
+#include "planreader.h"
+#include <stdio.h>
+#include <string.h>
+
+#ifdef __cplusplus
+extern "C" {
+#endif
+int check(int own);
+int fill(int own);
+int find(int own);
+#ifdef __cplusplus
+}
+#endif
+
+int check(int own) { return own + 1; }
+int fill(int own) { return own + 2; }
+int find(int own) { return own + 3; }
+
+static int faults;
+static uint32_t facts[PLANREADER_BUFFER_WORDS], reading[PLANREADER_BUFFER_WORDS];
+
+static void expect(const char *what, uint64_t answer, unsigned number, unsigned position, unsigned length, unsigned count)
+{
+    if (planreader_number(answer) == number && planreader_position(answer) == position && planreader_length(answer) == length &&
+        planreader_count(answer) == count)
+        return;
+    printf("%s: %u at %u, length %u, count %u\n", what, planreader_number(answer), planreader_position(answer),
+           planreader_length(answer), planreader_count(answer));
+    faults++;
+}
+
+/* The scope's case P3: b and c last 2, a lasts 3, the last moment is 5; b start window 0..0 c, end window 0..0 a. */
+static void try_windows(void)
+{
+    const uint32_t job[] = {
+        planreader_head(1, 3, 5), planreader_action(0, 2), planreader_action(1, 2), planreader_action(2, 3),
+        planreader_node(PLANREADER_ACT, 0, 0, 0, 0), planreader_node(PLANREADER_ACT, 1, 0, 0, 0),
+        planreader_node(PLANREADER_START_WINDOW, 0, 1, 0, 0), planreader_node(PLANREADER_ACT, 2, 0, 0, 0),
+        planreader_node(PLANREADER_END_WINDOW, 2, 3, 0, 0),
+    };
+    const uint32_t starts[] = {planreader_start(0, 0), planreader_start(0, 1), planreader_start(2, 2)};
+    const uint32_t expected[] = {planreader_reading(4, 0, 5), planreader_reading(2, 0, 2), planreader_reading(0, 0, 2),
+                                 planreader_reading(1, 0, 2), planreader_reading(3, 2, 5)};
+    expect("P3, fill", planreader_fill(job, 9, starts, 3, facts, PLANREADER_BUFFER_WORDS), 0, 0, 0, 0);
+    expect("P3, check", planreader_check(job, 9, starts, 3, facts, 0), 0, 0, 0, 0);
+    expect("P3, find", planreader_find(job, 9, starts, 3, facts, 0, reading, PLANREADER_BUFFER_WORDS), 0, 0, 5, 5);
+    if (memcmp(reading, expected, sizeof expected) != 0) printf("P3: another reading\n"), faults++;
+}
+
+/* A job with every kind and form, one moment, no start: fluent 0 is true, and tests of it read from 0 to 0. */
+static void try_forms(void)
+{
+    const uint32_t job[] = {
+        planreader_head(2, 1, 0), planreader_known(0, 1), planreader_known(1, 0),
+        planreader_action(0, 1), planreader_law(PLANREADER_NEEDS_TRUE, 0), planreader_law(PLANREADER_NEEDS_FALSE, 1),
+        planreader_law(PLANREADER_MAKES_FALSE, 0), planreader_law(PLANREADER_MAKES_TRUE, 1),
+        planreader_formula(PLANREADER_ALWAYS, 0, 0), planreader_formula(PLANREADER_FLUENT, 0, 0),
+        planreader_formula(PLANREADER_NOT, 1, 0), planreader_formula(PLANREADER_AND, 0, 1), planreader_formula(PLANREADER_OR, 2, 3),
+        planreader_node(PLANREADER_TEST, 4, 0, 0, 0), /* 0 */
+        planreader_node(PLANREADER_ACT, 0, 0, 0, 0),
+        planreader_node(PLANREADER_CHOICE, 1, 0, 0, 0), /* 2 */
+        planreader_node(PLANREADER_TEST, 0, 0, 0, 0),
+        planreader_node(PLANREADER_WHILE, 2, 3, 0, 0), /* 4 */
+        planreader_node(PLANREADER_TEST, 2, 0, 0, 0),
+        planreader_node(PLANREADER_IF, 2, 5, 2, 0), /* 6 */
+        planreader_node(PLANREADER_SEQUENCE, 4, 6, 0, 0), /* 7 */
+        planreader_node(PLANREADER_TEST, 1, 0, 0, 0),
+        planreader_node(PLANREADER_TASK_SET, 0, 0, 0, 0), planreader_member(7), planreader_member(8), /* 9 */
+        planreader_condition(PLANREADER_BEGIN_AFTER_BEGIN, 0, 0, 1, 0, 0),
+        planreader_condition(PLANREADER_BEGIN_AFTER_END, 0, 0, 1, 0, 1),
+        planreader_condition(PLANREADER_HOLDS_BEFORE, 1, 0, 0, 0, 0), planreader_condition(PLANREADER_HOLDS_AFTER, 3, 1, 0, 0, 0),
+        planreader_condition(PLANREADER_HOLDS_BETWEEN, 4, 0, 1, 0, 0),
+    };
+    const uint32_t known[] = {planreader_fact(0, 0, 1), planreader_fact(0, 1, 0)};
+    const uint32_t expected[] = {planreader_reading(9, 0, 0), planreader_reading(7, 0, 0), planreader_reading(4, 0, 0),
+                                 planreader_reading(6, 0, 0), planreader_reading(2, 0, 0), planreader_reading(0, 0, 0),
+                                 planreader_reading(8, 0, 0)};
+    const size_t length = sizeof job / sizeof *job;
+    expect("forms, fill", planreader_fill(job, length, NULL, 0, facts, PLANREADER_BUFFER_WORDS), 0, 0, 2, 0);
+    if (memcmp(facts, known, sizeof known) != 0) printf("forms: other facts\n"), faults++;
+    expect("forms, check", planreader_check(job, length, NULL, 0, known, 2), 0, 0, 0, 0);
+    /* nodes 0, 2, 3, 4, 6, 7, 8 and 9 read from 0 to 0; the act 1 and the test 5 do not */
+    expect("forms, find", planreader_find(job, length, NULL, 0, known, 2, reading, PLANREADER_BUFFER_WORDS), 0, 0, 7, 8);
+    if (memcmp(reading, expected, sizeof expected) != 0) printf("forms: another reading\n"), faults++;
+}
+
+int main(void)
+{
+    try_windows();
+    try_forms();
+    if (check(0) != 1 || fill(0) != 2 || find(0) != 3) printf("the host's own calls are not its own\n"), faults++;
+    if (strcmp(planreader_version, PLANREADER_VERSION) != 0) printf("the archive's version is %s\n", planreader_version), faults++;
+    printf("prefixed: %s\n", faults ? "FAILED" : "ok");
+    return faults != 0;
+}
