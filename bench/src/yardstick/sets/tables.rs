@@ -1,0 +1,205 @@
+//! What the conditions of a task set leave, as words: of a member alone, and of a member beside another one.
+use super::{Set, MOST};
+use crate::masks::{each, from, has, high, low, range, range_before, upto};
+use crate::yardstick::job::Condition;
+
+type Rows = [[u64; 64]; MOST];
+type Pairs = [[[u64; 64]; MOST]; MOST];
+
+/// For begins and ends from a to z. Entries of other members and moments are left as they are.
+pub struct Tables {
+    /// [i][x]: the ends of i from x that its own conditions, and some begin of each other member, allow.
+    pub own: Rows,
+    /// [i][j][y]: the ends of i that conditions 1 and 4 allow where j begins at y.
+    pub ends: Pairs,
+    /// [i][j][x]: the begins of j that conditions 0 allow where i begins at x, and from which j has an end.
+    pub goes: Pairs,
+    /// [i][j][e]: the begins of j with which i may end at e or later.
+    pub late: Pairs,
+    /// [i][j][e]: the begins of j with which i may end at e or sooner.
+    pub soon: Pairs,
+    /// [i][j]: the begins of j with which i may end no sooner than j.
+    pub last: [[u64; MOST]; MOST],
+    /// [i][j]: whether a condition 1 or 4 is on the end of i and the begin of j.
+    pub tied: [[bool; MOST]; MOST],
+    /// [i]: whether no condition is on i and another member.
+    pub free: [bool; MOST],
+    /// [i][x]: the ends of i from x or a later begin.
+    pub later: Rows,
+    /// [i][g]: the begins of i with an end at g or later.
+    pub reach: Rows,
+}
+
+impl Tables {
+    pub fn new() -> Tables {
+        let (rows, pairs) = ([[0; 64]; MOST], [[[0; 64]; MOST]; MOST]);
+        Tables {
+            own: rows,
+            ends: pairs,
+            goes: pairs,
+            late: pairs,
+            soon: pairs,
+            last: [[0; MOST]; MOST],
+            tied: [[false; MOST]; MOST],
+            free: [true; MOST],
+            later: rows,
+            reach: rows,
+        }
+    }
+
+    pub fn fill(&mut self, set: &Set, a: usize, z: usize) {
+        self.clear(set.members, a, z);
+        for condition in set.conditions {
+            self.take(set, condition, a, z);
+        }
+        self.fill_own(set, a, z);
+        let tied = self.tied_pairs(set.members);
+        for &(i, j) in &tied {
+            self.drop_begins_without_end(i, j, a, z);
+        }
+        for &(i, j) in &tied {
+            self.drop_ends_without_begin(i, j, a, z);
+        }
+        for &(i, j) in &tied {
+            self.fill_late_and_soon(i, j, a, z);
+        }
+        for i in 0..set.members {
+            self.fill_later_and_reach(i, a, z);
+        }
+    }
+
+    /// The ends of i with these begins of all members.
+    pub fn ends_of(&self, i: usize, begins: &[usize]) -> u64 {
+        let others = (0..begins.len()).filter(|&j| j != i);
+        others.fold(self.own[i][begins[i]], |ends, j| ends & self.ends[i][j][begins[j]])
+    }
+
+    fn clear(&mut self, members: usize, a: usize, z: usize) {
+        for i in 0..members {
+            self.free[i] = true;
+            for j in 0..members {
+                self.tied[i][j] = false;
+                self.ends[i][j][a..=z].fill(u64::MAX);
+                self.goes[i][j][a..=z].fill(u64::MAX);
+            }
+        }
+    }
+
+    /// What one condition leaves. Those on one member are kept at [i][i].
+    fn take(&mut self, set: &Set, condition: &Condition, a: usize, z: usize) {
+        let &Condition { form, formula, i, j, m, n } = condition;
+        match form {
+            0 => self.take_begins(i, j, m, n, a, z),
+            1 => (a..=z).for_each(|y| self.ends[i][j][y] &= range_before(y, m, n)),
+            2 => self.take_before_begin(i, !set.holds[formula], m, n, a, z),
+            3 => self.take_after_end(i, !set.holds[formula], m, n, a, z, set.last),
+            _ => self.take_between(i, j, !set.holds[formula], m, n, a, z),
+        }
+        if i != j && form != 2 && form != 3 {
+            self.free[i] = false;
+            self.free[j] = false;
+            self.tied[i][j] |= form != 0;
+        }
+    }
+
+    /// Form 0.
+    fn take_begins(&mut self, i: usize, j: usize, m: usize, n: usize, a: usize, z: usize) {
+        for t in a..=z {
+            self.goes[i][j][t] &= range(t + m, t + n);
+            self.goes[j][i][t] &= range_before(t, m, n);
+        }
+    }
+
+    /// Form 2.
+    fn take_before_begin(&mut self, i: usize, not_held: u64, m: usize, n: usize, a: usize, z: usize) {
+        for x in a..=z {
+            if x < n || range(x - n, x - m) & not_held != 0 {
+                self.goes[i][i][x] = 0;
+            }
+        }
+    }
+
+    /// Form 3.
+    #[allow(clippy::too_many_arguments)]
+    fn take_after_end(&mut self, i: usize, not_held: u64, m: usize, n: usize, a: usize, z: usize, last: usize) {
+        let met = |&e: &usize| e + n <= last && range(e + m, e + n) & not_held == 0;
+        let ends = (a..=z).filter(met).fold(0, |ends, e| ends | 1 << e);
+        (a..=z).for_each(|x| self.ends[i][i][x] &= ends);
+    }
+
+    /// Form 4: the moments e + M to y - N hold when none of them is at or before the last one up to y - N that does not hold.
+    #[allow(clippy::too_many_arguments)]
+    fn take_between(&mut self, i: usize, j: usize, not_held: u64, m: usize, n: usize, a: usize, z: usize) {
+        for y in a.max(n)..=z {
+            let bad = not_held & upto(y - n);
+            if bad != 0 {
+                self.ends[i][j][y] &= from((high(bad) + 1).saturating_sub(m));
+            }
+        }
+    }
+
+    fn fill_own(&mut self, set: &Set, a: usize, z: usize) {
+        for i in 0..set.members {
+            for x in a..=z {
+                let begins = has(self.goes[i][i][x], x);
+                self.own[i][x] = if begins { set.rows[i][x] & self.ends[i][i][x] & upto(z) } else { 0 };
+            }
+        }
+    }
+
+    fn tied_pairs(&self, members: usize) -> Vec<(usize, usize)> {
+        let pairs = (0..members).flat_map(|i| (0..members).map(move |j| (i, j)));
+        pairs.filter(|&(i, j)| self.tied[i][j]).collect()
+    }
+
+    /// The begins of i are left out from which it has no end where j begins at y.
+    fn drop_begins_without_end(&mut self, i: usize, j: usize, a: usize, z: usize) {
+        for y in a..=z {
+            let begins = each(self.goes[j][i][y] & range(a, z));
+            let ends = self.ends[i][j][y];
+            self.goes[j][i][y] = begins.filter(|&x| self.own[i][x] & ends != 0).fold(0, |left, x| left | 1 << x);
+        }
+    }
+
+    /// The ends of i from x are left out that no begin of j allows.
+    fn drop_ends_without_begin(&mut self, i: usize, j: usize, a: usize, z: usize) {
+        let begun = (a..=z).filter(|&y| self.own[j][y] != 0).fold(0, |begins, y| begins | 1 << y);
+        for x in a..=z {
+            if self.own[i][x] != 0 {
+                let begins = each(self.goes[i][j][x] & begun);
+                self.own[i][x] &= begins.fold(0, |ends, y| ends | self.ends[i][j][y]);
+            }
+        }
+    }
+
+    fn fill_late_and_soon(&mut self, i: usize, j: usize, a: usize, z: usize) {
+        self.late[i][j][a..=z].fill(0);
+        self.soon[i][j][a..=z].fill(0);
+        self.last[i][j] = 0;
+        for y in a..=z {
+            let ends = self.ends[i][j][y] & range(a, z);
+            if ends != 0 {
+                self.late[i][j][high(ends)] |= 1 << y;
+                self.soon[i][j][low(ends)] |= 1 << y;
+                if self.own[j][y] != 0 && ends & from(low(self.own[j][y])) != 0 {
+                    self.last[i][j] |= 1 << y;
+                }
+            }
+        }
+        (a..z).rev().for_each(|e| self.late[i][j][e] |= self.late[i][j][e + 1]);
+        (a + 1..=z).for_each(|e| self.soon[i][j][e] |= self.soon[i][j][e - 1]);
+    }
+
+    fn fill_later_and_reach(&mut self, i: usize, a: usize, z: usize) {
+        self.reach[i][a..=z].fill(0);
+        let mut later = 0;
+        for x in (a..=z).rev() {
+            later |= self.own[i][x];
+            self.later[i][x] = later;
+            if self.own[i][x] != 0 {
+                self.reach[i][high(self.own[i][x])] |= 1 << x;
+            }
+        }
+        (a..z).rev().for_each(|g| self.reach[i][g] |= self.reach[i][g + 1]);
+    }
+}
