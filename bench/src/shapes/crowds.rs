@@ -1,26 +1,45 @@
 //! Task sets of four members that read between many moments, with conditions that could make a search long.
 use super::nodes::Nodes;
-use super::{Shape, CONTRADICTION, SET};
-use planreader_tests::words::{action, condition, formula, head};
+use super::{Shape, CONTRADICTION, JOB, SET};
+use planreader_tests::words::{action, condition, formula, head, node};
 
 type Crowd = (&'static str, usize, Vec<u32>);
 
 pub fn shapes() -> Vec<Shape> {
-    let with = |most_ms: f64| move |crowd: Crowd| shape(crowd, most_ms);
-    crowds().into_iter().map(with(SET)).chain(contradictions().into_iter().map(with(CONTRADICTION))).collect()
+    let sets = crowds().into_iter().map(|crowd| shape(1, crowd, SET));
+    let contradictions = contradictions().into_iter().map(|crowd| shape(1, crowd, CONTRADICTION));
+    let jobs = crowds().into_iter().chain(self::contradictions()).map(|crowd| shape(4, crowd, JOB));
+    sets.chain(contradictions).chain(jobs).collect()
 }
 
-fn shape((name, span, conditions): Crowd, most_ms: f64) -> Shape {
-    let job = crowd(4, span, &conditions);
-    Shape { name: format!("four members, {name}"), job, starts: vec![], most_ms, most_ratio: None }
+/// So many sets of four members, and a choice of them where there is more than one.
+fn shape(sets: usize, (name, span, conditions): Crowd, most_ms: f64) -> Shape {
+    let mut nodes = Nodes::after(before_nodes());
+    let mut root = add_crowd(&mut nodes, 4, span, &conditions);
+    for _ in 1..sets {
+        let set = add_crowd(&mut nodes, 4, span, &conditions);
+        root = nodes.add(node(3, root, set, 0, 0), &[]);
+    }
+    let name = if sets == 1 { format!("four members, {name}") } else { format!("{sets} sets of four members, {name}") };
+    Shape { name, job: nodes.words, starts: vec![], most_ms, most_ratio: None }
 }
 
-/// A task set of some members, each of which reads from b to e for all b ≤ e ≤ 63 with e ≤ b + span. Formula 0 holds always, 1 never.
+/// A job of one set.
 pub fn crowd(members: usize, span: usize, conditions: &[u32]) -> Vec<u32> {
-    let mut nodes = Nodes::after(vec![head(1, 1, 63), action(0, 1), formula(0, 0, 0), formula(2, 0, 0)]);
-    let members: Vec<usize> = (0..members).map(|_| nodes.window(0, span)).collect();
-    nodes.set(&members, conditions);
+    let mut nodes = Nodes::after(before_nodes());
+    add_crowd(&mut nodes, members, span, conditions);
     nodes.words
+}
+
+/// Formula 0 holds always, 1 never.
+fn before_nodes() -> Vec<u32> {
+    vec![head(1, 1, 63), action(0, 1), formula(0, 0, 0), formula(2, 0, 0)]
+}
+
+/// A task set of some members, each of which reads from b to e for all b ≤ e ≤ 63 with e ≤ b + span.
+fn add_crowd(nodes: &mut Nodes, members: usize, span: usize, conditions: &[u32]) -> usize {
+    let members: Vec<usize> = (0..members).map(|_| nodes.window(0, span)).collect();
+    nodes.set(&members, conditions)
 }
 
 /// Member i does not end at 63.

@@ -20,7 +20,7 @@ pub struct Found {
 pub fn find(job: &[u32], starts: &[u32]) -> Found {
     let job = job::read(job);
     let world = world::world(&job, starts);
-    let mut sets = Sets::new();
+    let mut sets = Sets::default();
     let table = rows::fill(&job, &world, &mut sets);
     let reading = table.has(job.root(), 0, job.last).then(|| {
         let mut writer = Writer { job: &job, world: &world, table: &table, sets: &mut sets, reading: vec![] };

@@ -41,11 +41,13 @@ pub struct Sets {
     pub steps: u64,
 }
 
-impl Sets {
-    pub fn new() -> Sets {
+impl Default for Sets {
+    fn default() -> Sets {
         Sets { tables: Box::new(Tables::new()), steps: 0 }
     }
+}
 
+impl Sets {
     /// By begin: the ends to which the set reads.
     pub fn rows(&mut self, set: &Set) -> [u64; 64] {
         self.tables.fill(set, 0, set.last);
