@@ -3,6 +3,7 @@ pub mod crowds;
 pub mod doors;
 pub mod nests;
 mod nodes;
+pub mod slowest;
 
 use planreader_tests::host;
 
@@ -27,7 +28,7 @@ pub const LOOP: f64 = 20.0;
 pub const DOOR: f64 = 1.0;
 
 pub fn all() -> Vec<Shape> {
-    [doors::shapes(), nests::shapes(), crowds::shapes()].into_iter().flatten().collect()
+    [doors::shapes(), nests::shapes(), crowds::shapes(), slowest::shapes()].into_iter().flatten().collect()
 }
 
 /// The facts of a plan that is lawful.

@@ -139,10 +139,9 @@ impl<'a> Search<'a> {
         range(self.lo, state.begins[state.last]) & !placed.fold(0, |covered, w| covered | cover(w))
     }
 
-    /// A member that is left: one that a condition binds to another if there is such, with the fewest candidates.
+    /// The member that is left with the fewest candidates.
     fn fewest(&self, state: &State) -> usize {
-        let weight = |i: &usize| (self.tables.free[*i], state.candidates[*i].count_ones());
-        each(state.left).min_by_key(weight).expect("a member is left")
+        each(state.left).min_by_key(|&i| state.candidates[i].count_ones()).expect("a member is left")
     }
 
     fn leaf(&mut self, state: &State) {

@@ -12,7 +12,7 @@ pub struct Tables {
     pub own: Rows,
     /// [i][j][y]: the ends of i that conditions 1 and 4 allow where j begins at y.
     pub ends: Pairs,
-    /// [i][j][x]: the begins of j that conditions 0 allow where i begins at x, and from which j has an end.
+    /// [i][j][x]: the begins of j that conditions 0 allow where i begins at x, with which both have an end.
     pub goes: Pairs,
     /// [i][j][e]: the begins of j with which i may end at e or later.
     pub late: Pairs,
@@ -22,8 +22,8 @@ pub struct Tables {
     pub last: [[u64; MOST]; MOST],
     /// [i][j]: whether a condition 1 or 4 is on the end of i and the begin of j.
     pub tied: [[bool; MOST]; MOST],
-    /// [i]: whether no condition is on i and another member.
-    pub free: [bool; MOST],
+    /// [i][j]: whether a condition is on i and j, which differ.
+    pub bound: [[bool; MOST]; MOST],
     /// [i][x]: the ends of i from x or a later begin.
     pub later: Rows,
     /// [i][g]: the begins of i with an end at g or later.
@@ -41,7 +41,7 @@ impl Tables {
             soon: pairs,
             last: [[0; MOST]; MOST],
             tied: [[false; MOST]; MOST],
-            free: [true; MOST],
+            bound: [[false; MOST]; MOST],
             later: rows,
             reach: rows,
         }
@@ -53,15 +53,18 @@ impl Tables {
             self.take(set, condition, a, z);
         }
         self.fill_own(set, a, z);
-        let tied = self.tied_pairs(set.members);
-        for &(i, j) in &tied {
+        let pairs = (0..set.members).flat_map(|i| (0..set.members).map(move |j| (i, j)));
+        let bound: Vec<(usize, usize)> = pairs.filter(|&(i, j)| self.bound[i][j]).collect();
+        for &(i, j) in &bound {
             self.drop_begins_without_end(i, j, a, z);
         }
-        for &(i, j) in &tied {
+        for &(i, j) in &bound {
             self.drop_ends_without_begin(i, j, a, z);
         }
-        for &(i, j) in &tied {
-            self.fill_late_and_soon(i, j, a, z);
+        for &(i, j) in &bound {
+            if self.tied[i][j] {
+                self.fill_late_and_soon(i, j, a, z);
+            }
         }
         for i in 0..set.members {
             self.fill_later_and_reach(i, a, z);
@@ -76,8 +79,8 @@ impl Tables {
 
     fn clear(&mut self, members: usize, a: usize, z: usize) {
         for i in 0..members {
-            self.free[i] = true;
             for j in 0..members {
+                self.bound[i][j] = false;
                 self.tied[i][j] = false;
                 self.ends[i][j][a..=z].fill(u64::MAX);
                 self.goes[i][j][a..=z].fill(u64::MAX);
@@ -96,8 +99,8 @@ impl Tables {
             _ => self.take_between(i, j, !set.holds[formula], m, n, a, z),
         }
         if i != j && form != 2 && form != 3 {
-            self.free[i] = false;
-            self.free[j] = false;
+            self.bound[i][j] = true;
+            self.bound[j][i] = true;
             self.tied[i][j] |= form != 0;
         }
     }
@@ -147,17 +150,15 @@ impl Tables {
         }
     }
 
-    fn tied_pairs(&self, members: usize) -> Vec<(usize, usize)> {
-        let pairs = (0..members).flat_map(|i| (0..members).map(move |j| (i, j)));
-        pairs.filter(|&(i, j)| self.tied[i][j]).collect()
-    }
-
-    /// The begins of i are left out from which it has no end where j begins at y.
+    /// Begins x of i and y of j are left out beside each other where i has no end then.
     fn drop_begins_without_end(&mut self, i: usize, j: usize, a: usize, z: usize) {
         for y in a..=z {
-            let begins = each(self.goes[j][i][y] & range(a, z));
-            let ends = self.ends[i][j][y];
-            self.goes[j][i][y] = begins.filter(|&x| self.own[i][x] & ends != 0).fold(0, |left, x| left | 1 << x);
+            for x in each(self.goes[j][i][y] & range(a, z)) {
+                if self.own[i][x] & self.ends[i][j][y] == 0 {
+                    self.goes[j][i][y] &= !(1 << x);
+                    self.goes[i][j][x] &= !(1 << y);
+                }
+            }
         }
     }
 
