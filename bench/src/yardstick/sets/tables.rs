@@ -8,6 +8,8 @@ type Pairs = [[[u64; 64]; MOST]; MOST];
 
 /// For begins and ends from a to z. Entries of other members and moments are left as they are.
 pub struct Tables {
+    a: usize,
+    z: usize,
     /// [i][x]: the ends of i from x that its own conditions, and some begin of each other member, allow.
     pub own: Rows,
     /// [i][j][y]: the ends of i that conditions 1 and 4 allow where j begins at y.
@@ -20,10 +22,10 @@ pub struct Tables {
     pub soon: Pairs,
     /// [i][j]: the begins of j with which i may end no sooner than j.
     pub last: [[u64; MOST]; MOST],
-    /// [i][j]: whether a condition 1 or 4 is on the end of i and the begin of j.
-    pub tied: [[bool; MOST]; MOST],
     /// [i][j]: whether a condition is on i and j, which differ.
-    pub bound: [[bool; MOST]; MOST],
+    bound: [[bool; MOST]; MOST],
+    /// [i][j]: whether a condition 1 or 4 is on the end of i and the begin of j, which differ.
+    pub tied: [[bool; MOST]; MOST],
     /// [i][x]: the ends of i from x or a later begin.
     pub later: Rows,
     /// [i][g]: the begins of i with an end at g or later.
@@ -32,42 +34,45 @@ pub struct Tables {
 
 impl Tables {
     pub fn new() -> Tables {
-        let (rows, pairs) = ([[0; 64]; MOST], [[[0; 64]; MOST]; MOST]);
+        let (rows, pairs, none) = ([[0; 64]; MOST], [[[0; 64]; MOST]; MOST], [[false; MOST]; MOST]);
         Tables {
+            a: 0,
+            z: 0,
             own: rows,
             ends: pairs,
             goes: pairs,
             late: pairs,
             soon: pairs,
             last: [[0; MOST]; MOST],
-            tied: [[false; MOST]; MOST],
-            bound: [[false; MOST]; MOST],
+            bound: none,
+            tied: none,
             later: rows,
             reach: rows,
         }
     }
 
     pub fn fill(&mut self, set: &Set, a: usize, z: usize) {
-        self.clear(set.members, a, z);
+        (self.a, self.z) = (a, z);
+        self.clear(set.members);
         for condition in set.conditions {
-            self.take(set, condition, a, z);
+            self.take(set, condition);
         }
-        self.fill_own(set, a, z);
+        self.fill_own(set);
         let pairs = (0..set.members).flat_map(|i| (0..set.members).map(move |j| (i, j)));
         let bound: Vec<(usize, usize)> = pairs.filter(|&(i, j)| self.bound[i][j]).collect();
         for &(i, j) in &bound {
-            self.drop_begins_without_end(i, j, a, z);
+            self.drop_begins_without_end(i, j);
         }
         for &(i, j) in &bound {
-            self.drop_ends_without_begin(i, j, a, z);
+            self.drop_ends_without_begin(i, j);
         }
         for &(i, j) in &bound {
             if self.tied[i][j] {
-                self.fill_late_and_soon(i, j, a, z);
+                self.fill_late_and_soon(i, j);
             }
         }
         for i in 0..set.members {
-            self.fill_later_and_reach(i, a, z);
+            self.fill_later_and_reach(i);
         }
     }
 
@@ -77,26 +82,26 @@ impl Tables {
         others.fold(self.own[i][begins[i]], |ends, j| ends & self.ends[i][j][begins[j]])
     }
 
-    fn clear(&mut self, members: usize, a: usize, z: usize) {
+    fn clear(&mut self, members: usize) {
         for i in 0..members {
             for j in 0..members {
                 self.bound[i][j] = false;
                 self.tied[i][j] = false;
-                self.ends[i][j][a..=z].fill(u64::MAX);
-                self.goes[i][j][a..=z].fill(u64::MAX);
+                self.ends[i][j][self.a..=self.z].fill(u64::MAX);
+                self.goes[i][j][self.a..=self.z].fill(u64::MAX);
             }
         }
     }
 
     /// What one condition leaves. Those on one member are kept at [i][i].
-    fn take(&mut self, set: &Set, condition: &Condition, a: usize, z: usize) {
-        let &Condition { form, formula, i, j, m, n } = condition;
+    fn take(&mut self, set: &Set, condition: &Condition) {
+        let &Condition { form, formula, i, j, .. } = condition;
         match form {
-            0 => self.take_begins(i, j, m, n, a, z),
-            1 => (a..=z).for_each(|y| self.ends[i][j][y] &= range_before(y, m, n)),
-            2 => self.take_before_begin(i, !set.holds[formula], m, n, a, z),
-            3 => self.take_after_end(i, !set.holds[formula], m, n, a, z, set.last),
-            _ => self.take_between(i, j, !set.holds[formula], m, n, a, z),
+            0 => self.take_begins(condition),
+            1 => self.take_end_and_begin(condition),
+            2 => self.take_before_begin(condition, !set.holds[formula]),
+            3 => self.take_after_end(condition, !set.holds[formula], set.last),
+            _ => self.take_between(condition, !set.holds[formula]),
         }
         if i != j && form != 2 && form != 3 {
             self.bound[i][j] = true;
@@ -106,16 +111,23 @@ impl Tables {
     }
 
     /// Form 0.
-    fn take_begins(&mut self, i: usize, j: usize, m: usize, n: usize, a: usize, z: usize) {
-        for t in a..=z {
+    fn take_begins(&mut self, &Condition { i, j, m, n, .. }: &Condition) {
+        for t in self.a..=self.z {
             self.goes[i][j][t] &= range(t + m, t + n);
             self.goes[j][i][t] &= range_before(t, m, n);
         }
     }
 
+    /// Form 1.
+    fn take_end_and_begin(&mut self, &Condition { i, j, m, n, .. }: &Condition) {
+        for y in self.a..=self.z {
+            self.ends[i][j][y] &= range_before(y, m, n);
+        }
+    }
+
     /// Form 2.
-    fn take_before_begin(&mut self, i: usize, not_held: u64, m: usize, n: usize, a: usize, z: usize) {
-        for x in a..=z {
+    fn take_before_begin(&mut self, &Condition { i, m, n, .. }: &Condition, not_held: u64) {
+        for x in self.a..=self.z {
             if x < n || range(x - n, x - m) & not_held != 0 {
                 self.goes[i][i][x] = 0;
             }
@@ -123,17 +135,17 @@ impl Tables {
     }
 
     /// Form 3.
-    #[allow(clippy::too_many_arguments)]
-    fn take_after_end(&mut self, i: usize, not_held: u64, m: usize, n: usize, a: usize, z: usize, last: usize) {
+    fn take_after_end(&mut self, &Condition { i, m, n, .. }: &Condition, not_held: u64, last: usize) {
         let met = |&e: &usize| e + n <= last && range(e + m, e + n) & not_held == 0;
-        let ends = (a..=z).filter(met).fold(0, |ends, e| ends | 1 << e);
-        (a..=z).for_each(|x| self.ends[i][i][x] &= ends);
+        let ends = (self.a..=self.z).filter(met).fold(0, |ends, e| ends | 1 << e);
+        for x in self.a..=self.z {
+            self.ends[i][i][x] &= ends;
+        }
     }
 
     /// Form 4: the moments e + M to y - N hold when none of them is at or before the last one up to y - N that does not hold.
-    #[allow(clippy::too_many_arguments)]
-    fn take_between(&mut self, i: usize, j: usize, not_held: u64, m: usize, n: usize, a: usize, z: usize) {
-        for y in a.max(n)..=z {
+    fn take_between(&mut self, &Condition { i, j, m, n, .. }: &Condition, not_held: u64) {
+        for y in self.a.max(n)..=self.z {
             let bad = not_held & upto(y - n);
             if bad != 0 {
                 self.ends[i][j][y] &= from((high(bad) + 1).saturating_sub(m));
@@ -141,19 +153,19 @@ impl Tables {
         }
     }
 
-    fn fill_own(&mut self, set: &Set, a: usize, z: usize) {
+    fn fill_own(&mut self, set: &Set) {
         for i in 0..set.members {
-            for x in a..=z {
+            for x in self.a..=self.z {
                 let begins = has(self.goes[i][i][x], x);
-                self.own[i][x] = if begins { set.rows[i][x] & self.ends[i][i][x] & upto(z) } else { 0 };
+                self.own[i][x] = if begins { set.rows[i][x] & self.ends[i][i][x] & upto(self.z) } else { 0 };
             }
         }
     }
 
     /// Begins x of i and y of j are left out beside each other where i has no end then.
-    fn drop_begins_without_end(&mut self, i: usize, j: usize, a: usize, z: usize) {
-        for y in a..=z {
-            for x in each(self.goes[j][i][y] & range(a, z)) {
+    fn drop_begins_without_end(&mut self, i: usize, j: usize) {
+        for y in self.a..=self.z {
+            for x in each(self.goes[j][i][y] & range(self.a, self.z)) {
                 if self.own[i][x] & self.ends[i][j][y] == 0 {
                     self.goes[j][i][y] &= !(1 << x);
                     self.goes[i][j][x] &= !(1 << y);
@@ -163,9 +175,9 @@ impl Tables {
     }
 
     /// The ends of i from x are left out that no begin of j allows.
-    fn drop_ends_without_begin(&mut self, i: usize, j: usize, a: usize, z: usize) {
-        let begun = (a..=z).filter(|&y| self.own[j][y] != 0).fold(0, |begins, y| begins | 1 << y);
-        for x in a..=z {
+    fn drop_ends_without_begin(&mut self, i: usize, j: usize) {
+        let begun = (self.a..=self.z).filter(|&y| self.own[j][y] != 0).fold(0, |begins, y| begins | 1 << y);
+        for x in self.a..=self.z {
             if self.own[i][x] != 0 {
                 let begins = each(self.goes[i][j][x] & begun);
                 self.own[i][x] &= begins.fold(0, |ends, y| ends | self.ends[i][j][y]);
@@ -173,7 +185,8 @@ impl Tables {
         }
     }
 
-    fn fill_late_and_soon(&mut self, i: usize, j: usize, a: usize, z: usize) {
+    fn fill_late_and_soon(&mut self, i: usize, j: usize) {
+        let (a, z) = (self.a, self.z);
         self.late[i][j][a..=z].fill(0);
         self.soon[i][j][a..=z].fill(0);
         self.last[i][j] = 0;
@@ -191,7 +204,8 @@ impl Tables {
         (a + 1..=z).for_each(|e| self.soon[i][j][e] |= self.soon[i][j][e - 1]);
     }
 
-    fn fill_later_and_reach(&mut self, i: usize, a: usize, z: usize) {
+    fn fill_later_and_reach(&mut self, i: usize) {
+        let (a, z) = (self.a, self.z);
         self.reach[i][a..=z].fill(0);
         let mut later = 0;
         for x in (a..=z).rev() {
