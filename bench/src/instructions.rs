@@ -11,6 +11,9 @@ pub const COUNTED: &str = "counted";
 const TOOL: [&str; 4] =
     ["--tool=callgrind", "--callgrind-out-file=/dev/null", "--collect-atstart=no", "--toggle-collect=counted_find"];
 
+/// Callgrind counts each byte of `rep stosb` as an instruction, so the C library is told to fill and copy by other ones.
+const TUNABLES: &str = "glibc.cpu.x86_rep_stosb_threshold=1000000000:glibc.cpu.x86_rep_movsb_threshold=1000000000";
+
 #[derive(Clone, Copy)]
 pub enum Finder {
     Archive,
@@ -30,7 +33,7 @@ impl Finder {
 pub fn count(shape: &Shape, finder: Finder) -> Result<u64, String> {
     let program = std::env::current_exe().map_err(|error| error.to_string())?;
     let mut valgrind = Command::new("valgrind");
-    valgrind.args(TOOL).arg(program).args([COUNTED, &shape.name, finder.name()]);
+    valgrind.args(TOOL).arg(program).args([COUNTED, &shape.name, finder.name()]).env("GLIBC_TUNABLES", TUNABLES);
     let output = valgrind.output().map_err(|_| "valgrind missing: Debian package valgrind".to_string())?;
     let told = String::from_utf8_lossy(&output.stderr).into_owned();
     let collected = told.lines().find_map(|line| line.split_once("Collected :")).map(|(_, number)| number.trim());
