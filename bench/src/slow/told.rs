@@ -8,14 +8,14 @@ use planreader_tests::host;
 
 pub fn tell(slow: &Slow) {
     let case = slow.plan.case();
-    println!("{} steps", slow.steps);
+    println!("cost {}", slow.cost);
     println!("{}", literal(&slow.plan));
     println!("job {}", hexadecimal(&case.job));
     println!("starts {}", hexadecimal(&case.starts));
     let (plain_ms, plain) = best(3, || yardstick::find(&case.job, &case.starts));
-    println!("yardstick {plain_ms:.1} ms, {} triples", plain.count);
+    println!("yardstick {plain_ms:.1} ms, {} steps, {} triples", plain.steps, plain.count);
     let facts = facts(&case.job, &case.starts);
-    let (ms, found) = best(1, || host::find(&case.job, &case.starts, &facts, &mut [0; 4096]));
+    let (ms, found) = best(3, || host::find(&case.job, &case.starts, &facts, &mut [0; 4096]));
     println!("find {ms:.1} ms, number {}, {} triples\n", found.number, found.count);
 }
 
