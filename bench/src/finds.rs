@@ -29,23 +29,23 @@ fn shape_within_limits(shape: &Shape) -> bool {
 /// Prints the instructions; whether they are within the limits.
 pub fn instructions_within_limits() -> bool {
     println!("find, instructions; yardstick, instructions; ratio; limit");
-    let counted = shapes::all().into_iter().filter_map(|shape| shape.most_ratio.map(|most| (shape, most)));
-    counted.map(|(shape, most)| ratio_within_limit(&shape, most)).fold(true, |all, within| all & within)
-}
-
-fn ratio_within_limit(shape: &Shape, most: f64) -> bool {
-    let counts = instructions::count(shape, Finder::Archive)
-        .and_then(|archive| instructions::count(shape, Finder::Yardstick).map(|plain| (archive, plain)));
-    match counts {
-        Ok((archive, plain)) => {
-            let ratio = archive as f64 / plain as f64;
-            let told = if ratio <= most { "" } else { "  FAILED" };
-            println!("{archive:>12} {plain:>12} {ratio:>6.2} {most:>6.1}  {}{told}", shape.name);
-            ratio <= most
-        }
+    let counted = shapes::all().into_iter().filter(|shape| shape.counted);
+    match counted.map(|shape| ratio_within_limit(&shape)).collect::<Result<Vec<bool>, String>>() {
+        Ok(within) => !within.contains(&false),
         Err(told) => {
             println!("{told}");
             false
         }
     }
+}
+
+fn ratio_within_limit(shape: &Shape) -> Result<bool, String> {
+    let archive = instructions::count(shape, Finder::Archive)?;
+    let plain = instructions::count(shape, Finder::Yardstick)?;
+    let ratio = archive as f64 / plain as f64;
+    let within = shape.most_ratio.is_none_or(|most| ratio <= most);
+    let limit = shape.most_ratio.map_or("-".to_string(), |most| most.to_string());
+    let told = if within { "" } else { "  FAILED" };
+    println!("{archive:>12} {plain:>12} {ratio:>6.2} {limit:>6}  {}{told}", shape.name);
+    Ok(within)
 }

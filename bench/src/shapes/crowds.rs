@@ -21,7 +21,8 @@ fn shape(sets: usize, (name, span, conditions): Crowd, most_ms: f64) -> Shape {
         root = nodes.add(node(3, root, set, 0, 0), &[]);
     }
     let name = if sets == 1 { format!("four members, {name}") } else { format!("{sets} sets of four members, {name}") };
-    Shape { name, job: nodes.words, starts: vec![], most_ms, most_ratio: None }
+    let counted = most_ms == CONTRADICTION;
+    Shape { name, job: nodes.words, starts: vec![], most_ms, counted, most_ratio: None }
 }
 
 /// A job of one set.

@@ -12,6 +12,7 @@ pub fn shapes() -> Vec<Shape> {
         job,
         starts,
         most_ms: DOOR,
+        counted: true,
         most_ratio: Some(RATIO),
     };
     vec![shape("door, sets after the loop", door()), shape("door, sets in the loop", door_of_passes())]

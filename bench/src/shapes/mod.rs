@@ -15,7 +15,9 @@ pub struct Shape {
     pub starts: Vec<u32>,
     /// How long find may take, in milliseconds.
     pub most_ms: f64,
-    /// How many times as many instructions as the yardstick find may take, where they are counted.
+    /// Whether instructions are counted too.
+    pub counted: bool,
+    /// How many times as many of them as the yardstick find may take.
     pub most_ratio: Option<f64>,
 }
 

@@ -12,6 +12,7 @@ pub fn shapes() -> Vec<Shape> {
         job,
         starts,
         most_ms,
+        counted: most_ms == LOOP,
         most_ratio: None,
     };
     // the last member begins before the second, ends by the begin of the first, and not at 63

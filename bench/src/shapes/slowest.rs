@@ -204,5 +204,5 @@ fn shape(number: usize, slow: &Slow) -> Shape {
     let plan = SetPlan { last: 63, sets: vec![set], moments: slow.moments.to_vec(), root: Root::Set };
     let case = plan.case();
     let name = format!("slow set {number}");
-    Shape { name, job: case.job, starts: case.starts, most_ms: SET, most_ratio: None }
+    Shape { name, job: case.job, starts: case.starts, most_ms: SET, ..Shape::default() }
 }
