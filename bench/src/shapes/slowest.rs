@@ -15,7 +15,7 @@ struct Slow {
 
 const ALL: u64 = u64::MAX;
 
-const SLOWEST: [Slow; 8] = [
+const SLOWEST: [Slow; 10] = [
     Slow {
         members: &[
             &[(0x3fffffff, ALL, 0, 63)],
@@ -190,6 +190,65 @@ const SLOWEST: [Slow; 8] = [
             [4, 3, 0, 2, 53, 1],
         ],
         moments: &[0xfffffffffff00000, ALL, 0xfeffffffffffffff, ALL, 0x8000000000000000, 0x7fffffffffffffff],
+    },
+    Slow {
+        members: &[
+            &[
+                (ALL, 0x661a87c822521427, 63, 63),
+                (0xfff66fa7eb4fefde, 0xfffffffffffffffc, 0, 1),
+                (ALL, 0xaaaaaaaaaaaaaaaa, 0, 63),
+            ],
+            &[
+                (ALL, 0x661a87c822521427, 63, 63),
+                (0xfff66fa7eb4fefde, 0xfffffffffffffffc, 0, 1),
+                (ALL, 0xaaaaaaaaaaaaaaaa, 0, 63),
+            ],
+            &[(ALL, ALL, 0, 0), (0xffff000000000000, ALL, 0, 0), (ALL, 0x8000000000000000, 0, 63)],
+            &[(0xaaaaaaaaaaaaaaaa, ALL, 0, 0), (ALL, 0x3fff800, 0, 63)],
+        ],
+        conditions: &[
+            [1, 0, 1, 2, 4, 47],
+            [0, 0, 1, 2, 0, 63],
+            [4, 0, 1, 3, 23, 7],
+            [4, 2, 1, 1, 0, 33],
+            [1, 0, 1, 2, 1, 8],
+            [1, 0, 0, 0, 0, 8],
+            [4, 2, 0, 1, 1, 63],
+        ],
+        moments: &[
+            0x7fffffffffffffff,
+            0x80000000000,
+            0x5555555555555555,
+            0x94810a4780a4aafa,
+            0x1ffffe000000,
+            0x7ffffffffffff,
+        ],
+    },
+    Slow {
+        members: &[
+            &[(0xc2a268692007faa8, 0x8000000000000000, 0, 63), (ALL, 0x8000000000000000, 0, 63), (ALL, ALL, 0, 0)],
+            &[(ALL, ALL, 0, 63)],
+            &[
+                (0xffffffffffff0000, 0xfc195e51bd01693c, 0, 63),
+                (0xfffffffffffffffe, 0x8000000000000000, 0, 63),
+                (ALL, ALL, 0, 63),
+            ],
+            &[
+                (ALL, 0xbe557f00a7bed8eb, 0, 63),
+                (ALL, 0xfffffffffdffffff, 0, 63),
+                (0x6c212b2c009394e, 0x8000000000000000, 0, 63),
+            ],
+        ],
+        conditions: &[
+            [4, 0, 0, 0, 35, 63],
+            [1, 0, 1, 3, 8, 63],
+            [4, 5, 1, 0, 0, 8],
+            [1, 0, 2, 0, 6, 63],
+            [4, 4, 2, 1, 0, 25],
+            [1, 0, 1, 3, 0, 48],
+            [4, 0, 1, 2, 0, 1],
+        ],
+        moments: &[ALL, 0x38b5dd9bde39d390, 0x1000000000, 0x8000, 0x1fff, 0xff00000000000000],
     },
 ];
 
