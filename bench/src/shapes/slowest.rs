@@ -1,4 +1,5 @@
-//! The slowest sets that `slow-sets` found.
+//! The slowest sets that `slow-sets` found: in an hour by steps, of yardsticks with and without parts of the search, and in 25 minutes by
+//! the time of find.
 use super::{Shape, SET};
 use planreader_tests::generate::sets::{Condition, Root, SetDraft, SetPlan, Span};
 
@@ -15,7 +16,7 @@ struct Slow {
 
 const ALL: u64 = u64::MAX;
 
-const SLOWEST: [Slow; 10] = [
+const SLOWEST: [Slow; 11] = [
     Slow {
         members: &[
             &[(0x3fffffff, ALL, 0, 63)],
@@ -249,6 +250,31 @@ const SLOWEST: [Slow; 10] = [
             [4, 0, 1, 2, 0, 1],
         ],
         moments: &[ALL, 0x38b5dd9bde39d390, 0x1000000000, 0x8000, 0x1fff, 0xff00000000000000],
+    },
+    Slow {
+        members: &[
+            &[(ALL, 0xaaaaaaaaaaaaaaaa, 0, 63), (ALL, 0x7fffffffffffffff, 0, 63)],
+            &[
+                (0xaaaaaaaaaaaaaaaa, 0x8000000000000000, 0, 63),
+                (0x7fffffffffffffff, 0x8000000000000000, 0, 63),
+                (ALL, ALL, 0, 0),
+            ],
+            &[
+                (0xaaaaaaaaaaaaaaaa, 0x8000000000000000, 0, 63),
+                (0x7fffffffffffffff, 0x8000000000000000, 0, 63),
+                (ALL, ALL, 0, 0),
+            ],
+            &[(0x3fff, 0x8000000000000000, 0, 63), (0x7fffffffffffffff, ALL, 0, 0), (ALL, 0x7fffffffffffffff, 0, 63)],
+        ],
+        conditions: &[
+            [1, 0, 3, 2, 8, 63],
+            [1, 0, 0, 1, 3, 57],
+            [4, 3, 0, 3, 63, 1],
+            [1, 0, 0, 1, 0, 46],
+            [4, 3, 2, 1, 0, 63],
+            [4, 2, 2, 0, 8, 0],
+        ],
+        moments: &[0xff00000000000000, 0xfffffff000000000, 0x4002528533aa811e, 0x200, 0xfbeaf6fcfddcc963, 0xffffff],
     },
 ];
 
