@@ -79,7 +79,7 @@ class Suite:
         self.tests = [Test("c-host", [host], "planreader")]
         for name, crate in (("job", "theory"), ("plan", "theory"), ("find", "finder")):
             self.tests += [Test(name, [tests[name], *skipped(slow)], crate), Test(name, [tests[name], *slow], crate)]
-        self.tests += [Test("planread", [tests["planread"]], "reader"), Test("bench", [*bench.values()], "planreader")]
+        self.tests += [Test("planread", [tests["planread"]], "reader"), Test("bench", [bench["planreader-bench"]], "planreader")]
 
     # ---- a mutant's library and program
 

@@ -66,12 +66,17 @@ fn find_case(random: &mut Random, case: &FindCase, find: &Find, report: &mut Rep
     judge(&case, &facts, noise, MOST_PLACEMENTS, find, report);
 }
 
-/// One call with the buffer full of noise.
-fn judge(case: &FindCase, facts: &[u32], noise: Vec<u32>, most: usize, find: &Find, report: &mut Report) {
+/// One call with the buffer full of noise. Returns the right number, unless a set has more placements than may be tried.
+pub fn judge(
+    case: &FindCase,
+    facts: &[u32],
+    noise: Vec<u32>,
+    most: usize,
+    find: &Find,
+    report: &mut Report,
+) -> Option<usize> {
     let FindCase { job, starts } = case;
-    let Some(outcome) = calls::find_within(job, starts, facts, noise.len(), most) else {
-        return;
-    };
+    let outcome = calls::find_within(job, starts, facts, noise.len(), most)?;
     let mut buffer = noise.clone();
     let given = find(job, starts, facts, &mut buffer);
     let told = || {
@@ -87,16 +92,19 @@ fn judge(case: &FindCase, facts: &[u32], noise: Vec<u32>, most: usize, find: &Fi
         Outcome::Refused(refusal) => {
             report.tally.add("find", &refusal.number.to_string());
             report.judge((Answer::refused(refusal), true), (given, buffer == noise), &told);
+            Some(refusal.number)
         }
         Outcome::NoReading { world, decision } => {
             find_features::none(&mut report.tally, &world, &decision);
             report.judge((calls::no_reading(&decision), true), (given, buffer == noise), &told);
+            Some(13)
         }
         Outcome::Read { world, decision } => {
             let right = Answer::success(given.length, decision.count());
             let lawful = lawful_buffer(&world, given.length, &buffer, &noise);
             find_features::read(&mut report.tally, &world, &decision, &buffer[..given.length.min(buffer.len())]);
             report.judge((right, Ok(())), (given, lawful), &told);
+            Some(0)
         }
     }
 }

@@ -7,3 +7,5 @@ pub mod job;
 pub mod plan;
 pub mod plan_features;
 pub mod report;
+pub mod set_placements;
+pub mod sets;

@@ -10,3 +10,5 @@ pub mod noise;
 pub mod plan_damage;
 pub mod plans;
 pub mod programs;
+pub mod set_draws;
+pub mod sets;

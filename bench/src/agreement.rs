@@ -1,0 +1,49 @@
+//! Find and the yardstick on generated sets: the same numbers and counts, and readings that the independent checker accepts.
+use crate::shapes::{facts, SET};
+use crate::slow::draws;
+use crate::time::best;
+use crate::yardstick;
+use planreader_tests::checker::calls::read_plan;
+use planreader_tests::checker::readings::literal::{is_reading, Triple};
+use planreader_tests::checker::readings::world::World;
+use planreader_tests::generate::finds::FindCase;
+use planreader_tests::generate::set_draws;
+use planreader_tests::host;
+use planreader_tests::random::Random;
+
+const SEED: u64 = 0x5e3a_1071_000a;
+
+/// How many plans of few moments are compared, and of wide sets with n = 63.
+const SMALL: usize = 4_000;
+const WIDE: usize = 300;
+
+/// Prints how many agree, and the slowest find; whether all agree within the limit of a set.
+pub fn within_limits() -> bool {
+    let mut random = Random::new(SEED);
+    let small = (0..SMALL).filter(|_| agrees(&set_draws::any(&mut random).case()).is_some()).count();
+    let wide: Vec<f64> = (0..WIDE).filter_map(|_| agrees(&draws::plan(&mut random).case())).collect();
+    let slowest = wide.iter().copied().fold(0.0, f64::max);
+    let within = small == SMALL && wide.len() == WIDE && slowest <= SET;
+    let told = if within { "" } else { "  FAILED" };
+    println!(
+        "generated sets on which find and the yardstick agree: {small} of {SMALL}, wide ones {} of {WIDE}",
+        wide.len()
+    );
+    println!("{slowest:>9.3} {SET:>6}  the slowest find on a wide one, ms{told}");
+    within
+}
+
+/// The time of find, where both give the same number and count, and readings.
+fn agrees(case: &FindCase) -> Option<f64> {
+    let FindCase { job, starts } = case;
+    let facts = facts(job, starts);
+    let mut buffer = vec![0; 4096];
+    let (ms, found) = best(1, || host::find(job, starts, &facts, &mut buffer));
+    let plain = yardstick::find(job, starts);
+    let reading = (found.number == 0).then(|| &buffer[..found.length]);
+    let same = reading.is_some() == plain.reading.is_some() && found.count == plain.count;
+    let world = World::new(read_plan(job, starts).unwrap_or_else(|_| panic!("a lawful plan")));
+    let root = Triple { node: world.root(), begin: 0, end: world.last() };
+    let readings = [reading, plain.reading.as_deref()].into_iter().flatten();
+    (same && readings.into_iter().all(|list| is_reading(&world, list, root))).then_some(ms)
+}

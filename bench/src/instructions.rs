@@ -1,0 +1,64 @@
+//! Instructions of one call, counted by callgrind: this program runs itself under valgrind with a shape and a finder.
+use crate::shapes::{self, facts, Shape};
+use crate::yardstick;
+use planreader_tests::host;
+use std::hint::black_box;
+use std::process::Command;
+
+/// The first argument of a run that is counted.
+pub const COUNTED: &str = "counted";
+
+const TOOL: [&str; 4] =
+    ["--tool=callgrind", "--callgrind-out-file=/dev/null", "--collect-atstart=no", "--toggle-collect=counted_find"];
+
+/// Callgrind counts each byte of `rep stosb` as an instruction, so the C library is told to fill and copy by other ones.
+const TUNABLES: &str = "glibc.cpu.x86_rep_stosb_threshold=1000000000:glibc.cpu.x86_rep_movsb_threshold=1000000000";
+
+#[derive(Clone, Copy)]
+pub enum Finder {
+    Archive,
+    Yardstick,
+}
+
+impl Finder {
+    fn name(self) -> &'static str {
+        match self {
+            Finder::Archive => "archive",
+            Finder::Yardstick => "yardstick",
+        }
+    }
+}
+
+/// How many instructions a finder takes on a shape.
+pub fn count(shape: &Shape, finder: Finder) -> Result<u64, String> {
+    let program = std::env::current_exe().map_err(|error| error.to_string())?;
+    let mut valgrind = Command::new("valgrind");
+    valgrind.args(TOOL).arg(program).args([COUNTED, &shape.name, finder.name()]).env("GLIBC_TUNABLES", TUNABLES);
+    let output = valgrind.output().map_err(|_| "valgrind missing: Debian package valgrind".to_string())?;
+    let told = String::from_utf8_lossy(&output.stderr).into_owned();
+    let collected = told.lines().find_map(|line| line.split_once("Collected :")).map(|(_, number)| number.trim());
+    match collected.and_then(|number| number.parse().ok()) {
+        Some(number) if output.status.success() && number > 0 => Ok(number),
+        _ => Err(format!("callgrind counted nothing:\n{told}")),
+    }
+}
+
+/// The run that is counted.
+pub fn run(name: &str, finder: &str) {
+    let shape = shapes::all().into_iter().find(|shape| shape.name == name).expect("a shape of that name");
+    let facts = facts(&shape.job, &shape.starts);
+    let mut buffer = vec![0; 4096];
+    let archive = finder == Finder::Archive.name();
+    black_box(counted_find(archive, &shape.job, &shape.starts, &facts, &mut buffer));
+}
+
+/// The only function whose instructions count, with what it calls. Callgrind knows it by this name.
+#[no_mangle]
+#[inline(never)]
+fn counted_find(archive: bool, job: &[u32], starts: &[u32], facts: &[u32], buffer: &mut [u32]) -> usize {
+    if archive {
+        host::find(job, starts, facts, buffer).count
+    } else {
+        yardstick::find(job, starts).count
+    }
+}

@@ -1,0 +1,11 @@
+//! Times of the archive's calls, and a plain finder beside which find is held.
+pub mod agreement;
+pub mod calls;
+pub mod finds;
+pub mod instructions;
+pub mod masks;
+pub mod plain;
+pub mod shapes;
+pub mod slow;
+pub mod time;
+pub mod yardstick;

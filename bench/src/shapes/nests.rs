@@ -1,0 +1,65 @@
+//! Sets within sets, and sets within a loop.
+use super::nodes::Nodes;
+use super::{Shape, LOOP, NEST};
+use planreader_tests::words::{action, condition, formula, head, initially, law, node, start};
+
+/// With eight sets of four there is room for so many windows, which are three nodes each.
+const WINDOWS: usize = 15;
+
+pub fn shapes() -> Vec<Shape> {
+    let shape = |name: &str, (job, starts): (Vec<u32>, Vec<u32>), most_ms: f64| Shape {
+        name: name.to_string(),
+        job,
+        starts,
+        most_ms,
+        counted: most_ms == LOOP,
+        most_ratio: None,
+    };
+    // the last member begins before the second, ends by the begin of the first, and not at 63
+    let bound = [condition(0, 0, 3, 1, 0, 63), condition(3, 0, 3, 0, 1, 1), condition(1, 0, 3, 0, 0, 63)];
+    let later = [condition(0, 0, 2, 1, 1, 63), condition(0, 0, 1, 3, 1, 63)];
+    vec![
+        shape("eight nested sets of four, acts", nested(0, 0, &[]), NEST),
+        shape("eight nested sets of four, ends up to b + 1, begins in order", nested(1, 1, &later), NEST),
+        shape("eight nested sets of four, ends up to b + 3", nested(2, 3, &[]), NEST),
+        shape("eight nested sets of four, all ends, the last member by the first", nested(2, 63, &bound), NEST),
+        shape("62 sets of one with 8 conditions", sets_of_one(false), LOOP),
+        shape("62 sets of one with 8 conditions, in a loop", sets_of_one(true), LOOP),
+    ]
+}
+
+/// Eight sets of four, each within the next. The other members are windows with ends up to b + span, so many a set while there is room,
+/// and acts that start at every moment.
+fn nested(windows: usize, span: usize, conditions: &[u32]) -> (Vec<u32>, Vec<u32>) {
+    let mut nodes = Nodes::after(vec![head(1, 1, 63), action(0, 1), formula(0, 0, 0)]);
+    let mut room = WINDOWS;
+    let mut inside = nodes.act(0);
+    for _ in 0..8 {
+        let wide = windows.min(room);
+        room -= wide;
+        let mut members = vec![inside];
+        members.extend((0..wide).map(|_| nodes.window(0, span)));
+        members.extend((wide..3).map(|_| nodes.act(0)));
+        inside = nodes.set(&members, conditions);
+    }
+    (nodes.words, (0..63).map(|u| start(u, 0)).collect())
+}
+
+/// An act within 62 sets, each of which has eight conditions that it meets; alone, or as the body of a loop of 63 passes.
+fn sets_of_one(looped: bool) -> (Vec<u32>, Vec<u32>) {
+    let formulas = [formula(1, 0, 0), formula(0, 0, 0)];
+    let actions = [action(0, 1), action(1, 1), law(3, 0)];
+    let mut nodes = Nodes::after([&[head(1, 2, 63), initially(0, true)], &actions[..], &formulas].concat());
+    let mut conditions = vec![condition(0, 0, 0, 0, 0, 63), condition(2, 1, 0, 0, 0, 0), condition(3, 1, 0, 0, 0, 0)];
+    conditions.extend((0..5).map(|c| condition(4, 1, 0, 0, c, c)));
+    let mut inside = nodes.act(0);
+    for _ in 0..62 {
+        inside = nodes.set(&[inside], &conditions);
+    }
+    if looped {
+        nodes.add(node(5, 0, inside, 0, 0), &[]);
+    }
+    let mut starts: Vec<u32> = (0..63).map(|u| start(u, 0)).collect();
+    starts.push(start(62, 1));
+    (nodes.words, starts)
+}
