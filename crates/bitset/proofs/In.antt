@@ -1,15 +1,15 @@
 -- The members of the sets that the operations make, by the relation `In`. Assumes nothing.
 use Prim.Native.Nat.{ℕ, zero, suc, _+_, _^_, _≤_, _<_, max}
-use mathlib.Core.Path.{_≡_, refl, sym, _∙_}
-use mathlib.Core.Bool.{true, _&&_, _||_}
+use mathlib.Core.Path.{_≡_, refl, sym, ap, _∙_}
+use mathlib.Core.Bool.{true, not, _&&_, _||_}
 use mathlib.Core.Logic.{_↔_, _⊎_, inl, inr, ⊎-elim}
 use mathlib.Core.List.{List}
 use lib.Dec.{leb, ltb, eqb}
 use lib.ListN.{getD, replicate}
-use borrow.Author.Tests.{leb-true, ltb-true, eqb-true, le-leb, lt-ltb, eq-eqb}
+use borrow.Author.Tests.{leb-true, ltb-true, eqb-true, le-leb, lt-ltb, eq-eqb, ne-eqb}
 use Rattle.bitset.specs.Code.Members.{has, IsSetOf, In, Max, InSomeRow}
 use Rattle.words.proofs.Choices.{both-true}
-use Rattle.bitset.proofs.Bools.{not-both, or-cases, or-left, or-right, both}
+use Rattle.bitset.proofs.Bools.{not-both, either, or-cases, or-left, or-right, both}
 use Rattle.bitset.proofs.Digits.{has-zero, has-below}
 
 pub in-union : {r x y : ℕ} → IsSetOf r (λ k. has x k || has y k) → (e : ℕ) → In r e ↔ (In x e ⊎ In y e)
@@ -36,11 +36,29 @@ in-between {a = a} {b = b} h e = (
   λ t. record { yes = h e ∙ both (le-leb a e (t .0)) (le-leb e b (t .1)) },
 )
 
+pub in-upto : {r a : ℕ} → IsSetOf r (λ k. leb k a) → (e : ℕ) → In r e ↔ (e ≤ a)
+in-upto {a = a} h e = (λ t. leb-true e a (sym (h e) ∙ t .yes), λ l. record { yes = h e ∙ le-leb e a l })
+
+pub in-minus : {r x y : ℕ} → IsSetOf r (λ k. has x k && not (has y k)) → (e : ℕ) → In r e ↔ (In x e × (In y e → ⊥))
+in-minus {x = x} {y = y} h e = (
+  λ t. let u = both-true (has x e) (not (has y e)) (sym (h e) ∙ t .yes) in (record { yes = u .0 }, λ v. not-both (u .1) (ap not (v .yes))),
+  λ t. record { yes = h e ∙ both (t .0 .yes) (⊎-elim (λ v. absurd (t .1 (record { yes = v }))) (λ v. ap not v) (either (has y e))) },
+)
+
+pub in-without : {r x a : ℕ} → IsSetOf r (λ k. has x k && not (eqb k a)) → (e : ℕ) → In r e ↔ (In x e × (e ≡ a → ⊥))
+in-without {x = x} {a = a} h e = (
+  λ t. let u = both-true (has x e) (not (eqb e a)) (sym (h e) ∙ t .yes) in (record { yes = u .0 }, λ q. not-both (u .1) (ap not (eq-eqb e a q))),
+  λ t. record { yes = h e ∙ both (t .0 .yes) (ap not (ne-eqb e a (t .1))) },
+)
+
 pub in-single : {r a : ℕ} → IsSetOf r (λ k. eqb k a) → (e : ℕ) → In r e ↔ (e ≡ a)
 in-single {a = a} h e = (λ t. eqb-true e a (sym (h e) ∙ t .yes), λ q. record { yes = h e ∙ eq-eqb e a q })
 
 pub in-below : {x e : ℕ} → x < 2 ^ 64 → In x e → e < 64
 in-below {x} {e} f t = has-below 64 x e f (t .yes)
+
+pub in-zero : {A : Type 0} {x e : ℕ} → x ≡ 0 → In x e → A
+in-zero {e = e} q t = not-both (t .yes) (ap (λ (x : ℕ). has x e) q ∙ has-zero e)
 
 -- the empty mask is that of what nothing is
 pub in-none : {P : ℕ → Type 0} → ((e : ℕ) → P e → ⊥) → (e : ℕ) → In 0 e ↔ P e

@@ -75,3 +75,16 @@ pairs rows = sumBelow (λ i. popCount (getD rows i 0)) (length rows)
 -- membership as a record: antt then reads the set and the number off a statement
 pub record In (x e : ℕ) : Type 0 where
   pub yes : has x e ≡ true
+
+-- some member of x is at most k, which a word may have
+pub record FromSome (x k : ℕ) : Type 0 where
+  pub member : ℕ
+  pub in-x : In x member
+  pub from : member ≤ k
+  pub below : k < 64
+
+-- some member of x is at least k
+pub record UptoSome (x k : ℕ) : Type 0 where
+  pub member : ℕ
+  pub in-x : In x member
+  pub upto : k ≤ member
