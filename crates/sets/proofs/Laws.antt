@@ -39,19 +39,3 @@ gain-yes d = gain-as (λ c. (d, c), λ c. c .1)
 
 pub gain-no : {B C D : Type 0} → (D → ⊥) → B ↔ (B ⊎ (D × C))
 gain-no n = no-gain (λ c. n (c .0))
-
-pub from-none : {r e : ℕ} {C : Type 0} → In r e ↔ (In 0 e ⊎ C) → In r e ↔ C
-from-none {e = e} h = (λ t. ⊎-elim (λ z. not-both (z .yes) (has-zero e)) (λ c. c) (h .0 t), λ c. h .1 (inr c))
-
--- a loop's gain over what it started with
-pub gain-turn : {r x e : ℕ} {A B C D : Type 0} → In r e ↔ (In x e ⊎ C) → D ↔ (B ⊎ C) → In x e ↔ (A ⊎ B) → In r e ↔ (A ⊎ D)
-gain-turn new turn old = (
-  λ t. ⊎-elim (λ p. ⊎-elim inl (λ b. inr (turn .1 (inl b))) (old .0 p)) (λ c. inr (turn .1 (inr c))) (new .0 t),
-  ⊎-elim (λ a. new .1 (inl (old .1 (inl a)))) (λ d. ⊎-elim (λ b. new .1 (inl (old .1 (inr b)))) (λ c. new .1 (inr c)) (turn .0 d)),
-)
-
-pub gain-step : {A B C D E : Type 0} → A ↔ (B ⊎ C) → D ↔ (E ⊎ C) → B ↔ E → A ↔ D
-gain-step new turn old = (
-  λ a. turn .1 (⊎-elim (λ p. inl (old .0 p)) inr (new .0 a)),
-  λ d. new .1 (⊎-elim (λ q. inl (old .1 q)) inr (turn .0 d)),
-)

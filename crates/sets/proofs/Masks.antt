@@ -1,148 +1,174 @@
--- The masks of the members' ends as the conditions narrow them, and as one member more is placed. Assumes nothing.
-use Prim.Native.Nat.{ℕ, _+_, _*_, _/_, _%_, _≤_, _<_}
-use mathlib.Core.Path.{_≡_, refl, sym, subst}
-use mathlib.Core.Logic.{_↔_, inl, inr, by-cases}
+-- The moments at which a formula fails, the masks that the conditions allow, and the masks of the members' ends as the conditions narrow them. Assumes nothing.
+use Prim.Native.Nat.{ℕ, zero, suc, _+_, _*_, _^_, _≤_, _<_}
+use mathlib.Core.Path.{_≡_, refl, sym, subst, _∙_}
+use mathlib.Core.Bool.{true, _&&_, _||_}
+use mathlib.Core.Logic.{_↔_, _⊎_, inl, inr, ⊎-elim, by-cases}
 use mathlib.Core.List.{List}
 use native.Mathlib.Decide.{decLt, ℕ-discrete}
 use native.Mathlib.Omega.{arith}
-use borrow.Author.Count.{below-more}
+use lib.Dec.{eqb, leb}
 use lib.ListN.{length, getD, set}
 use lib.Seq.{getD-set-same, getD-set-other}
-use Rattle.bitset.specs.Code.Members.{In}
-use Rattle.model.specs.Forms.{ConditionForm, BeginAfterBegin, BeginAfterEnd, HoldsBefore, HoldsAfter, HoldsBetween, ReservedCondition, conditionForm}
-use Rattle.words.specs.Fields.{conditionFormula, conditionI, conditionJ, conditionM, conditionN}
-use Rattle.sets.specs.Set.{TaskSet, MetAs, MetAt}
-use Rattle.sets.specs.Code.Set.{member}
+use lib.Count.{trailingZeros}
+use borrow.Author.Count.{below-more}
+use borrow.Author.Tests.{eqb-true, eq-eqb}
+use Rattle.bitset.specs.Code.Members.{has, IsSetOf, In, Highest}
+use Rattle.bitset.proofs.Bools.{not-both}
+use Rattle.bitset.proofs.Ends.{lowest}
+use Rattle.bitset.proofs.In.{in-zero, in-both, in-between, in-single, in-more}
+use Rattle.words.specs.Fields.{form, holds, conditionFormula, conditionI, conditionJ, conditionM, conditionN}
+use Rattle.model.specs.Forms.{ConditionForm, BeginAfterBegin, BeginAfterEnd, HoldsBefore, HoldsAfter, HoldsBetween, ReservedCondition, conditionNumber}
+use Rattle.sets.specs.Set.{MetAt}
 use Rattle.sets.specs.Code.Rows.{entryAt}
-use Rattle.sets.specs.Code.Search.{asked, Later, Allowed, EndOf, EndSets, MaskAsks, Narrowed}
+use Rattle.sets.specs.Code.Search.{asked, partner, Allowed, MetByMask}
+use Rattle.sets.specs.Code.Masks.{Failing, MaskOf, Narrowed}
+use Rattle.sets.proofs.Laws.{gain, gain-yes, gain-no}
+
+-- a word without members is 0
+empty-zero : {r : ℕ} → r < 2 ^ 64 → ((t : ℕ) → In r t → ⊥) → r ≡ 0
+empty-zero {r} f n = by-cases (ℕ-discrete r 0) (λ q. q) (λ q. absurd (n (trailingZeros 64 r) (record { yes = lowest r (omega arith) f .member })))
+
+-- ---- one moment more
+
+-- the moments from a to before y + 1 at which M holds: those before y, and y
+turn : (M : ℕ → Type 0) (a y z : ℕ) → a ≤ y → ((a ≤ z) × (z < y + 1) × M z) ↔ (((a ≤ z) × (z < y) × M z) ⊎ (M y × (z ≡ y)))
+turn M a y z l = (
+  λ h. let g = h .1 in by-cases (decLt z y) (λ k. inl (h .0, k, h .2)) (λ k. let q : z ≡ y = omega arith in inr (subst M q (h .2), q)),
+  ⊎-elim (λ h. let g = h .1 in (h .0, omega arith, h .2)) (λ h. let q = h .1 in (omega arith, omega arith, subst M (sym q) (h .0))),
+)
+
+-- mask has the moments from a to before y at which M holds
+abbrev pub Before : (ℕ → Type 0) → ℕ → ℕ → ℕ → Type 0
+Before M a y mask = (v : ℕ) → In mask v ↔ ((a ≤ v) × (v < y) × M v)
+
+module _ (M : ℕ → Type 0) {a y mask : ℕ} (l : a ≤ y) (old : Before M a y mask) where
+  pub turn-yes : {new : ℕ} (one : ℕ) → M y → IsSetOf one (λ k. eqb k y) → IsSetOf new (λ k. has mask k || has one k) → Before M a (y + 1) new
+  turn-yes one m s u = in-more (λ v. gain-yes m (gain one u (in-single s v))) (λ v. turn M a y v l) old
+
+  pub turn-no : (M y → ⊥) → Before M a (y + 1) mask
+  turn-no n = in-more (λ v. gain-no n) (λ v. turn M a y v l) old
+
+-- ---- where a formula fails
+
+module _ (value : ℕ → ℕ → ℕ) (k : ℕ) {n fails : ℕ} (f : Failing value k n fails) where
+  pub held : (t : ℕ) → t ≤ n → (In fails t → ⊥) → value k t ≡ holds
+  held t l g = by-cases (ℕ-discrete (value k t) holds) (λ q. q) (λ q. absurd (g (f t .1 (l, q))))
+
+  -- it holds through lo..hi where the mask has no moment of these
+  pub through : {r : ℕ} (lo hi : ℕ) → r < 2 ^ 64 → hi ≤ n → ((t : ℕ) → In r t ↔ (In fails t × ((lo ≤ t) × (t ≤ hi))))
+      → (eqb r 0 ≡ true) ↔ ((t : ℕ) → lo ≤ t → t ≤ hi → value k t ≡ holds)
+  through {r} lo hi b l is = (
+    λ z t g h. held t (omega arith) (λ u. in-zero (eqb-true r 0 z) (is t .1 (u, (g, h)))),
+    λ h. eq-eqb r 0 (empty-zero b (λ t u. let o = is t .0 u in f t .0 (o .0) .1 (h t (o .1 .0) (o .1 .1)))),
+  )
+
+  -- it holds from a moment on up to hi where the highest moment of the mask up to hi is before that
+  pub until : {g hi : ℕ} → hi ≤ n → Highest fails hi g → (lo : ℕ) → (g < lo) ↔ ((t : ℕ) → lo ≤ t → t ≤ hi → value k t ≡ holds)
+  until {g} {hi} l h lo = (
+    λ b t m u. held t (omega arith) (λ i. not-both (i .yes) (h .last t (omega arith) u)),
+    λ m. by-cases (decLt g lo) (λ b. b) (λ b. absurd (f g .0 (record { yes = h .member }) .1 (m g (omega arith) (h .upto)))),
+  )
+
+-- ---- a mask cut to a..z
+
+pub cut : {r p a z : ℕ} (q : ℕ) {P : ℕ → Type 0} → IsSetOf r (λ k. has p k && has q k) → IsSetOf q (λ k. leb a k && leb k z)
+    → ((y : ℕ) → y ≤ z → In p y ↔ P y) → (y : ℕ) → In r y ↔ ((a ≤ y) × (y ≤ z) × P y)
+cut q h b p y = (
+  λ t. let o = in-both h y .0 t in let w = in-between b y .0 (o .1) in (w .0, w .1, p y (w .1) .0 (o .0)),
+  λ o. in-both h y .1 (p y (o .1) .1 (o .2), in-between b y .1 (o .0, o .1)),
+)
+
+-- ---- the mask of a condition word
+
+-- in the words of the condition word w
+pub mask-met : (value : ℕ → ℕ → ℕ) (n w a z x : ℕ) {f k M N r : ℕ} → f ≡ form w → k ≡ conditionFormula w → M ≡ conditionM w → N ≡ conditionN w
+    → MaskOf (conditionNumber f) value n k M N a z x r → (y : ℕ) → In r y ↔ ((a ≤ y) × (y ≤ z) × MetAt value n w y y x)
+mask-met value n w a z x qf qk qm qn h y = rw (qf, qk, qm, qn) at (h y)
+
+-- the mask of one begin more, at base + x
+pub begin-more : (allow : List ℕ) (base a x v : ℕ) (P : ℕ → ℕ → Type 0) → base + x < length allow → ((y : ℕ) → In v y ↔ P x y)
+    → ((u y : ℕ) → a ≤ u → u < x → In (getD allow (base + u) 0) y ↔ P u y)
+    → (u y : ℕ) → a ≤ u → u < x + 1 → In (getD (set allow (base + x) v) (base + u) 0) y ↔ P u y
+begin-more allow base a x v P l new old u y g h = by-cases (decLt u x)
+    (λ b. rw (getD-set-other allow (base + x) (base + u) v 0 (omega arith)) (old u y g b))
+    (λ b. let q : u ≡ x = omega arith in rw (q, getD-set-same allow (base + x) v 0 l) (new y))
+
+-- the masks of one condition more
+pub allowed-more : {value : ℕ → ℕ → ℕ} {cs old new : List ℕ} {n lo hi : ℕ} (c : ℕ) → hi < 64 → Allowed value cs n lo hi c old
+    → ((x y : ℕ) → lo ≤ x → x ≤ hi → In (getD new (c * 64 + x) 0) y ↔ ((lo ≤ y) × (y ≤ hi) × MetAt value n (getD cs c 0) y y x))
+    → ((p : ℕ) → p < c * 64 → getD new p 0 ≡ getD old p 0) → Allowed value cs n lo hi (c + 1) new
+allowed-more c l old masks same = record {
+  mask = λ d x y g a z. by-cases (decLt d c)
+      (λ b. rw (same (d * 64 + x) (omega arith)) (old .mask d x y b a z))
+      (λ b. let q : d ≡ c = omega arith in rw q (masks x y a z));
+}
 
 -- ---- one condition more
 
--- one more that holds anyway
-with-more : {A B : Type 0} (P : ℕ → Type 0) (c : ℕ) → P c → A ↔ (B × ((d : ℕ) → d < c → P d)) → A ↔ (B × ((d : ℕ) → d < c + 1 → P d))
-with-more P c p h = (λ a. let o = h .0 a in (o .0, below-more P c (o .1) p), λ o. h .1 (o .0, λ d l. o .1 d (omega arith)))
+-- whatever form is neither 0 nor 2 asks the end
+pub end-asked : (f x e : ℕ) → (f ≡ 0 → ⊥) → (f ≡ 2 → ⊥) → asked (conditionNumber f) x e ≡ e
+end-asked zero x e g h = absurd (g refl)
+end-asked (suc zero) x e g h = refl
+end-asked (suc (suc zero)) x e g h = absurd (h refl)
+end-asked (suc (suc (suc zero))) x e g h = refl
+end-asked (suc (suc (suc (suc zero)))) x e g h = refl
+end-asked (suc (suc (suc (suc (suc f))))) x e g h = refl
 
-module _ {cs allow begins old new : List ℕ} {k c : ℕ} where
-  -- a condition whose later member is another
-  pub narrow-skip : (Later (conditionI (getD cs c 0)) (conditionJ (getD cs c 0)) k → ⊥) → Narrowed cs allow k begins old c new
-      → Narrowed cs allow k begins old (c + 1) new
-  narrow-skip n h = record { mask = λ i e. with-more (MaskAsks cs allow k begins i e) c (λ z l. absurd (n l)) (h .mask i e) }
+pub partner-less : (f : ConditionForm) {i j m : ℕ} → i < m → j < m → partner f i j < m
+partner-less BeginAfterBegin g h = h
+partner-less BeginAfterEnd g h = h
+partner-less HoldsBefore g h = g
+partner-less HoldsAfter g h = g
+partner-less HoldsBetween g h = h
+partner-less ReservedCondition g h = h
 
-  module _ (m v : ℕ) (long : length new ≡ 4) (named : conditionI (getD cs c 0) < 4) (small : (i e : ℕ) → In (entryAt old i) e → e < 64)
-      (later : Later (conditionI (getD cs c 0)) (conditionJ (getD cs c 0)) k)
-      (is : (e : ℕ) → e < 64 → let w = getD cs c 0 in
-      In m e ↔ In (getD allow (c * 64 + entryAt begins (conditionJ w)) 0) (asked (conditionForm w) (entryAt begins (conditionI w)) e))
-      (both : (e : ℕ) → In v e ↔ (In (entryAt new (conditionI (getD cs c 0))) e × In m e)) where
-    pub narrow-more : Narrowed cs allow k begins old c new → Narrowed cs allow k begins old (c + 1) (set new (conditionI (getD cs c 0)) v)
-    narrow-more h = record {
-      mask = λ i e. by-cases (ℕ-discrete i (conditionI (getD cs c 0)))
-          (λ q. rw (q, getD-set-same new (conditionI (getD cs c 0)) v 0 (omega arith)) (here e))
-          (λ q. rw (getD-set-other new (conditionI (getD cs c 0)) i v 0 q) (with-more (MaskAsks cs allow k begins i e) c (λ z. absurd (q (sym z))) (h .mask i e)));
-    }
-      where
-        -- the member that the condition is on
-        here : (e : ℕ) → let f = conditionI (getD cs c 0) in In v e ↔ (In (entryAt old f) e × ((d : ℕ) → d < c + 1 → MaskAsks cs allow k begins f e d))
-        here e = let f = conditionI (getD cs c 0) in (
-          λ t.
-              let p = both e .0 t in
-              let o = h .mask f e .0 (p .0) in
-              (o .0, below-more (MaskAsks cs allow k begins f e) c (o .1) (λ z l. is e (small f e (o .0)) .0 (p .1))),
-          λ o. both e .1 (h .mask f e .1 (o .0, λ d l. o .1 d (omega arith)), is e (small f e (o .0)) .1 (o .1 c (omega arith) refl later)),
-        )
+-- a mask of the ends that condition c allows, in the words of the condition
+pub met-mask : (cs allow begins : List ℕ) (c : ℕ) {f i j p m e : ℕ} → f ≡ form (getD cs c 0) → i ≡ conditionI (getD cs c 0) → j ≡ conditionJ (getD cs c 0)
+    → p ≡ partner (conditionNumber f) i j → In m e ↔ In (getD allow (c * 64 + entryAt begins p) 0) (asked (conditionNumber f) (entryAt begins i) e)
+    → In m e ↔ MetByMask cs allow (entryAt begins) c e
+met-mask cs allow begins c qf qi qj qp h = rw (qp, qf, qi, qj) at h
 
--- ---- one member more
+-- what condition d asks of member i, ended at e
+abbrev MaskAsks : List ℕ → List ℕ → List ℕ → ℕ → ℕ → ℕ → Type 0
+MaskAsks cs allow begins i e d = conditionI (getD cs d 0) ≡ i → MetByMask cs allow (entryAt begins) d e
 
--- what a condition asks of the begin or the end, whichever it asks, it asks of both
-asked-as : (f : ConditionForm) (value : ℕ → ℕ → ℕ) (n k M N x e y : ℕ) → MetAs f value n k M N (asked f x e) (asked f x e) y ↔ MetAs f value n k M N x e y
-asked-as BeginAfterBegin value n k M N x e y = (λ h. h, λ h. h)
-asked-as BeginAfterEnd value n k M N x e y = (λ h. h, λ h. h)
-asked-as HoldsBefore value n k M N x e y = (λ h. h, λ h. h)
-asked-as HoldsAfter value n k M N x e y = (λ h. h, λ h. h)
-asked-as HoldsBetween value n k M N x e y = (λ h. h, λ h. h)
-asked-as ReservedCondition value n k M N x e y = (λ h. h, λ h. h)
-
-pub asked-at : (value : ℕ → ℕ → ℕ) (n w x e y : ℕ) → MetAt value n w (asked (conditionForm w) x e) (asked (conditionForm w) x e) y ↔ MetAt value n w x e y
-asked-at value n w = asked-as (conditionForm w) value n (conditionFormula w) (conditionM w) (conditionN w)
-
-pub asked-le : (f : ConditionForm) {x e n : ℕ} → x ≤ n → e ≤ n → asked f x e ≤ n
-asked-le BeginAfterBegin g h = g
-asked-le BeginAfterEnd g h = h
-asked-le HoldsBefore g h = g
-asked-le HoldsAfter g h = h
-asked-le HoldsBetween g h = h
-asked-le ReservedCondition g h = h
-
--- the mask of condition c where its member j begins at x
-pub allowed-at : {value : ℕ → ℕ → ℕ} {cs allow : List ℕ} {n : ℕ} → Allowed value cs n (length cs * 64) allow → (c x y : ℕ) → c < length cs → x < 64
-    → In (getD allow (c * 64 + x) 0) y ↔ ((y ≤ n) × MetAt value n (getD cs c 0) y y x)
-allowed-at h c x y l g =
-    let d : (c * 64 + x) / 64 ≡ c = omega arith in
-    let m : (c * 64 + x) % 64 ≡ x = omega arith in
-    rw (d, m) at (h .mask (c * 64 + x) (omega arith) y)
-
--- fewer members, fewer conditions
-pub fewer : {s : TaskSet} {R : ℕ → ℕ → ℕ → Type 0} {bs : ℕ → ℕ} {j k i e : ℕ} → j ≤ k → EndOf s R bs k i e → EndOf s R bs j i e
-fewer g h = record { reads = h .reads; onward = h .onward; within = h .within; met = λ c l f z. h .met c l f (omega arith) }
-
-module _ {s : TaskSet} {R : ℕ → ℕ → ℕ → Type 0} {allow begins r : List ℕ} {k : ℕ} (ends : List ℕ) (m : ℕ) (small : s .last < 64)
-    (allowed : Allowed (s .value) (s .conditions) (s .last) (length (s .conditions) * 64) allow) (moments : (i : ℕ) → entryAt begins i ≤ s .last)
-    (long : k < length ends) (own : (e : ℕ) → In m e ↔ (R (member s k) (entryAt begins k) e × (entryAt begins k ≤ e) × (e ≤ s .last)))
-    (sets : EndSets s R (entryAt begins) k (entryAt ends)) (narrowed : Narrowed (s .conditions) allow k begins (set ends k m) (length (s .conditions)) r) where
-  pub extend : EndSets s R (entryAt begins) (k + 1) (entryAt r)
-  extend = record { mask = λ i e l. (forth i e l, back i e l) }
+module _ {cs allow begins old new : List ℕ} {c : ℕ} (i m v : ℕ) (on : i ≡ conditionI (getD cs c 0)) (long : length new ≡ 4) (named : i < 4)
+    (small : (i e : ℕ) → In (entryAt old i) e → e < 64) (is : (e : ℕ) → e < 64 → In m e ↔ MetByMask cs allow (entryAt begins) c e)
+    (both : (e : ℕ) → In v e ↔ (In (entryAt new i) e × In m e)) where
+  pub narrow-more : Narrowed cs allow begins old c new → Narrowed cs allow begins old (c + 1) (set new i v)
+  narrow-more h = record {
+    mask = λ j e. by-cases (ℕ-discrete j i)
+        (λ q. rw (q, getD-set-same new i v 0 (omega arith)) (here e))
+        (λ q. rw (getD-set-other new i j v 0 q) (other j e q));
+  }
     where
-      -- the masks before the new conditions
-      before : (i e : ℕ) → i < k + 1 → In (entryAt (set ends k m) i) e → EndOf s R (entryAt begins) 0 i e
-      before i e l t = by-cases (decLt i k)
-          (λ g. fewer (omega arith) (sets .mask i e g .0 (rw (getD-set-other ends k i m 0 (omega arith)) at t)))
-          (λ g.
-          let q : i ≡ k = omega arith in
-          let o = own e .0 (rw (q, getD-set-same ends k m 0 long) at t) in
-          rw q (record { reads = o .0; onward = o .1; within = o .2; met = λ c l f z. absurd (omega arith) }))
-
-      after : (i e : ℕ) → i < k + 1 → EndOf s R (entryAt begins) (k + 1) i e → In (entryAt (set ends k m) i) e
-      after i e l h = by-cases (decLt i k)
-          (λ g. rw (getD-set-other ends k i m 0 (omega arith)) (sets .mask i e g .1 (fewer (omega arith) h)))
-          (λ g.
-          let q : i ≡ k = omega arith in
-          let o = subst (λ (j : ℕ). EndOf s R (entryAt begins) (k + 1) j e) q h in
-          rw (q, getD-set-same ends k m 0 long) (own e .1 (o .reads, o .onward, o .within)))
-
-      forth : (i e : ℕ) → i < k + 1 → In (entryAt r i) e → EndOf s R (entryAt begins) (k + 1) i e
-      forth i e l t =
-          let o = narrowed .mask i e .0 t in
-          let p = before i e l (o .0) in
-          record {
-            reads = p .reads;
-            onward = p .onward;
-            within = p .within;
-            met = λ c g f z.
-                let w = getD (s .conditions) c 0 in
-                let y = entryAt begins (conditionJ w) in
-                let b = moments (conditionJ w) in
-                let new : Later (conditionI w) (conditionJ w) k → MetAt (s .value) (s .last) w (entryAt begins i) e y
-                = λ n. asked-at (s .value) (s .last) w (entryAt begins i) e y .0 (allowed-at allowed c y (asked (conditionForm w) (entryAt begins i) e) g (omega arith) .0 (o .1 c g f n) .1) in
-                by-cases (decLt i k)
-                (λ h. by-cases (decLt (conditionJ w) k)
-                (λ j. sets .mask i e h .0 (rw (getD-set-other ends k i m 0 (omega arith)) at (o .0)) .met c g f j)
-                (λ j. new (record { first = omega arith; second = omega arith; one = inr (omega arith) })))
-                (λ h. new (record { first = omega arith; second = omega arith; one = inl (omega arith) }));
-          }
-
-      back : (i e : ℕ) → i < k + 1 → EndOf s R (entryAt begins) (k + 1) i e → In (entryAt r i) e
-      back i e l h = narrowed .mask i e .1 (
-        after i e l h,
-        λ c g f n.
-            let w = getD (s .conditions) c 0 in
-            let y = entryAt begins (conditionJ w) in
-            let b = moments (conditionJ w) in
-            let z = n .second in
-            allowed-at allowed c y (asked (conditionForm w) (entryAt begins i) e) g (omega arith) .1 (asked-le (conditionForm w) (moments i) (h .within), asked-at (s .value) (s .last) w (entryAt begins i) e y .1 (h .met c g f (omega arith))),
+      -- the member that the condition is on
+      here : (e : ℕ) → In v e ↔ (In (entryAt old i) e × ((d : ℕ) → d < c + 1 → MaskAsks cs allow begins i e d))
+      here e = (
+        λ t.
+            let p = both e .0 t in
+            let o = h .mask i e .0 (p .0) in
+            (o .0, below-more (MaskAsks cs allow begins i e) c (o .1) (λ z. is e (small i e (o .0)) .0 (p .1))),
+        λ o. both e .1 (h .mask i e .1 (o .0, λ d l. o .1 d (omega arith)), is e (small i e (o .0)) .1 (o .1 c (omega arith) (sym on))),
       )
 
--- a store of a mask of moments leaves masks of moments
-pub small-set : (ends : List ℕ) (k m : ℕ) → k < length ends → ((e : ℕ) → In m e → e < 64) → ((i e : ℕ) → In (entryAt ends i) e → e < 64)
-    → (i e : ℕ) → In (entryAt (set ends k m) i) e → e < 64
-small-set ends k m l g h i e t = by-cases (ℕ-discrete i k)
-    (λ q. g e (rw (q, getD-set-same ends k m 0 l) at t))
-    (λ q. h i e (rw (getD-set-other ends k i m 0 q) at t))
+      other : (j e : ℕ) → (j ≡ i → ⊥) → In (entryAt new j) e ↔ (In (entryAt old j) e × ((d : ℕ) → d < c + 1 → MaskAsks cs allow begins j e d))
+      other j e q = (
+        λ t. let o = h .mask j e .0 t in (o .0, below-more (MaskAsks cs allow begins j e) c (o .1) (λ z. absurd (q (sym (on ∙ z))))),
+        λ o. h .mask j e .1 (o .0, λ d l. o .1 d (omega arith)),
+      )
+
+-- ---- stores into an array of masks
+
+module _ (r : List ℕ) (i v : ℕ) (l : i < length r) where
+  -- one entry more is as f has it
+  pub each-set : (f : ℕ → ℕ) → v ≡ f i → ((j : ℕ) → j < i → entryAt r j ≡ f j) → (j : ℕ) → j < i + 1 → entryAt (set r i v) j ≡ f j
+  each-set f q h j g = by-cases (decLt j i)
+      (λ b. getD-set-other r i j v 0 (omega arith) ∙ h j b)
+      (λ b. let e : j ≡ i = omega arith in rw (e, getD-set-same r i v 0 l) q)
+
+  -- masks of moments stay such
+  pub small-set : ((e : ℕ) → In v e → e < 64) → ((j e : ℕ) → In (entryAt r j) e → e < 64) → (j e : ℕ) → In (entryAt (set r i v) j) e → e < 64
+  small-set g h j e t = by-cases (ℕ-discrete j i)
+      (λ q. g e (rw (q, getD-set-same r i v 0 l) at t))
+      (λ q. h j e (rw (getD-set-other r i j v 0 q) at t))

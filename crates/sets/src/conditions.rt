@@ -1,112 +1,201 @@
-// Conditions: where each is met, as masks of moments, and the masks of the members' ends that they leave.
+// Conditions: the moments that each allows, as masks, and the ends that they leave to members whose begins are fixed.
 ghost use mathlib.Core.Path.{_≡_};
 ghost use mathlib.Core.Bool.{true};
 ghost use mathlib.Core.Logic.{_↔_};
 ghost use Prim.Native.Nat.{ℕ, _+_, _*_, _<_, _≤_};
-ghost use lib.ListN.{length};
+ghost use lib.ListN.{length, getD};
 ghost use Rattle.bitset.specs.Code.Members.{has, In};
-ghost use Rattle.words.specs.Fields.{holds};
-ghost use Rattle.model.specs.Forms.{conditionNumber};
+ghost use Rattle.words.specs.Fields.{conditionI, conditionJ};
+ghost use Rattle.model.specs.Forms.{conditionNumber, HoldsBefore, HoldsAfter, HoldsBetween};
 ghost use Rattle.sets.specs.Set.{MetAs, MetAt};
 ghost use Rattle.model.specs.Code.Arrays.{valueIn};
-ghost use Rattle.sets.specs.Code.Search.{asked, Later, Allowed, Narrowable, Narrowed, SomeBegin, Allows, Possible};
+ghost use Rattle.sets.specs.Code.Rows.{entryAt};
+ghost use Rattle.sets.specs.Code.Search.{asked, partner, Allowed, EndAt, pairAt};
+ghost use Rattle.sets.specs.Code.Masks.{Failing, MaskOf, Narrowable, Narrowed};
 use words::MOMENTS;
 
-// Whether formula k holds at each moment t from `from` on with t + off ≤ upto.
-fn holds_through(values: &[u8; 4096], k: usize, from: usize, off: usize, upto: usize) -> bool
-    requires { ⌜ (k < 64) × (upto < 64) × (off < 64) × (from < 128) ⌝ }
-    ensures { λ r. ⌜ (r ≡ true) ↔ ((t : ℕ) → from ≤ t → t + off ≤ upto → valueIn (now (values .entry)) k t ≡ holds) ⌝ }
+// The moments up to n at which formula k does not hold.
+fn failing(values: &[u8; 4096], k: usize, n: u32) -> u64
+    requires { ⌜ (k < 64) × (n < 64) ⌝ }
+    ensures { λ r. ⌜ Failing (valueIn (now (values .entry))) k n r ⌝ }
 {
-    let mut t = from;
-    while t + off <= upto {
-        if values[k * MOMENTS + t] != 2 {
-            return false;
+    let mut mask = 0;
+    let mut t = 0;
+    while t <= n {
+        if values[k * MOMENTS + t as usize] != words::HOLDS {
+            mask = bitset::union(mask, bitset::single(t));
         }
         t += 1;
     }
-    true
+    mask
 }
 
-fn ordered(a: usize, b: usize, c: usize) -> bool
-    ensures { λ r. ⌜ (r ≡ true) ↔ ((a ≤ b) × (b ≤ c)) ⌝ }
+// Whether the formula that fails at these moments holds through y - last to y - first.
+fn holds_before(fails: u64, first: u32, last: u32, y: u32) -> bool
+    requires { ⌜ (first < 64) × (last < 64) × (y < 64) ⌝ }
+    ensures { λ r. ⌜ ((value : ℕ → ℕ → ℕ) (k n x : ℕ) → y ≤ n → Failing value k n fails → (r ≡ true) ↔ MetAs HoldsBefore value n k first last y y x) ⌝ }
 {
-    if a <= b { b <= c } else { false }
-}
-
-// Whether a condition of this form, on formula k with M and N, is met where member i begins or ends at y, whichever it asks, and member j
-// begins at x.
-fn met_as(
-    values: &[u8; 4096],
-    form: u32,
-    k: usize,
-    first: usize,
-    last: usize,
-    y: usize,
-    x: usize,
-    n: usize,
-) -> bool
-    requires { ⌜ (k < 64) × (first < 64) × (last < 64) × (y ≤ n) × (x < 64) × (n < 64) ⌝ }
-    ensures { λ r. ⌜ (r ≡ true) ↔ MetAs (conditionNumber form) (valueIn (now (values .entry))) n k first last y y x ⌝ }
-{
-    match form {
-        0 => ordered(y + first, x, y + last),
-        1 => ordered(y + first, x, y + last),
-        2 => {
-            if last <= y {
-                holds_through(values, k, y - last, first, y)
-            } else {
-                false
-            }
-        }
-        3 => {
-            if y + last <= n {
-                holds_through(values, k, y + first, 0, y + last)
-            } else {
-                false
-            }
-        }
-        4 => holds_through(values, k, y + first, last, x),
-        _ => false,
+    if y < last {
+        return false;
     }
+    if y < first {
+        return true;
+    }
+    bitset::inter(fails, bitset::between(y - last, y - first)) == 0
 }
 
-// The same of the condition word w.
-fn met(values: &[u8; 4096], w: u32, y: usize, x: usize, n: usize) -> bool
-    requires { ⌜ (y ≤ n) × (x < 64) × (n < 64) ⌝ }
-    ensures { λ r. ⌜ (r ≡ true) ↔ MetAt (valueIn (now (values .entry))) n w y y x ⌝ }
+// Whether it holds through y + first to y + last, which is at most n.
+fn holds_after(fails: u64, first: u32, last: u32, y: u32, n: u32) -> bool
+    requires { ⌜ (first < 64) × (last < 64) × (y < 64) × (n < 64) ⌝ }
+    ensures { λ r. ⌜ ((value : ℕ → ℕ → ℕ) (k x : ℕ) → Failing value k n fails → (r ≡ true) ↔ MetAs HoldsAfter value n k first last y y x) ⌝ }
 {
-    let form = words::form_of(w);
-    let k = words::condition_formula(w);
-    let first = words::condition_m(w);
-    let last = words::condition_n(w);
-    met_as(values, form, k, first, last, y, x, n)
+    if n < y + last {
+        return false;
+    }
+    if last < first {
+        return true;
+    }
+    bitset::inter(fails, bitset::between(y + first, y + last)) == 0
 }
 
-// The moments y at which condition w is met, where member j begins at x.
-fn allowed(values: &[u8; 4096], w: u32, x: usize, n: usize) -> u64
-    requires { ⌜ (x < 64) × (n < 64) ⌝ }
-    ensures { λ r. ⌜ ((y : ℕ) → In r y ↔ ((y ≤ n) × MetAt (valueIn (now (values .entry))) n w y y x)) ⌝ }
+// The moments of a..z at which a condition of form 2, or else 3, is met.
+fn own_moments(form: u32, fails: u64, first: u32, last: u32, a: u32, z: u32, n: u32) -> u64
+    requires { ⌜ (first < 64) × (last < 64) × (a ≤ z) × (z ≤ n) × (n < 64) ⌝ }
+    ensures { λ r. ⌜ ((form ≡ 2) → (value : ℕ → ℕ → ℕ) (k x : ℕ) → Failing value k n fails → MaskOf HoldsBefore value n k first last a z x r) × ((form ≡ 3) → (value : ℕ → ℕ → ℕ) (k x : ℕ) → Failing value k n fails → MaskOf HoldsAfter value n k first last a z x r) ⌝ }
 {
     let mut mask = 0;
-    let mut y = 0;
-    while y <= n {
-        if met(values, w, y, x, n) {
-            mask = bitset::union(mask, bitset::single(y as u32));
+    let mut y = a;
+    while y <= z {
+        let met = if form == 2 {
+            holds_before(fails, first, last, y)
+        } else {
+            holds_after(fails, first, last, y, n)
+        };
+        if met {
+            mask = bitset::union(mask, bitset::single(y));
         }
         y += 1;
     }
     mask
 }
 
-// These masks for each condition and each begin of its member j.
-pub fn fill_allowed(values: &[u8; 4096], conds: &[u32], n: usize, allow: &mut [u64])
-    requires { ⌜ (n < 64) × (length (now conds) * 64 ≤ length (now allow)) ⌝ }
-    ensures { λ _. ⌜ Allowed (valueIn (now (values .entry))) (now (conds .entry)) n (length (now (conds .entry)) * 64) (now (allow .exit)) ⌝ }
+// The same, and none for another form, whose mask depends on the begin of member j.
+fn own_mask(form: u32, fails: u64, first: u32, last: u32, a: u32, z: u32, n: u32) -> u64
+    requires { ⌜ (first < 64) × (last < 64) × (a ≤ z) × (z ≤ n) × (n < 64) ⌝ }
+    ensures { λ r. ⌜ ((form ≡ 2) → (value : ℕ → ℕ → ℕ) (k x : ℕ) → Failing value k n fails → MaskOf HoldsBefore value n k first last a z x r) × ((form ≡ 3) → (value : ℕ → ℕ → ℕ) (k x : ℕ) → Failing value k n fails → MaskOf HoldsAfter value n k first last a z x r) ⌝ }
+{
+    if form < 2 {
+        return 0;
+    }
+    if 3 < form {
+        return 0;
+    }
+    own_moments(form, fails, first, last, a, z, n)
+}
+
+// The moments from x - last to x - first.
+fn window(first: u32, last: u32, x: u32) -> u64
+    requires { ⌜ (first < 64) × (last < 64) × (x < 64) ⌝ }
+    ensures { λ r. ⌜ ((y : ℕ) → In r y ↔ ((y + first ≤ x) × (x ≤ y + last))) ⌝ }
+{
+    if x < first {
+        return 0;
+    }
+    if x < last {
+        return bitset::upto(x - first);
+    }
+    bitset::between(x - last, x - first)
+}
+
+// The moments y up to n from which the formula holds through y + first to x - last.
+fn holds_until(fails: u64, first: u32, last: u32, x: u32, n: u32) -> u64
+    requires { ⌜ (first < 64) × (last < 64) × (x ≤ n) × (n < 64) ⌝ }
+    ensures { λ r. ⌜ ((value : ℕ → ℕ → ℕ) (k y : ℕ) → Failing value k n fails → In r y ↔ ((y ≤ n) × MetAs HoldsBetween value n k first last y y x)) ⌝ }
+{
+    if x < last {
+        return bitset::upto(n);
+    }
+    match bitset::highest_upto(fails, x - last) {
+        bitset::Member::At(g) => {
+            if g < first {
+                bitset::upto(n)
+            } else {
+                bitset::minus(bitset::upto(n), bitset::upto(g - first))
+            }
+        }
+        bitset::Member::Nothing => bitset::upto(n),
+    }
+}
+
+// The mask of a condition where its member j begins at x; `own` is that of a condition that asks nothing of j.
+fn mask_at(
+    form: u32,
+    fails: u64,
+    own: u64,
+    first: u32,
+    last: u32,
+    x: u32,
+    a: u32,
+    z: u32,
+    n: u32,
+) -> u64
+    requires { ⌜ (first < 64) × (last < 64) × (a ≤ x) × (x ≤ z) × (z ≤ n) × (n < 64) ⌝ }
+    ensures { λ r. ⌜ ((value : ℕ → ℕ → ℕ) (k : ℕ) → Failing value k n fails → ((form ≡ 2) → MaskOf HoldsBefore value n k first last a z x own) → ((form ≡ 3) → MaskOf HoldsAfter value n k first last a z x own) → MaskOf (conditionNumber form) value n k first last a z x r) ⌝ }
+{
+    match form {
+        0 => bitset::inter(window(first, last, x), bitset::between(a, z)),
+        1 => bitset::inter(window(first, last, x), bitset::between(a, z)),
+        2 => own,
+        3 => own,
+        4 => bitset::inter(holds_until(fails, first, last, x, n), bitset::between(a, z)),
+        _ => 0,
+    }
+}
+
+// The masks of condition w, number c, for each begin in a..z.
+fn fill_masks(values: &[u8; 4096], w: u32, c: usize, a: u32, z: u32, n: u32, allow: &mut [u64; 512])
+    requires { ⌜ (c < 8) × (a ≤ z) × (z ≤ n) × (n < 64) × (length (now allow) ≡ 512) ⌝ }
+    ensures { λ _. ⌜ ((x y : ℕ) → a ≤ x → x ≤ z → In (getD (now (allow .exit)) (c * 64 + x) 0) y ↔ ((a ≤ y) × (y ≤ z) × MetAt (valueIn (now (values .entry))) n w y y x)) × ((p : ℕ) → p < c * 64 → getD (now (allow .exit)) p 0 ≡ getD (now (allow .entry)) p 0) × (length (now (allow .exit)) ≡ 512) ⌝ }
+{
+    let form = words::form_of(w);
+    let first = words::condition_m(w) as u32;
+    let last = words::condition_n(w) as u32;
+    let fails = failing(values, words::condition_formula(w), n);
+    let own = own_mask(form, fails, first, last, a, z, n);
+    let mut x = a;
+    while x <= z {
+        allow[c * MOMENTS + x as usize] = mask_at(form, fails, own, first, last, x, a, z, n);
+        x += 1;
+    }
+}
+
+// The masks of all conditions.
+pub fn fill_allowed(
+    values: &[u8; 4096],
+    conds: &[u32],
+    a: u32,
+    z: u32,
+    n: u32,
+    allow: &mut [u64; 512],
+)
+    requires { ⌜ (length (now conds) ≤ 8) × (a ≤ z) × (z ≤ n) × (n < 64) × (length (now allow) ≡ 512) ⌝ }
+    ensures { λ _. ⌜ Allowed (valueIn (now (values .entry))) (now (conds .entry)) n a z (length (now (conds .entry))) (now (allow .exit)) ⌝ }
 {
     let mut c = 0;
-    while c < conds.len() * MOMENTS {
-        allow[c] = allowed(values, conds[c / 64], c % 64, n);
+    while c < conds.len() {
+        fill_masks(values, conds[c], c, a, z, n, allow);
         c += 1;
+    }
+}
+
+// The member whose begin a condition's mask is taken at: j, or i where the condition asks nothing of j.
+pub fn partner(form: u32, i: usize, j: usize) -> usize
+    ensures { λ r. ⌜ r ≡ partner (conditionNumber form) i j ⌝ }
+{
+    match form {
+        2 => i,
+        3 => i,
+        _ => j,
     }
 }
 
@@ -117,95 +206,69 @@ fn whole(all: bool) -> u64
     if all { bitset::from(0) } else { 0 }
 }
 
-// The ends of member i, begun at x, that a condition of this form allows, where mask a is that of `allowed`.
-fn end_mask(form: u32, a: u64, x: u32) -> u64
+// The ends of member i, begun at x, that a condition of this form allows, where mask m has the moments that it allows.
+fn end_mask(form: u32, m: u64, x: u32) -> u64
     requires { ⌜ x < 64 ⌝ }
-    ensures { λ r. ⌜ ((e : ℕ) → e < 64 → In r e ↔ In a (asked (conditionNumber form) x e)) ⌝ }
+    ensures { λ r. ⌜ ((e : ℕ) → e < 64 → In r e ↔ In m (asked (conditionNumber form) x e)) ⌝ }
 {
     match form {
-        0 => whole(bitset::has(a, x)),
-        2 => whole(bitset::has(a, x)),
-        _ => a,
+        0 => whole(bitset::has(m, x)),
+        2 => whole(bitset::has(m, x)),
+        _ => m,
     }
 }
 
-// Whether k is the later of members i and j.
-fn is_later(i: usize, j: usize, k: usize) -> bool
-    ensures { λ r. ⌜ (r ≡ true) ↔ Later i j k ⌝ }
+// The ends of member i, begun at x, in its own row.
+fn own_at(ends: &[u64; 1024], i: usize, x: u32) -> u64
+    requires { ⌜ (i < 4) × (x < 64) ⌝ }
+    ensures { λ r. ⌜ r ≡ pairAt (now (ends .entry)) i i x ⌝ }
 {
-    if i == k {
-        return j <= k;
-    }
-    if j == k {
-        return i <= k;
-    }
-    false
+    ends[(i * 4 + i) * MOMENTS + x as usize]
 }
 
-// The masks with the conditions whose later member is k.
-pub fn narrow(conds: &[u32], allow: &[u64], k: usize, begins: [u32; 4], ends: [u64; 4]) -> [u64; 4]
-    requires { ⌜ Narrowable (now conds) (now allow) begins ends ⌝ }
-    ensures { λ r. ⌜ Narrowed (now (conds .entry)) (now (allow .entry)) k begins ends (length (now (conds .entry))) r ⌝ }
+// The ends of each member in its own row.
+fn own_ends(ends: &[u64; 1024], count: usize, begins: [u32; 4]) -> [u64; 4]
+    requires { ⌜ (count ≤ 4) × ((i : ℕ) → entryAt begins i < 64) ⌝ }
+    ensures { λ r. ⌜ ((i : ℕ) → i < count → entryAt r i ≡ pairAt (now (ends .entry)) i i (entryAt begins i)) × ((i e : ℕ) → In (entryAt r i) e → e < 64) ⌝ }
+{
+    let mut r = [0u64; 4];
+    let mut i = 0;
+    while i < count {
+        r[i] = own_at(ends, i, begins[i]);
+        i += 1;
+    }
+    r
+}
+
+// The masks with all conditions.
+fn narrow(conds: &[u32], allow: &[u64; 512], begins: [u32; 4], ends: [u64; 4]) -> [u64; 4]
+    requires { ⌜ Narrowable (now conds) begins ends ⌝ }
+    ensures { λ r. ⌜ Narrowed (now (conds .entry)) (now (allow .entry)) begins ends (length (now (conds .entry))) r ⌝ }
 {
     let mut next = ends;
     let mut c = 0;
     while c < conds.len() {
         let w = conds[c];
+        let form = words::form_of(w);
         let i = words::condition_i(w);
-        let j = words::condition_j(w);
-        if is_later(i, j, k) {
-            let mask = end_mask(
-                words::form_of(w),
-                allow[c * MOMENTS + begins[j] as usize],
-                begins[i],
-            );
-            next[i] = bitset::inter(next[i], mask);
-        }
+        let j = partner(form, i, words::condition_j(w));
+        let mask = end_mask(form, allow[c * MOMENTS + begins[j] as usize], begins[i]);
+        next[i] = bitset::inter(next[i], mask);
         c += 1;
     }
     next
 }
 
-// The ends of member i, begun at x, that condition c allows for some begin of its member j.
-fn some_allowed(allow: &[u64], c: usize, form: u32, x: u32, n: u32) -> u64
-    requires { ⌜ (c * 64 + 64 ≤ length (now allow)) × (x < 64) × (n < 64) ⌝ }
-    ensures { λ r. ⌜ ((e : ℕ) → e < 64 → In r e ↔ SomeBegin (now (allow .entry)) (n + 1) (conditionNumber form) c x e) ⌝ }
+// The ends that each member may have with these begins.
+pub fn ends_at(
+    conds: &[u32],
+    allow: &[u64; 512],
+    ends: &[u64; 1024],
+    count: usize,
+    begins: [u32; 4],
+) -> [u64; 4]
+    requires { ⌜ (count ≤ 4) × (length (now conds) ≤ 8) × ((c : ℕ) → c < length (now conds) → (conditionI (getD (now conds) c 0) < 4) × (conditionJ (getD (now conds) c 0) < 4)) × ((i : ℕ) → entryAt begins i < 64) ⌝ }
+    ensures { λ r. ⌜ ((i e : ℕ) → i < count → In (entryAt r i) e ↔ EndAt (now (conds .entry)) (now (allow .entry)) (now (ends .entry)) (entryAt begins) i e) ⌝ }
 {
-    let mut r = 0;
-    let mut y = 0;
-    while y <= n {
-        r = bitset::union(r, end_mask(form, allow[c * MOMENTS + y as usize], x));
-        y += 1;
-    }
-    r
-}
-
-// The same of the condition word w, where member j may be i, and then begins at x.
-fn own_mask(allow: &[u64], w: u32, c: usize, i: usize, x: u32, n: u32) -> u64
-    requires { ⌜ (c * 64 + 64 ≤ length (now allow)) × (x < 64) × (n < 64) ⌝ }
-    ensures { λ r. ⌜ ((e : ℕ) → e < 64 → In r e ↔ Allows (now (allow .entry)) n w c i x e) ⌝ }
-{
-    let form = words::form_of(w);
-    let some = some_allowed(allow, c, form, x, n);
-    if words::condition_j(w) == i {
-        return bitset::inter(some, end_mask(form, allow[c * MOMENTS + x as usize], x));
-    }
-    some
-}
-
-// The ends of member i, begun at x, that each condition on it allows for some begin.
-pub fn own_row(conds: &[u32], allow: &[u64], i: usize, x: u32, ends: u64, n: u32) -> u64
-    requires { ⌜ (length (now conds) * 64 ≤ length (now allow)) × (x < 64) × (n < 64) ⌝ }
-    ensures { λ r. ⌜ ((e : ℕ) → In r e ↔ (In ends e × Possible (now (conds .entry)) (now (allow .entry)) n (length (now (conds .entry))) i x e)) ⌝ }
-{
-    let mut r = ends;
-    let mut c = 0;
-    while c < conds.len() {
-        let w = conds[c];
-        if words::condition_i(w) == i {
-            r = bitset::inter(r, own_mask(allow, w, c, i, x, n));
-        }
-        c += 1;
-    }
-    r
+    narrow(conds, allow, begins, own_ends(ends, count, begins))
 }

@@ -1,10 +1,10 @@
 // The ends of a set whose members' begins are fixed, by the masks of the members' ends, with no search.
 ghost use mathlib.Core.Path.{_≡_};
 ghost use mathlib.Core.Bool.{true};
-ghost use mathlib.Core.Logic.{_↔_, _⊎_};
+ghost use mathlib.Core.Logic.{_↔_};
 ghost use Prim.Native.Nat.{ℕ, _<_, _≤_};
 ghost use Rattle.bitset.specs.Code.Members.{In};
-ghost use Rattle.sets.specs.Code.Cover.{Some, Needed, Coverable, Spans, Attained};
+ghost use Rattle.sets.specs.Code.Cover.{Some, Needed, Coverable};
 ghost use Rattle.sets.specs.Code.Rows.{entryAt};
 
 // The ends of the members that begin before x.
@@ -67,7 +67,7 @@ fn begins_at(begins: [u32; 4], count: usize, b: u32) -> bool
 }
 
 // The ends e of which some choice of ends covers b..e.
-fn covered(begins: [u32; 4], ends: [u64; 4], count: usize, b: u32) -> u64
+pub fn covered(begins: [u32; 4], ends: [u64; 4], count: usize, b: u32) -> u64
     requires { ⌜ (count ≤ 4) × ((i : ℕ) → entryAt begins i < 64) × ((i e : ℕ) → i < count → In (entryAt ends i) e → e < 64) ⌝ }
     ensures { λ r. ⌜ ((e : ℕ) → In r e ↔ Coverable count (entryAt begins) (entryAt ends) b e) ⌝ }
 {
@@ -87,77 +87,4 @@ fn covered(begins: [u32; 4], ends: [u64; 4], count: usize, b: u32) -> u64
         i += 1;
     }
     bitset::inter(ends_before(begins, ends, count, 64), bitset::from(least))
-}
-
-// `found` and these ends, which are not worked out where no mask has an end that is not found yet.
-pub fn with_covered(begins: [u32; 4], ends: [u64; 4], count: usize, b: u32, found: u64) -> u64
-    requires { ⌜ (count ≤ 4) × ((i : ℕ) → entryAt begins i < 64) × ((i e : ℕ) → i < count → In (entryAt ends i) e → e < 64) ⌝ }
-    ensures { λ r. ⌜ ((e : ℕ) → In r e ↔ (In found e ⊎ Coverable count (entryAt begins) (entryAt ends) b e)) ⌝ }
-{
-    if bitset::union(found, ends_before(begins, ends, count, 64)) == found {
-        return found;
-    }
-    bitset::union(found, covered(begins, ends, count, b))
-}
-
-// The greatest ends of the choices of an end out of each mask.
-pub fn attained(ends: [u64; 4], count: usize) -> u64
-    requires { ⌜ (count ≤ 4) × ((i e : ℕ) → In (entryAt ends i) e → e < 64) ⌝ }
-    ensures { λ r. ⌜ ((e : ℕ) → In r e ↔ Attained count (entryAt ends) e) ⌝ }
-{
-    let mut all = 0;
-    let mut least = 0;
-    let mut i = 0;
-    while i < count {
-        let own = least_from(ends[i], 0);
-        if 63 < own {
-            return 0;
-        }
-        if least < own {
-            least = own;
-        }
-        all = bitset::union(all, ends[i]);
-        i += 1;
-    }
-    bitset::inter(all, bitset::from(least))
-}
-
-// The moments from x to the greatest of these ends.
-pub fn span(x: u32, ends: u64) -> u64
-    requires { ⌜ x < 64 ⌝ }
-    ensures { λ r. ⌜ ((t : ℕ) → In r t ↔ Spans x ends t) ⌝ }
-{
-    match bitset::highest_upto(ends, 63) {
-        bitset::Member::At(m) => bitset::between(x, m),
-        bitset::Member::Nothing => 0,
-    }
-}
-
-// The moments that one of the first count members can cover.
-pub fn spans(begins: [u32; 4], ends: [u64; 4], count: usize) -> u64
-    requires { ⌜ (count ≤ 4) × ((i : ℕ) → entryAt begins i < 64) ⌝ }
-    ensures { λ r. ⌜ ((t : ℕ) → In r t ↔ Some count (λ i. Spans (entryAt begins i) (entryAt ends i) t)) ⌝ }
-{
-    let mut r = 0;
-    let mut i = 0;
-    while i < count {
-        r = bitset::union(r, span(begins[i], ends[i]));
-        i += 1;
-    }
-    r
-}
-
-// The first moment from a on that is not in x, or n.
-pub fn first_outside(x: u64, a: u32, n: u32) -> u32
-    requires { ⌜ (a ≤ n) × (n < 64) ⌝ }
-    ensures { λ r. ⌜ (a ≤ r) × (r ≤ n) × ((y : ℕ) → a ≤ y → y < r → In x y) × ((r ≡ n) ⊎ (In x r → ⊥)) ⌝ }
-{
-    let mut t = a;
-    while t < n {
-        if !bitset::has(x, t) {
-            return t;
-        }
-        t += 1;
-    }
-    t
 }

@@ -1,7 +1,10 @@
-// Task sets: conditions (what they leave of the members' ends), covering (the ends of a set whose begins are fixed), begins (tried one
-// after the other), rows (the ends of a set from each begin) and placing (begins and ends of the members).
-mod begins;
+// Task sets: conditions (the moments that each allows, as masks), tables (the begins and ends that a placement may have, by pairs of
+// members), bounds (on begins, by the ends of others), covering (the ends of a set whose begins are fixed), search (for begins), rows (the
+// ends of a set from each begin) and placing (begins and ends of the members).
+mod bounds;
 mod conditions;
 mod covering;
 pub mod placing;
 pub mod rows;
+pub mod search;
+mod tables;

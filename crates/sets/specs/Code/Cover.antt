@@ -36,15 +36,3 @@ pub record Coverable (count : ℕ) (bs Es : ℕ → ℕ) (b e : ℕ) : Type 0 wh
 pub record Covering (count : ℕ) (bs Es : ℕ → ℕ) (b e : ℕ) (es : ℕ → ℕ) : Type 0 where
   pub chosen : (i : ℕ) → i < count → (In (Es i) (es i)) × (es i ≤ e)
   pub covers : Covers count bs es b e
-
--- a member that begins at x, with this mask of ends, can cover the moment t
-pub record Spans (x ends t : ℕ) : Type 0 where
-  pub begun : x ≤ t
-  pub end : ℕ
-  pub member : In ends end
-  pub late : t ≤ end
-
--- e is the greatest of some ends, one out of each mask
-pub record Attained (count : ℕ) (Es : ℕ → ℕ) (e : ℕ) : Type 0 where
-  pub last : Some count (λ i. In (Es i) e)
-  pub each : (i : ℕ) → i < count → Reaches Es i 0 e

@@ -1,16 +1,19 @@
--- Between functions: the search for begins: the masks of ends of a set's members while its begins are chosen one after the other.
-use Prim.Native.Nat.{ℕ, _+_, _*_, _/_, _%_, _≤_, _<_}
+-- Between functions: the masks of a set's conditions, its tables of begins and ends, and the search for the begins of its members. bs and es
+-- are begins and ends of all members. Of the tables a search needs one direction only: what a placement has is in them.
+use Prim.Native.Nat.{ℕ, _+_, _*_, _≤_, _<_}
 use mathlib.Core.Path.{_≡_}
 use mathlib.Core.Logic.{_↔_, _⊎_}
 use mathlib.Core.List.{List}
 use lib.ListN.{length, getD}
 use Rattle.bitset.specs.Code.Members.{In}
-use Rattle.words.specs.Fields.{memberNode, conditionI, conditionJ}
+use Rattle.words.specs.Fields.{conditionI, conditionJ}
 use Rattle.model.specs.Forms.{ConditionForm, BeginAfterBegin, BeginAfterEnd, HoldsBefore, HoldsAfter, HoldsBetween, ReservedCondition, conditionForm}
-use Rattle.sets.specs.Set.{TaskSet, memberCount, MetAt}
-use Rattle.sets.specs.Code.Set.{member, SetRule, Formed}
-use Rattle.sets.specs.Code.Rows.{entryAt}
-use Rattle.model.specs.Code.Table.{InTable}
+use Rattle.sets.specs.Set.{TaskSet, memberCount, MetAt, Covers}
+use Rattle.sets.specs.Code.Rows.{entryAt, Placed}
+use Rattle.sets.specs.declared.search.Open.{Open}
+use Rattle.sets.specs.declared.search.Found.{Found}
+
+-- ---- conditions
 
 -- a condition asks of member i either its begin or its end: the one that it asks
 abbrev pub asked : ConditionForm → ℕ → ℕ → ℕ
@@ -21,102 +24,147 @@ asked HoldsAfter x e = e
 asked HoldsBetween x e = e
 asked ReservedCondition x e = e
 
--- the mask at c * 64 + x has the moments y at which member i may begin or end for condition c, where member j begins at x; so the first k
-pub record Allowed (value : ℕ → ℕ → ℕ) (cs : List ℕ) (n k : ℕ) (allow : List ℕ) : Type 0 where
-  pub mask : (c : ℕ) → c < k → (y : ℕ) → In (getD allow c 0) y ↔ ((y ≤ n) × MetAt value n (getD cs (c / 64) 0) y y (c % 64))
+-- and of member j its begin, or nothing: its partner is j, or i itself
+abbrev pub partner : ConditionForm → ℕ → ℕ → ℕ
+partner BeginAfterBegin i j = j
+partner BeginAfterEnd i j = j
+partner HoldsBefore i j = i
+partner HoldsAfter i j = i
+partner HoldsBetween i j = j
+partner ReservedCondition i j = j
 
--- e is an end of member i that the conditions on it and on a member below k allow
-pub record EndOf (s : TaskSet) (R : ℕ → ℕ → ℕ → Type 0) (bs : ℕ → ℕ) (k i e : ℕ) : Type 0 where
-  pub reads : R (member s i) (bs i) e
-  pub onward : bs i ≤ e
-  pub within : e ≤ s .last
-  pub met : (c : ℕ) → c < length (s .conditions) → let w = getD (s .conditions) c 0 in
-      conditionI w ≡ i → conditionJ w < k → MetAt (s .value) (s .last) w (bs i) e (bs (conditionJ w))
+abbrev pub partnerOf : ℕ → ℕ
+partnerOf w = partner (conditionForm w) (conditionI w) (conditionJ w)
 
--- the masks of the members below k
-pub record EndSets (s : TaskSet) (R : ℕ → ℕ → ℕ → Type 0) (bs : ℕ → ℕ) (k : ℕ) (Es : ℕ → ℕ) : Type 0 where
-  pub mask : (i e : ℕ) → i < k → In (Es i) e ↔ EndOf s R bs k i e
+-- the mask at c * 64 + x has the moments y of lo..hi at which member i may begin or end for condition c, where its partner begins at x; so
+-- for each x of lo..hi and the first k conditions
+pub record Allowed (value : ℕ → ℕ → ℕ) (cs : List ℕ) (n lo hi k : ℕ) (allow : List ℕ) : Type 0 where
+  pub mask : (c x y : ℕ) → c < k → lo ≤ x → x ≤ hi → In (getD allow (c * 64 + x) 0) y ↔ ((lo ≤ y) × (y ≤ hi) × MetAt value n (getD cs c 0) y y x)
 
--- the set reads b to e with the begins bs of the members below k
-pub record Completed (s : TaskSet) (R : ℕ → ℕ → ℕ → Type 0) (b e k : ℕ) (bs : ℕ → ℕ) : Type 0 where
-  pub rule : SetRule s R b e
-  pub agrees : (i : ℕ) → i < k → rule .begins i ≡ bs i
+-- condition c, of word w, is met by its mask, where its member i ends at e
+abbrev pub MetAtMask : ℕ → List ℕ → (ℕ → ℕ) → ℕ → ℕ → Type 0
+MetAtMask w allow bs c e = In (getD allow (c * 64 + bs (partnerOf w)) 0) (asked (conditionForm w) (bs (conditionI w)) e)
 
--- member k begins at r at the latest, where the set reads from b with the begins bs of the members below k
-pub record LastBegin (s : TaskSet) (R : ℕ → ℕ → ℕ → Type 0) (b k : ℕ) (bs : ℕ → ℕ) (r : ℕ) : Type 0 where
-  pub from : b ≤ r
-  pub within : r ≤ s .last
-  pub latest : (e : ℕ) → (h : Completed s R b e k bs) → h .rule .begins k ≤ r
+abbrev pub MetByMask : List ℕ → List ℕ → (ℕ → ℕ) → ℕ → ℕ → Type 0
+MetByMask cs allow bs c e = MetAtMask (getD cs c 0) allow bs c e
 
--- e is an end of node m, at most n, from a begin that is at least a and before z
-pub record Begun (R : ℕ → ℕ → ℕ → Type 0) (m a z n e : ℕ) : Type 0 where
-  pub begin : ℕ
-  pub from : a ≤ begin
-  pub before : begin < z
-  pub reads : R m begin e
-  pub onward : begin ≤ e
-  pub within : e ≤ n
+-- ---- tables of ends and begins: at (i * 4 + j) * 64 + x, for the members i and j
 
--- what a search from b needs: the set, its members' rows, and the masks of the conditions
-pub record SearchReady (s : TaskSet) (allow table : List ℕ) (b : ℕ) : Type 0 where
-  pub formed : Formed s
-  pub rows : (i : ℕ) → i < memberCount s → member s i * 64 + 64 ≤ length table
-  pub allowed : Allowed (s .value) (s .conditions) (s .last) (length (s .conditions) * 64) allow
-  pub room : length (s .conditions) * 64 ≤ length allow
-  pub from : b ≤ s .last
+abbrev pub pairAt : List ℕ → ℕ → ℕ → ℕ → ℕ
+pairAt t i j x = getD t ((i * 4 + j) * 64 + x) 0
 
--- what a search for begins needs: the set, its members' rows, and begins and masks so far; the masks of the members from k on have all ends
-pub record Searching (s : TaskSet) (allow table : List ℕ) (k : ℕ) (begins ends : List ℕ) (b : ℕ) : Type 0 where
-  pub formed : Formed s
-  pub rows : (i : ℕ) → i < memberCount s → member s i * 64 + 64 ≤ length table
-  pub allowed : Allowed (s .value) (s .conditions) (s .last) (length (s .conditions) * 64) allow
-  pub room : length (s .conditions) * 64 ≤ length allow
-  pub step : k ≤ memberCount s
-  pub from : b ≤ s .last
-  pub moments : (i : ℕ) → entryAt begins i ≤ s .last
-  pub after : (i : ℕ) → i < k → b ≤ entryAt begins i
-  pub sets : EndSets s (InTable table) (entryAt begins) k (entryAt ends)
-  pub later : (i e : ℕ) → k ≤ i → i < memberCount s → Begun (InTable table) (member s i) b (s .last + 1) (s .last) e → In (entryAt ends i) e
-  pub small : (i e : ℕ) → In (entryAt ends i) e → e < 64
+-- e is an end of member i that its own row and the conditions on it have
+pub record EndAt (cs allow ends : List ℕ) (bs : ℕ → ℕ) (i e : ℕ) : Type 0 where
+  pub reads : In (pairAt ends i i (bs i)) e
+  pub met : (c : ℕ) → c < length cs → conditionI (getD cs c 0) ≡ i → MetByMask cs allow bs c e
 
--- what the conditions need of their masks and of the begins and masks of the members
-pub record Narrowable (cs allow begins ends : List ℕ) : Type 0 where
-  pub named : (c : ℕ) → c < length cs → (conditionI (getD cs c 0) < 4) × (conditionJ (getD cs c 0) < 4)
-  pub room : length cs * 64 ≤ length allow
-  pub moments : (i : ℕ) → entryAt begins i < 64
-  pub small : (i e : ℕ) → In (entryAt ends i) e → e < 64
+-- begins and ends that are lawful from b to e, by the masks and the members' own rows
+pub record Masked (cs allow ends : List ℕ) (count b e : ℕ) (bs es : ℕ → ℕ) : Type 0 where
+  pub inside : (i : ℕ) → i < count → (b ≤ bs i) × (bs i ≤ es i) × (es i ≤ e)
+  pub covers : Covers count bs es b e
+  pub lawful : (i : ℕ) → i < count → EndAt cs allow ends bs i (es i)
 
--- k is the later of members i and j
-pub record Later (i j k : ℕ) : Type 0 where
-  pub first : i ≤ k
-  pub second : j ≤ k
-  pub one : (i ≡ k) ⊎ (j ≡ k)
+-- ends of i where j begins, as the tables have them
+abbrev pub EndsHave : ℕ → List ℕ → (ℕ → ℕ) → (ℕ → ℕ) → Type 0
+EndsHave count ends bs es = (i j : ℕ) → i < count → j < count → In (pairAt ends i j (bs j)) (es i)
 
--- what condition d, where its later member is k, asks of the end e of member i, by its mask
-abbrev pub MaskAsks : List ℕ → List ℕ → ℕ → List ℕ → ℕ → ℕ → ℕ → Type 0
-MaskAsks cs allow k begins i e d = let w = getD cs d 0 in
-    conditionI w ≡ i → Later (conditionI w) (conditionJ w) k → In (getD allow (d * 64 + entryAt begins (conditionJ w)) 0) (asked (conditionForm w) (entryAt begins i) e)
+-- begins of j where i begins
+abbrev pub GoesHave : ℕ → List ℕ → (ℕ → ℕ) → Type 0
+GoesHave count goes bs = (i j : ℕ) → i < count → j < count → In (pairAt goes i j (bs i)) (bs j)
 
--- the masks `new` are the masks `old` with the first c conditions
-pub record Narrowed (cs allow : List ℕ) (k : ℕ) (begins old : List ℕ) (c : ℕ) (new : List ℕ) : Type 0 where
-  pub mask : (i e : ℕ) → In (entryAt new i) e ↔ (In (entryAt old i) e × ((d : ℕ) → d < c → MaskAsks cs allow k begins i e d))
+-- the bounds: at (w * 4 + j) * 64 + e begins of j with which w may end at e or later, 1024 further those with which it may end at e or sooner;
+-- at 2048 + j the members w for which they are filled
+abbrev pub BoundsHave : ℕ → List ℕ → (ℕ → ℕ) → (ℕ → ℕ) → Type 0
+BoundsHave count bounds bs es = (w j : ℕ) → w < count → j < count → In (getD bounds (2048 + j) 0) w
+    → ((e : ℕ) → e ≤ es w → In (getD bounds ((w * 4 + j) * 64 + e) 0) (bs j)) × ((e : ℕ) → es w ≤ e → e < 64 → In (getD bounds (1024 + (w * 4 + j) * 64 + e) 0) (bs j))
 
--- condition d, of form f, allows the end e of its member i, begun at x, for some begin before z of its member j
-pub record SomeBegin (allow : List ℕ) (z : ℕ) (f : ConditionForm) (d x e : ℕ) : Type 0 where
-  pub begin : ℕ
-  pub before : begin < z
-  pub member : In (getD allow (d * 64 + begin) 0) (asked f x e)
+-- both
+pub record Have (E G : List ℕ) (count : ℕ) (bs es : ℕ → ℕ) : Type 0 where
+  pub ends : EndsHave count E bs es
+  pub goes : GoesHave count G bs
 
--- the condition word w, which is condition d, allows the end e of member i, begun at x, for some begin up to n of its member j: for x where j is i
-pub record Allows (allow : List ℕ) (n w d i x e : ℕ) : Type 0 where
-  pub some : SomeBegin allow (n + 1) (conditionForm w) d x e
-  pub self : conditionJ w ≡ i → In (getD allow (d * 64 + x) 0) (asked (conditionForm w) x e)
+-- the masks `new` have no members that the masks `old` have not
+abbrev pub Fewer : List ℕ → List ℕ → Type 0
+Fewer old new = (p e : ℕ) → In (getD new p 0) e → In (getD old p 0) e
 
--- each of the first k conditions does that, where it is on member i
-abbrev pub Possible : List ℕ → List ℕ → ℕ → ℕ → ℕ → ℕ → ℕ → Type 0
-Possible cs allow n k i x e = (d : ℕ) → d < k → conditionI (getD cs d 0) ≡ i → Allows allow n (getD cs d 0) d i x e
+-- row p of the table `old` is cut, from a to z, by the masks of condition c: what they have there, and all else, is in `new`
+abbrev pub Cut : List ℕ → ℕ → List ℕ → ℕ → ℕ → ℕ → List ℕ → Type 0
+Cut old p allow c a z new =
+    (q e : ℕ) → In (getD old q 0) e → ((y : ℕ) → q ≡ p * 64 + y → a ≤ y → y ≤ z → In (getD allow (c * 64 + y) 0) e) → In (getD new q 0) e
 
--- the rows `own` up to k are those of the member words ms, by position, without the ends that are not possible
-pub record OwnRows (ms cs : List ℕ) (n : ℕ) (allow table : List ℕ) (k : ℕ) (own : List ℕ) : Type 0 where
-  pub row : (c : ℕ) → c < k → (e : ℕ) → In (getD own c 0) e
-      ↔ (InTable table (memberNode (getD ms (c / 64) 0)) (c % 64) e × (c % 64 ≤ e) × (e ≤ n) × Possible cs allow n (length cs) (c / 64) (c % 64) e)
+-- begins and ends within a..z
+abbrev pub Within : ℕ → ℕ → ℕ → (ℕ → ℕ) → (ℕ → ℕ) → Type 0
+Within count a z bs es = (i : ℕ) → i < count → (a ≤ bs i) × (bs i ≤ es i) × (es i ≤ z)
+
+-- a table before anything is left out of it
+abbrev pub Full : List ℕ → Type 0
+Full t = (p e : ℕ) → p < 1024 → e < 64 → In (getD t p 0) e
+
+-- the tables have these begins and ends: ends of i where j begins, begins of j where i begins, ends of i begun at x or later
+pub record InTables (E G L : List ℕ) (count lo : ℕ) (bs es : ℕ → ℕ) : Type 0 where
+  pub ends : EndsHave count E bs es
+  pub goes : GoesHave count G bs
+  pub later : (i x : ℕ) → i < count → lo ≤ x → x ≤ bs i → In (getD L (i * 64 + x) 0) (es i)
+
+-- ---- the search
+
+-- what a search needs: few members and conditions, moments of a word, and own rows with no end before the begin or after hi
+pub record SearchReady (cs ends : List ℕ) (count lo hi : ℕ) : Type 0 where
+  pub some : 0 < count
+  pub few : count ≤ 4
+  pub conditions : length cs ≤ 8
+  pub named : (c : ℕ) → c < length cs → (conditionI (getD cs c 0) < count) × (conditionJ (getD cs c 0) < count)
+  pub forward : lo ≤ hi
+  pub moments : hi < 64
+  pub onward : (i x e : ℕ) → i < count → lo ≤ x → x ≤ hi → In (pairAt ends i i x) e → (x ≤ e) × (e ≤ hi)
+
+-- begins and ends that an open set still has: members that are not left have one begin, and none ends after the one that ends last
+pub record Fits (count : ℕ) (o : Open) (bs es : ℕ → ℕ) : Type 0 where
+  pub inside : (i : ℕ) → i < count → (o .from ≤ bs i) × (bs i ≤ es i) × (es i ≤ es (o .last))
+  pub begins : (i : ℕ) → i < count → In (entryAt (o .begins) i) (bs i)
+  pub ends : (i : ℕ) → i < count → In (entryAt (o .ends) i) (es i)
+  pub fixed : (i x : ℕ) → i < count → (In (o .left) i → ⊥) → In (entryAt (o .begins) i) x → x ≡ bs i
+
+-- the set reads b to e
+pub record ReadsTo (cs allow ends : List ℕ) (count b e : ℕ) : Type 0 where
+  pub bs : ℕ → ℕ
+  pub es : ℕ → ℕ
+  pub masked : Masked cs allow ends count b e bs es
+
+-- it does so with these begins
+pub record ReadsWith (cs allow ends : List ℕ) (count b e : ℕ) (bs : ℕ → ℕ) : Type 0 where
+  pub es : ℕ → ℕ
+  pub masked : Masked cs allow ends count b e bs es
+
+-- where the end that is sought is found, there are begins for it
+abbrev pub BeginsKept : List ℕ → List ℕ → List ℕ → ℕ → ℕ → Found → Type 0
+BeginsKept cs allow ends count b f = In (f .ends) (f .upto) → ReadsWith cs allow ends count b (f .upto) (entryAt (f .begins))
+
+-- what a search adds: ends to which the set reads from b
+pub record Grown (cs allow ends : List ℕ) (count b : ℕ) (old new : Found) : Type 0 where
+  pub upto : new .upto ≡ old .upto
+  pub kept : (e : ℕ) → In (old .ends) e → In (new .ends) e
+  pub reads : (e : ℕ) → In (new .ends) e → In (old .ends) e ⊎ ReadsTo cs allow ends count b e
+  pub begins : BeginsKept cs allow ends count b old → BeginsKept cs allow ends count b new
+  pub small : ((e : ℕ) → In (old .ends) e → e < 64) → (e : ℕ) → In (new .ends) e → e < 64
+  pub moments : ((i : ℕ) → entryAt (old .begins) i < 64) → (i : ℕ) → entryAt (new .begins) i < 64
+
+-- a placement to e that an open set still has
+pub record Sought (cs allow ends goes later bounds : List ℕ) (count : ℕ) (o : Open) (e : ℕ) (bs es : ℕ → ℕ) : Type 0 where
+  pub masked : Masked cs allow ends count (o .from) e bs es
+  pub tables : InTables ends goes later count (o .from) bs es
+  pub bounded : BoundsHave count bounds bs es
+  pub fits : Fits count o bs es
+  pub final : es (o .last) ≡ e
+
+-- and what a search must find: each end of such a placement
+abbrev pub FindsAll : List ℕ → List ℕ → List ℕ → List ℕ → List ℕ → List ℕ → ℕ → Open → Found → Type 0
+FindsAll cs allow ends goes later bounds count o r = (e : ℕ) (bs es : ℕ → ℕ) → e ≤ r .upto → Sought cs allow ends goes later bounds count o e bs es → In (r .ends) e
+
+-- what the tables of a set for the moments a..z say: by the masks and own rows the set reads as it does by R, and they have the begins and
+-- ends of each placement
+pub record Tables (s : TaskSet) (R : ℕ → ℕ → ℕ → Type 0) (a z : ℕ) (allow ends goes later : List ℕ) : Type 0 where
+  pub ready : SearchReady (s .conditions) ends (memberCount s) a z
+  pub reads : (b e : ℕ) (bs es : ℕ → ℕ) → a ≤ b → e < 64 → Masked (s .conditions) allow ends (memberCount s) b e bs es → (e ≤ z) × Placed s R b e bs es
+  pub masked : (b e : ℕ) (bs es : ℕ → ℕ) → a ≤ b → e ≤ z → Placed s R b e bs es → Masked (s .conditions) allow ends (memberCount s) b e bs es
+  pub kept : (b e : ℕ) (bs es : ℕ → ℕ) → a ≤ b → e ≤ z → Placed s R b e bs es → InTables ends goes later (memberCount s) a bs es

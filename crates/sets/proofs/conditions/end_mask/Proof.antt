@@ -1,22 +1,12 @@
 -- `sets::conditions::end_mask` meets its contract. Assumes nothing.
-use Prim.Native.Nat.{ℕ, zero, suc}
-use mathlib.Core.Path.{_≡_, refl, sym, _∙_}
+use Prim.Native.Nat.{ℕ}
+use mathlib.Core.Path.{_≡_, sym, _∙_}
 use mathlib.Core.Logic.{_↔_}
 use Rattle.bitset.specs.Code.Members.{has, In}
-use Rattle.model.specs.Forms.{conditionNumber}
-use Rattle.sets.specs.Code.Search.{asked}
+use Rattle.sets.proofs.Masks.{end-asked}
 use borrow.Author.Needs.{needs}
 use Rattle.sets.proofs.conditions.end_mask.Statement.{statement}
 use Rattle.sets.proofs.conditions.end_mask.Tie as tie
-
--- whatever form is neither 0 nor 2 asks the end
-end-asked : (f x e : ℕ) → (f ≡ 0 → ⊥) → (f ≡ 2 → ⊥) → asked (conditionNumber f) x e ≡ e
-end-asked zero x e g h = absurd (g refl)
-end-asked (suc zero) x e g h = refl
-end-asked (suc (suc zero)) x e g h = absurd (h refl)
-end-asked (suc (suc (suc zero))) x e g h = refl
-end-asked (suc (suc (suc (suc zero)))) x e g h = refl
-end-asked (suc (suc (suc (suc (suc f))))) x e g h = refl
 
 in-same : {r e a x : ℕ} → has r e ≡ has a x → In r e ↔ In a x
 in-same q = (λ t. record { yes = sym q ∙ t .yes }, λ t. record { yes = q ∙ t .yes })

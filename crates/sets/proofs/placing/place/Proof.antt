@@ -1,44 +1,92 @@
--- `sets::placing::place` meets its contract: the members' own rows read as the set does. Assumes nothing.
-use Prim.Native.Nat.{_≤_}
-use mathlib.Core.Path.{sym}
+-- `sets::placing::place` meets its contract: the search of the end e has kept begins for it, and the greatest ends for them will do. Assumes
+-- nothing.
+use Prim.Native.Nat.{ℕ, _≤_, _<_}
+use mathlib.Core.Path.{_≡_, refl, sym, subst}
+use native.Mathlib.Nat.{le-refl}
 use native.Mathlib.Omega.{arith}
 use lib.ListN.{length, length-map}
-use lib.Seq.{length-take-le}
 use Rattle.words.specs.Fields.{memberNode}
-use Rattle.sets.proofs.Search.{node-rows}
-use Rattle.sets.proofs.Own.{own-rule, own-placed, own-ready}
+use Rattle.bitset.specs.Code.Members.{In}
+use Rattle.bitset.proofs.In.{in-from, in-single, in-zero, empty-entry}
+use Rattle.sets.specs.Code.Rows.{entryAt}
+use Rattle.sets.specs.Code.Search.{SearchReady, Masked, ReadsWith}
+use Rattle.sets.proofs.Leaves.{top-ends}
+use Rattle.sets.proofs.Stored.{row-found, every-full, no-begins}
 use borrow.Author.Needs.{needs}
 use Rattle.sets.proofs.placing.place.Statement.{statement}
 use Rattle.sets.proofs.placing.place.Tie as tie
 
+-- the tables, seen from the search, and the function's entry
+abbrev tables : tie.After-row → tie.After-fill
+tables c = c .before .before .before .before .before .before .before .before .before .before
+
+abbrev entry : tie.After-fill → tie.Start
+entry c = c .before .before .before .before .before .before .before .before .before
+
+-- the sizes of the set
 few : (s : tie.Start) → length (s .args .members .now) ≤ 4
 few s = omega (arith, s .pre .formed .few, length-map (s .args .members .now) memberNode)
 
-fill-own-requires : tie.Need-fill-own-requires
-fill-own-requires c κs = let s = c .before .before .before .before .before .before .before .before in let g = s .pre in
-    (few s, node-rows (s .args .members .now) (g .rows), g .formed .moments, omega (arith, c .before .before .before .fill-allowed .kept .1 .1 .1 .0, g .formed .conditions), omega (arith, few s))
+moments : (s : tie.Start) → (s .args .b ≤ s .args .e) × (s .args .e ≤ s .args .n) × (s .args .n < 64)
+moments s = let p = s .pre .rule .placing in (p .onward, p .within, s .pre .formed .moments)
 
-place-from-requires : tie.Need-place-from-requires
-place-from-requires c κs =
-    let s = c .before .before .before .before .before .before .before .before .before .before .before .before .before in
+ready : (c : tie.After-fill) → let a = entry c .args in
+    SearchReady (a .conds .now) (c .fill .last .1 .1 .1 .1 .1 .1 .1 .1 .0) (length (a .members .now)) (a .b) (a .e)
+ready c = let a = entry c .args in
+    subst (λ (k : ℕ). SearchReady (a .conds .now) (c .fill .last .1 .1 .1 .1 .1 .1 .1 .1 .0) k (a .b) (a .e)) (length-map (a .members .now) memberNode) (c .fill .ensures .ready)
+
+-- begins with which the set reads b to e
+begins : (c : tie.After-row) → let t = tables c in let a = entry t .args in
+    ReadsWith (a .conds .now) (t .fill .last .1 .1 .1 .1 .1 .1 .1 .0) (t .fill .last .1 .1 .1 .1 .1 .1 .1 .1 .0) (length (a .members .now)) (a .b) (a .e) (entryAt (c .row .result .begins))
+begins c =
+    let t = tables c in
+    let s = entry t in
+    let a = s .args in
+    let g = c .row .ensures .0 in
+    let f = row-found (c .before .before .before .before .before .before .before .fill2 .last .1 .1 .1 .1 .1 .0) _ (c .row .result) _ _ (length-map (a .members .now) memberNode) (t .fill .ensures)
+    (le-refl (a .b)) refl (c .before .before .before .before .before .before .before .fill2 .ensures) g (c .row .ensures .1) in
+    let found = f .finds (a .e) (le-refl (a .e)) (in-single (c .before .before .before .before .before .before .single .ensures) (a .e) .1 refl) (s .pre .rule) in
+    subst (λ (x : ℕ). ReadsWith (a .conds .now) (t .fill .last .1 .1 .1 .1 .1 .1 .1 .0) (t .fill .last .1 .1 .1 .1 .1 .1 .1 .1 .0) (length (a .members .now)) (a .b) x (entryAt (c .row .result .begins)))
+    (g .upto) (g .begins (λ z. in-zero refl z) (subst (λ (x : ℕ). In (c .row .result .ends) x) (sym (g .upto)) found))
+
+fill-requires : tie.Need-fill-requires
+fill-requires c κs =
+    let s = c .before .before .before .before .before .before .before .before in
     let g = s .pre in
-    let r = g .rule .placing in
-    let a = c .before .before .before .before .before .before .before .before .fill-allowed in
-    let o = c .before .before .before .before .fill-own in (
-      own-ready (s .args .values .now) (g .formed) (a .ensures) (o .ensures) (omega (arith, a .kept .1 .1 .1 .0, g .formed .conditions)) (omega (arith, o .kept .1 .1 .1 .1 .1 .0, few s)) (omega (arith, r .within, r .onward)),
-      own-rule (s .args .values .now) (g .formed) (a .ensures) (o .ensures) .1 (g .rule),
-    )
+    let all : (e : ℕ) → e < 64 → In (c .before .before .before .before .from .result) e
+    = λ e l. in-from (c .before .before .before .before .from .ensures) e .1 (omega arith, l) in
+    (g .formed, g .rows, moments s .0, moments s .1, every-full all, every-full all, refl, refl)
+
+ends-at-requires : tie.Need-ends-at-requires
+ends-at-requires c κs =
+    let k = c .before .before .before in
+    let s = entry (tables k) in
+    let r = ready (tables k) in
+    (r .few, r .conditions, λ d l. let n = r .named d l in (omega (arith, n .0, r .few), omega (arith, n .1, r .few)), k .row .ensures .0 .moments no-begins)
+
+greatest-ends-requires : tie.Need-greatest-ends-requires
+greatest-ends-requires c κs =
+    let k = c .before .before .before .before in
+    let s = entry (tables k) in
+    let h = begins k in
+    (omega (arith, moments s), few s, λ i l. (h .es i, c .ends-at .ensures i (h .es i) l .1 (h .masked .lawful i l), h .masked .inside i l .2))
 
 returns : tie.Need-returns
 returns c =
-    let s = c .before .before .before .before .before .before .before .before .before .before .before .before .before .before in
-    own-placed (s .args .values .now) (s .pre .formed) (c .before .before .before .before .before .before .before .before .before .fill-allowed .ensures) (c .before .before .before .before .before .fill-own .ensures) (c .place-from .ensures)
+    let m = c .before in
+    let k = m .before .before .before .before in
+    let t = tables k in
+    let s = entry t in
+    let a = s .args in
+    let top = top-ends (ready t) (m .ends-at .ensures) (begins k .masked) (c .greatest-ends .ensures) in
+    t .fill .ensures .reads (a .b) (a .e) (entryAt (k .row .result .begins)) (entryAt (c .greatest-ends .result)) (le-refl (a .b)) (omega (arith, moments s))
+    (subst (λ (x : ℕ). Masked (a .conds .now) (t .fill .last .1 .1 .1 .1 .1 .1 .1 .0) (t .fill .last .1 .1 .1 .1 .1 .1 .1 .1 .0) x (a .b) (a .e) (entryAt (k .row .result .begins))
+    (entryAt (c .greatest-ends .result))) (sym (length-map (a .members .now) memberNode)) top) .1
 
 pub place-spec : {M : Type 1} → statement M
 place-spec =
     tie.close
-    (tie.spec (λ c. search needs)
-    (λ c κs. let g = c .before .before .before .before .pre in (g .formed .moments, omega (arith, g .formed .conditions))) (λ c. search needs)
-    (λ c. search needs) fill-own-requires (λ c. few (c .before .before .before .before .before .before .before .before .before .before))
-    (λ c. sym (length-take-le _ _ (few (c .before .before .before .before .before .before .before .before .before .before .before))))
-    (λ c. search needs) (λ c. search needs) place-from-requires returns)
+    (tie.spec (λ c κs. search needs) fill-requires
+    (λ c κs. let s = entry (c .before .before) in (few s, moments s .0, omega (arith, moments s), refl, λ q. empty-entry 2052 q))
+    (λ c κs. omega (arith, moments (entry (c .before .before .before)))) (λ c κs. ready (c .before .before .before .before .before .before .before .before .before)) ends-at-requires
+    greatest-ends-requires returns)

@@ -1,80 +1,91 @@
--- `sets::rows::set_rows` meets its contract. The invariant: the rows of p before row b are right, and so are the members' own rows. Assumes nothing.
-use Prim.Native.Nat.{_+_, _-_, _*_, _≤_}
-use mathlib.Core.Path.{_≡_, sym}
+-- `sets::rows::set_rows` meets its contract. The invariant: the rows before b are right. Assumes nothing.
+use Prim.Native.Nat.{ℕ, _+_, _-_, _*_, _≤_, _<_}
+use mathlib.Core.Path.{_≡_, refl, sym, subst}
+use mathlib.Core.Logic.{_↔_}
 use native.Mathlib.Omega.{arith}
 use lib.ListN.{length, length-map}
-use lib.Seq.{length-take-le}
 use Rattle.words.specs.Fields.{memberNode}
+use Rattle.bitset.specs.Code.Members.{In}
+use Rattle.bitset.proofs.In.{in-below, in-from, in-between, empty-entry}
+use Rattle.model.specs.Code.Table.{InTable}
+use Rattle.sets.specs.Code.Set.{SetRule}
 use Rattle.sets.specs.Code.Rows.{taskSetOf}
-use Rattle.model.specs.Code.Arrays.{valueIn}
-use Rattle.sets.specs.Code.Search.{Allowed, OwnRows}
-use Rattle.sets.proofs.Search.{node-rows}
-use Rattle.sets.proofs.Own.{own-rule, own-ready}
-use Rattle.sets.proofs.Stored.{RowsTo, rows-none, rows-more, rows-done}
+use Rattle.sets.specs.Code.Search.{SearchReady}
+use Rattle.sets.proofs.Stored.{RowsTo, rows-none, rows-more, rows-done, ready-from, row-found, every-full}
 use borrow.Author.Needs.{needs}
 use Rattle.sets.proofs.rows.set_rows.Statement.{statement}
 use Rattle.sets.proofs.rows.set_rows.Tie as tie
 
 abbrev Inv-loop : tie.InvT-loop
-Inv-loop members conds values p n table₀ allow own places count b₀ table b =
-    (b ≤ n + 1) × (length allow ≡ 512) × (length own ≡ 256) × Allowed (valueIn values) conds n (length conds * 64) allow
-    × OwnRows members conds n allow table₀ (length members * 64) own × RowsTo (taskSetOf members conds values n) p table₀ table b
+Inv-loop members conds values p n table₀ every allow ends goes later bounds count b₀ table b = (b ≤ n + 1) × RowsTo (taskSetOf members conds values n) p table₀ table b
 
 abbrev μ-loop : tie.MeasureT-loop
-μ-loop members conds values p n table₀ allow own places count b₀ table b = n + 1 - b
+μ-loop members conds values p n table₀ every allow ends goes later bounds count b₀ table b = n + 1 - b
+
+-- the tables, seen from the loop, and the function's entry
+abbrev tables : tie.At-loop Inv-loop μ-loop → tie.After-fill Inv-loop μ-loop
+tables l = l .before .before .before .before
+
+abbrev entry : tie.After-fill Inv-loop μ-loop → tie.Start Inv-loop μ-loop
+entry c = c .before .before .before .before .before .before .before .before .before .before
 
 few : (s : tie.Start Inv-loop μ-loop) → length (s .args .members .now) ≤ 4
 few s = omega (arith, s .pre .formed .few, length-map (s .args .members .now) memberNode)
 
-fill-own-requires : tie.Need-fill-own-requires Inv-loop μ-loop
-fill-own-requires c κs = let s = c .before .before .before .before .before .before .before .before .before in let g = s .pre in (
-  few s,
-  node-rows (s .args .members .now) (λ i l. omega (arith, g .lower i l, g .room)),
-  g .formed .moments,
-  omega (arith, c .before .before .before .before .fill-allowed .kept .1 .1 .1 .0, g .formed .conditions),
-  omega (arith, few s),
-)
-
-loop-holds : tie.Need-loop-holds Inv-loop μ-loop
-loop-holds c = (omega arith, c .before .before .before .before .before .before .fill-allowed .kept .1 .1 .1 .0, c .before .fill-own .kept .1 .1 .1 .1 .1 .0, c .before .before .before .before .before .before .fill-allowed .ensures, c .before .fill-own .ensures, rows-none)
-
-slice-aggregate-set-row : tie.Need-slice-aggregate-set-row Inv-loop μ-loop
-slice-aggregate-set-row c = sym (length-take-le _ _ (few (c .before .before .before .before .before .before .before .before .before .before .before .before .before .before)))
-
-set-row-requires : tie.Need-set-row-requires Inv-loop μ-loop
-set-row-requires c κs =
-    let s = c .before .before .before .before .before .before .before .before .before .before .before .before .before .before .before .before in
+fill-requires : tie.Need-fill-requires Inv-loop μ-loop
+fill-requires c κs =
+    let s = c .before .before .before .before .before .before .before .before .before in
     let g = s .pre in
-    let v = c .before .before .before .before .loop .inv in
-    own-ready (s .args .values .now) (g .formed) (v .3) (v .4) (omega (arith, v .1, g .formed .conditions)) (omega (arith, v .2, few s)) (omega (arith, c .before .before .before .loop-test .taken))
+    let all : (e : ℕ) → e < 64 → In (c .before .before .before .before .before .from .result) e
+    = λ e l. in-from (c .before .before .before .before .before .from .ensures) e .1 (omega arith, l) in
+    (g .formed, λ i l. omega (arith, g .lower i l, g .room), omega arith, omega arith, every-full all, every-full all, refl, refl)
 
-slice-write-table : tie.Need-slice-write-table Inv-loop μ-loop
-slice-write-table c = let s = c .before .before .before .before .before .before .before .before .before .before .before .before .before .before .before .before .before in omega (arith, s .pre .room, c .before .before .before .before .before .loop .inv .5 .long, c .before .before .before .before .loop-test .taken, s .pre .formed .moments)
+fill-requires-2 : tie.Need-fill-requires-2 Inv-loop μ-loop
+fill-requires-2 c κs = let s = entry (c .before .before) in (few s, omega arith, s .pre .formed .moments, refl, λ q. empty-entry 2052 q)
+
+row-requires : tie.Need-row-requires Inv-loop μ-loop
+row-requires c κs =
+    let l = c .before .before .before .before .before .before .before in
+    let s = entry (tables l) in
+    subst (λ (k : ℕ). SearchReady (s .args .conds .now) (tables l .fill .last .1 .1 .1 .1 .1 .1 .1 .1 .0) k (l .loop .b) (s .args .n)) (length-map (s .args .members .now) memberNode)
+    (ready-from (omega arith) (omega (arith, c .before .before .before .before .before .before .loop-test .taken)) (tables l .fill .ensures .ready))
+
+-- what is found is what the set reads to
+found : (c : tie.After-row Inv-loop μ-loop) (e : ℕ) → let l = c .before .before .before .before .before .before .before .before in let a = entry (tables l) .args in
+    In (c .row .result .ends) e ↔ SetRule (taskSetOf (a .members .now) (a .conds .now) (a .values .now) (a .n)) (InTable (a .table .now)) (l .loop .b) e
+found c e =
+    let l = c .before .before .before .before .before .before .before .before in
+    let t = tables l in
+    let r = row-found (l .before .fill2 .last .1 .1 .1 .1 .1 .0) _ (c .row .result) _ _ (length-map (entry t .args .members .now) memberNode) (t .fill .ensures) (omega arith) refl (l .before .fill2 .ensures) (c .row .ensures .0)
+    (c .row .ensures .1) in
+    (r .reads e, λ h. let p = h .placing in r .finds e (p .within) (in-between (c .before .before .before .before .before .before .between .ensures) e .1 (p .onward, p .within)) h)
 
 loop-again : tie.Need-loop-again Inv-loop μ-loop
 loop-again c =
-    let s = c .before .before .before .before .before .before .before .before .before .before .before .before .before .before .before .before .before in
-    let k = c .before .before .before .before .before .loop in
-    let v = k .inv in
-    let g = s .pre in (
-      omega (arith, c .before .before .before .before .loop-test .taken),
-      v .1,
-      v .2,
-      v .3,
-      v .4,
-      rows-more (k .b) (c .set-row .result) (v .5) (omega (arith, g .room, v .5 .long)) (omega (arith, c .before .before .before .before .loop-test .taken)) (g .formed .moments) (λ e.
-          let h = c .set-row .ensures e in
-          let r = own-rule (s .args .values .now) (g .formed) (v .3) (v .4) in
-          (λ t. r .0 (h .0 t), λ t. h .1 (r .1 t))),
+    let l = c .before .before .before .before .before .before .before .before in
+    let s = entry (tables l) in
+    let g = s .pre in
+    let v = l .loop .inv in
+    let up : l .loop .b ≤ s .args .n = omega (arith, c .before .before .before .before .before .before .before .loop-test .taken) in (
+      omega arith,
+      rows-more (l .loop .b) (c .row .result .ends) (v .1) (omega (arith, g .room, v .1 .long)) up (g .formed .moments) (found c),
     )
+
+between-requires : tie.Need-between-requires Inv-loop μ-loop
+between-requires c κs = let m = entry (tables (c .before)) .pre .formed .moments in (omega (arith, m, c .loop-test .taken), m)
+
+-- the place of the row in the table
+room : (c : tie.After-row Inv-loop μ-loop) → let l = c .before .before .before .before .before .before .before .before in let a = entry (tables l) .args in
+    (a .p * 64 + l .loop .b < length (l .loop .table)) × (a .p * 64 + l .loop .b < 1152921504606846976)
+room c =
+    let l = c .before .before .before .before .before .before .before .before in
+    let s = entry (tables l) in
+    let g = s .pre in
+    let up : l .loop .b < 64 = omega (arith, g .formed .moments, c .before .before .before .before .before .before .before .loop-test .taken) in
+    (omega (arith, g .room, l .loop .inv .1 .long), omega (arith, g .room, s .good .1 .1 .1 .1 .1 .0))
 
 pub set-rows-spec : {M : Type 1} → statement M
 set-rows-spec =
     tie.close
-    (tie.spec Inv-loop μ-loop (λ c. search needs)
-    (λ c κs. let g = c .before .before .before .before .pre in (g .formed .moments, omega (arith, g .formed .conditions))) (λ c. search needs)
-    (λ c. search needs) fill-own-requires loop-holds
-    (λ c. few (c .before .before .before .before .before .before .before .before .before .before .before .before .before)) slice-aggregate-set-row
-    (λ c. search needs) (λ c. search needs) set-row-requires (λ c. search needs) (λ c. search needs) (λ c. search needs) (λ c. search needs)
-    slice-write-table (λ c. search needs) (λ c. search needs) loop-again (λ c. c .before .loop .inv .5 .long)
-    (λ c. rows-done (omega (arith, c .loop-test .left)) (c .before .loop .inv .5)))
+    (tie.spec Inv-loop μ-loop (λ c κs. search needs) fill-requires fill-requires-2 (λ c. (omega arith, rows-none)) between-requires row-requires (λ c. omega (arith, room c)) (λ c. search needs)
+    (λ c. omega (arith, room c)) (λ c. omega (arith, room c)) (λ c. room c .0) (λ c. search needs) (λ c. search needs) loop-again (λ c. c .before .loop .inv .1 .long) (λ c. rows-done (omega (arith, c .loop-test .left)) (c .before .loop .inv .1)))

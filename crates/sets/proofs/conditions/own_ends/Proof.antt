@@ -1,0 +1,38 @@
+-- `sets::conditions::own_ends` meets its contract. The invariant: the masks before i are those of the own rows. Assumes nothing.
+use Prim.Native.Nat.{ℕ, _-_, _≤_, _<_}
+use mathlib.Core.Path.{_≡_, refl}
+use native.Mathlib.Omega.{arith}
+use lib.ListN.{length, length-set}
+use Rattle.bitset.specs.Code.Members.{In}
+use Rattle.bitset.proofs.In.{in-zero, in-below, empty-entry}
+use Rattle.sets.specs.Code.Rows.{entryAt}
+use Rattle.sets.specs.Code.Search.{pairAt}
+use Rattle.sets.proofs.Masks.{each-set, small-set}
+use borrow.Author.Needs.{needs}
+use Rattle.sets.proofs.conditions.own_ends.Statement.{statement}
+use Rattle.sets.proofs.conditions.own_ends.Tie as tie
+
+abbrev Inv-loop : tie.InvT-loop
+Inv-loop ends count begins r₀ i₀ r i =
+    (i ≤ count) × (length r ≡ 4) × ((j : ℕ) → j < i → entryAt r j ≡ pairAt ends j j (entryAt begins j)) × ((j e : ℕ) → In (entryAt r j) e → e < 64)
+
+abbrev μ-loop : tie.MeasureT-loop
+μ-loop ends count begins r₀ i₀ r i = count - i
+
+loop-again : tie.Need-loop-again Inv-loop μ-loop
+loop-again c = let s = c .before .before .before in let l = c .before .before .loop in (
+  omega arith,
+  simp length-set (l .inv .1),
+  each-set (l .r) (l .i) (c .own-at .result) (omega arith) (λ j. pairAt (s .args .ends .now) j j (entryAt (s .args .t3) j)) (c .own-at .ensures) (l .inv .2),
+  small-set (l .r) (l .i) (c .own-at .result) (omega arith) (λ e. in-below (c .own-at .ok)) (l .inv .3),
+)
+
+returns : tie.Need-returns Inv-loop μ-loop
+returns c = let l = c .before .loop in (λ i g. l .inv .2 i (omega arith), l .inv .3)
+
+pub own-ends-spec : {M : Type 1} → statement M
+own-ends-spec =
+    tie.close
+    (tie.spec Inv-loop μ-loop (λ c. (omega arith, refl, λ j l. absurd (omega arith), λ j e t. in-zero (empty-entry 4 j) t)) (λ c. search needs)
+    (λ c. omega arith) (λ c κs. (omega arith, c .before .before .pre .1 (c .before .loop .i))) (λ c. search needs) (λ c. omega arith)
+    (λ c. search needs) (λ c. search needs) loop-again returns)

@@ -1,0 +1,29 @@
+-- `sets::search::last_gap` meets its contract. Assumes nothing.
+use Prim.Native.Nat.{ℕ, _<_}
+use mathlib.Core.Path.{_≡_, refl, sym, _∙_}
+use mathlib.Core.Logic.{inl, inr, by-cases}
+use native.Mathlib.Decide.{ℕ-discrete}
+use native.Mathlib.Omega.{arith}
+use Rattle.bitset.specs.Code.Members.{In, Lowest}
+use Rattle.bitset.proofs.Ends.{lowest}
+use Rattle.bitset.proofs.In.{in-below, in-zero}
+use Rattle.sets.proofs.Growth.{dropped}
+use borrow.Author.Needs.{needs}
+use Rattle.sets.proofs.search.last_gap.Statement.{statement}
+use Rattle.sets.proofs.search.last_gap.Tie as tie
+
+-- where dropping the lowest leaves nothing, there is no other
+returns : tie.Need-returns
+returns c =
+    let d = c .before .before in
+    let s = d .before in
+    let low = lowest (s .args .left) (s .pre .0) (s .fits .left .fits) in
+    let only : (i : ℕ) → In (s .args .left) i → i ≡ _
+    = λ i t. by-cases (ℕ-discrete i _) (λ q. q) (λ q. in-zero (c .before .if1 .taken) (dropped low (d .drop-lowest .ensures) t q)) in
+    let h = c .highest .ensures in
+    (record { yes = h .member }, omega (arith, h .upto), inr (λ i j t u. only i t ∙ sym (only j u)))
+
+pub last-gap-spec : {M : Type 1} → statement M
+last-gap-spec =
+    tie.close
+    (tie.spec (λ c κs. search needs) (λ c κs. search needs) returns (λ c. let s = c .before .before in (s .pre .2, in-below (s .fits .gaps .fits) (s .pre .2), inl refl)))

@@ -1,0 +1,88 @@
+-- `sets::search::leaf` meets its contract: the ends that the fixed begins cover are those to which the set reads. Assumes nothing.
+use Prim.Native.Nat.{ℕ, _≤_, _<_}
+use mathlib.Core.Path.{_≡_, refl, sym, _∙_}
+use mathlib.Core.Logic.{inl, inr, ⊎-elim}
+use mathlib.Core.List.{List}
+use native.Mathlib.Omega.{arith}
+use Rattle.bitset.specs.Code.Members.{In}
+use Rattle.bitset.proofs.Bools.{not-both}
+use Rattle.bitset.proofs.In.{in-union, in-zero}
+use Rattle.sets.specs.Code.Rows.{entryAt}
+use Rattle.sets.specs.Code.Search.{Sought, ReadsWith}
+use Rattle.sets.proofs.Leaves.{onward, reads-with, covers-all}
+use borrow.Author.Needs.{needs}
+use Rattle.sets.proofs.search.leaf.Statement.{statement}
+use Rattle.sets.proofs.search.leaf.Tie as tie
+
+abbrev entry : tie.After-first-begins → tie.Start
+entry c = c .before .before .before .before
+
+-- the set reads to what is covered, with these begins
+reads : (c : tie.After-covered) (e : ℕ) → let f = c .before .before in let a = entry f .args in
+    In (c .covered .result) e → ReadsWith (a .conds .now) (a .allow .now) (a .ends .now) (a .count) (a .state .from) e (entryAt (f .first-begins .result))
+reads c e t = let f = c .before .before in reads-with (entry f .pre .0) (c .before .ends-at .ensures) (f .first-begins .ensures .0) (c .covered .ensures e .0 t)
+
+-- and what is sought is covered
+finds : (c : tie.After-covered) (goes later bounds : List ℕ) (e : ℕ) (bs es : ℕ → ℕ) → let a = entry (c .before .before) .args in e ≤ a .found .upto
+    → Sought (a .conds .now) (a .allow .now) (a .ends .now) goes later bounds (a .count) (a .state) e bs es → In (c .covered .result) e
+finds c goes later bounds e bs es u h =
+    let f = c .before .before in
+    let s = entry f in
+    let same : (i : ℕ) → i < s .args .count → bs i ≡ entryAt (f .first-begins .result) i
+    = λ i l. let o = h .masked .inside i l in
+    sym (h .fits .fixed i _ l (λ t. in-zero (s .pre .1) t) (f .first-begins .ensures .2 i (bs i) l (h .fits .begins i l) (o .0) (omega (arith, o, u)))) in
+    c .covered .ensures e .1 (covers-all (s .pre .0) (c .before .ends-at .ensures) (f .first-begins .ensures .0) same (h .masked))
+
+-- which is a moment
+small : (c : tie.After-covered) (e : ℕ) → In (c .covered .result) e → e < 64
+small c e t =
+    let f = c .before .before in
+    let r = entry f .pre .0 in
+    let k = c .covered .ensures e .0 t .last in
+    omega (arith, onward r (c .before .ends-at .ensures) (f .first-begins .ensures .0) (k .at) e (k .below) (k .is), r .moments)
+
+covered-requires : tie.Need-covered-requires
+covered-requires c κs = let f = c .before in let r = entry f .pre .0 in
+    (r .few, f .first-begins .ensures .1, λ i e l t. omega (arith, onward r (c .ends-at .ensures) (f .first-begins .ensures .0) i e l t, r .moments))
+
+ends-at-requires : tie.Need-ends-at-requires
+ends-at-requires c κs = let r = entry c .pre .0 in
+    (r .few, r .conditions, λ d l. let n = r .named d l in (omega (arith, n .0, r .few), omega (arith, n .1, r .few)), c .first-begins .ensures .1)
+
+returns : tie.Need-returns
+returns c =
+    let u = c .before .before in
+    let g = u .before in
+    let k = reads g in (
+      record {
+        upto = refl;
+        kept = λ e t. in-union (u .union .ensures) e .1 (inl t);
+        reads = λ e t. ⊎-elim inl (λ v. let r = k e v in inr (record { bs = _; es = r .es; masked = r .masked })) (in-union (u .union .ensures) e .0 t);
+        begins = λ h t. k _ (record { yes = sym (c .before .has .ensures) ∙ c .if1 .taken });
+        small = λ h e t. ⊎-elim (h e) (small g e) (in-union (u .union .ensures) e .0 t);
+        moments = λ h. g .before .before .first-begins .ensures .1;
+      },
+      λ goes later bounds e bs es l h. in-union (u .union .ensures) e .1 (inr (finds g goes later bounds e bs es l h)),
+    )
+
+returns-2 : tie.Need-returns-2
+returns-2 c =
+    let u = c .before .before in
+    let g = u .before in
+    let k = reads g in (
+      record {
+        upto = refl;
+        kept = λ e t. in-union (u .union .ensures) e .1 (inl t);
+        reads = λ e t. ⊎-elim inl (λ v. let r = k e v in inr (record { bs = _; es = r .es; masked = r .masked })) (in-union (u .union .ensures) e .0 t);
+        begins = λ h t. ⊎-elim h (λ v. not-both (v .yes) (sym (c .before .has .ensures) ∙ c .if1 .left)) (in-union (u .union .ensures) _ .0 t);
+        small = λ h e t. ⊎-elim (h e) (small g e) (in-union (u .union .ensures) e .0 t);
+        moments = λ h. h;
+      },
+      λ goes later bounds e bs es l h. in-union (u .union .ensures) e .1 (inr (finds g goes later bounds e bs es l h)),
+    )
+
+pub leaf-spec : {M : Type 1} → statement M
+leaf-spec =
+    tie.close
+    (tie.spec (λ c κs. let r = c .before .before .before .pre .0 in (r .few, r .forward, r .moments)) ends-at-requires covered-requires
+    (λ c κs. search needs) (λ c κs. let r = entry (c .before .before .before) .pre .0 in r .moments) returns returns-2)

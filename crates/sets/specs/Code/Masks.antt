@@ -1,0 +1,31 @@
+-- Between functions: the masks of moments that the conditions of a set allow.
+use Prim.Native.Nat.{ℕ, _+_, _*_, _≤_, _<_}
+use mathlib.Core.Path.{_≡_}
+use mathlib.Core.Logic.{_↔_}
+use mathlib.Core.List.{List}
+use lib.ListN.{length, getD}
+use Rattle.bitset.specs.Code.Members.{In}
+use Rattle.words.specs.Fields.{holds, conditionI, conditionJ}
+use Rattle.model.specs.Forms.{ConditionForm}
+use Rattle.sets.specs.Set.{MetAs}
+use Rattle.sets.specs.Code.Rows.{entryAt}
+use Rattle.sets.specs.Code.Search.{MetByMask}
+
+-- the moments up to n at which formula k does not hold
+abbrev pub Failing : (ℕ → ℕ → ℕ) → ℕ → ℕ → ℕ → Type 0
+Failing value k n r = (t : ℕ) → In r t ↔ ((t ≤ n) × (value k t ≡ holds → ⊥))
+
+-- the moments y of a..z at which a condition of form f, on formula k with M and N, is met, where member j begins at x
+abbrev pub MaskOf : ConditionForm → (ℕ → ℕ → ℕ) → ℕ → ℕ → ℕ → ℕ → ℕ → ℕ → ℕ → ℕ → Type 0
+MaskOf f value n k M N a z x r = (y : ℕ) → In r y ↔ ((a ≤ y) × (y ≤ z) × MetAs f value n k M N y y x)
+
+-- what the conditions need of the begins and masks of the members
+pub record Narrowable (cs begins ends : List ℕ) : Type 0 where
+  pub few : length cs ≤ 8
+  pub named : (c : ℕ) → c < length cs → (conditionI (getD cs c 0) < 4) × (conditionJ (getD cs c 0) < 4)
+  pub moments : (i : ℕ) → entryAt begins i < 64
+  pub small : (i e : ℕ) → In (entryAt ends i) e → e < 64
+
+-- the masks `new` are the masks `old` with the first c conditions
+pub record Narrowed (cs allow begins old : List ℕ) (c : ℕ) (new : List ℕ) : Type 0 where
+  pub mask : (i e : ℕ) → In (entryAt new i) e ↔ (In (entryAt old i) e × ((d : ℕ) → d < c → conditionI (getD cs d 0) ≡ i → MetByMask cs allow (entryAt begins) d e))

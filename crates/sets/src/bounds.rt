@@ -1,0 +1,204 @@
+// Bounds on begins by ends: where a condition ties the end of member w to the begin of member j, the begins of j with which w may still end at a
+// moment or later, and at a moment or sooner.
+ghost use mathlib.Core.Path.{_≡_};
+ghost use Prim.Native.Nat.{ℕ, _+_, _*_, _<_, _≤_};
+ghost use lib.ListN.{length, getD};
+ghost use Rattle.bitset.specs.Code.Members.{In, Highest};
+ghost use Rattle.sets.specs.Code.Rows.{entryAt};
+ghost use Rattle.sets.specs.Code.Search.{EndsHave, Within, BoundsHave, Fits};
+ghost use Rattle.sets.specs.Code.Bounds.{Grows, Marked, Bounded};
+use crate::search;
+use words::MOMENTS;
+
+// Marks begin y in row p at the last and at the first of its ends.
+fn mark(p: usize, y: u32, mask: u64, bounds: &mut [u64; 2052])
+    requires { ⌜ (p < 16) × (y < 64) × (length (now bounds) ≡ 2052) ⌝ }
+    ensures { λ _. ⌜ Grows (now (bounds .entry)) (now (bounds .exit)) × ((e : ℕ) → In mask e → Marked (now (bounds .exit)) p y e) ⌝ }
+{
+    if mask == 0 {
+        return;
+    }
+    let begin = bitset::single(y);
+    let late = p * MOMENTS + bitset::highest(mask) as usize;
+    bounds[late] = bitset::union(bounds[late], begin);
+    let soon = 1024 + p * MOMENTS + bitset::lowest(mask) as usize;
+    bounds[soon] = bitset::union(bounds[soon], begin);
+}
+
+// Does so for the begins from a to z, by the ends in row p of the table.
+fn mark_pair(ends: &[u64; 1024], p: usize, a: u32, z: u32, bounds: &mut [u64; 2052])
+    requires { ⌜ (p < 16) × (a ≤ z) × (z < 64) × (length (now bounds) ≡ 2052) ⌝ }
+    ensures { λ _. ⌜ Grows (now (bounds .entry)) (now (bounds .exit)) × ((y e : ℕ) → a ≤ y → y ≤ z → a ≤ e → e ≤ z → In (getD (now (ends .entry)) (p * 64 + y) 0) e → Marked (now (bounds .exit)) p y e) ⌝ }
+{
+    let window = bitset::between(a, z);
+    let mut y = a;
+    while y <= z {
+        let mask = bitset::inter(ends[p * MOMENTS + y as usize], window);
+        mark(p, y, mask, bounds);
+        y += 1;
+    }
+}
+
+// Adds to each of 64 entries what the entries after it have.
+fn join_down(base: usize, bounds: &mut [u64; 2052])
+    requires { ⌜ (base ≤ 1984) × (length (now bounds) ≡ 2052) ⌝ }
+    ensures { λ _. ⌜ Grows (now (bounds .entry)) (now (bounds .exit)) × ((d e y : ℕ) → d ≤ e → e < 64 → In (getD (now (bounds .entry)) (base + e) 0) y → In (getD (now (bounds .exit)) (base + d) 0) y) ⌝ }
+{
+    let mut e = 63;
+    while 0 < e {
+        let later = bounds[base + e];
+        e -= 1;
+        bounds[base + e] = bitset::union(bounds[base + e], later);
+    }
+}
+
+// Adds to each of 64 entries what the entries before it have.
+fn join_up(base: usize, bounds: &mut [u64; 2052])
+    requires { ⌜ (base ≤ 1984) × (length (now bounds) ≡ 2052) ⌝ }
+    ensures { λ _. ⌜ Grows (now (bounds .entry)) (now (bounds .exit)) × ((d e y : ℕ) → e ≤ d → d < 64 → In (getD (now (bounds .entry)) (base + e) 0) y → In (getD (now (bounds .exit)) (base + d) 0) y) ⌝ }
+{
+    let mut e = 0;
+    while e < 63 {
+        let sooner = bounds[base + e];
+        e += 1;
+        bounds[base + e] = bitset::union(bounds[base + e], sooner);
+    }
+}
+
+// The bounds of row p.
+fn fill_pair(ends: &[u64; 1024], p: usize, a: u32, z: u32, bounds: &mut [u64; 2052])
+    requires { ⌜ (p < 16) × (a ≤ z) × (z < 64) × (length (now bounds) ≡ 2052) ⌝ }
+    ensures { λ _. ⌜ Grows (now (bounds .entry)) (now (bounds .exit)) × ((y e : ℕ) → a ≤ y → y ≤ z → a ≤ e → e ≤ z → In (getD (now (ends .entry)) (p * 64 + y) 0) e → Bounded (now (bounds .exit)) p y e) ⌝ }
+{
+    mark_pair(ends, p, a, z, bounds);
+    join_down(p * MOMENTS, bounds);
+    join_up(1024 + p * MOMENTS, bounds);
+}
+
+// Whether some condition ties the end of member w to the begin of member j.
+fn tied(conds: &[u32], w: usize, j: usize) -> bool {
+    let mut c = 0;
+    while c < conds.len() {
+        let word = conds[c];
+        if words::condition_i(word) == w {
+            if words::condition_j(word) == j {
+                match words::form_of(word) {
+                    1 => return true,
+                    4 => return true,
+                    _ => {}
+                }
+            }
+        }
+        c += 1;
+    }
+    false
+}
+
+// The bounds of the pair (w, j), where its members are different and tied.
+fn fill_tied(
+    conds: &[u32],
+    ends: &[u64; 1024],
+    count: usize,
+    w: usize,
+    j: usize,
+    a: u32,
+    z: u32,
+    bounds: &mut [u64; 2052],
+)
+    requires { ⌜ (count ≤ 4) × (w < count) × (a ≤ z) × (z < 64) × (length (now bounds) ≡ 2052) ⌝ }
+    ensures { λ _. ⌜ (length (now (bounds .exit)) ≡ 2052) × ((bs es : ℕ → ℕ) → Within count a z bs es → EndsHave count (now (ends .entry)) bs es → BoundsHave count (now (bounds .entry)) bs es → BoundsHave count (now (bounds .exit)) bs es) ⌝ }
+{
+    if count <= j {
+        return;
+    }
+    if w == j {
+        return;
+    }
+    if tied(conds, w, j) {
+        fill_pair(ends, w * 4 + j, a, z, bounds);
+        bounds[2048 + j] = bitset::union(bounds[2048 + j], bitset::single(w as u32));
+    }
+}
+
+// The bounds of all pairs.
+pub fn fill(
+    conds: &[u32],
+    ends: &[u64; 1024],
+    count: usize,
+    a: u32,
+    z: u32,
+    bounds: &mut [u64; 2052],
+)
+    requires { ⌜ (count ≤ 4) × (a ≤ z) × (z < 64) × (length (now bounds) ≡ 2052) × ((q : ℕ) → getD (now bounds) q 0 ≡ 0) ⌝ }
+    ensures { λ _. ⌜ ((bs es : ℕ → ℕ) → Within count a z bs es → EndsHave count (now (ends .entry)) bs es → BoundsHave count (now (bounds .exit)) bs es) ⌝ }
+{
+    let mut p = 0;
+    while p < count * 4 {
+        fill_tied(conds, ends, count, p / 4, p % 4, a, z, bounds);
+        p += 1;
+    }
+}
+
+// The begins of row p with which an end may be one of `ends`.
+fn beside(bounds: &[u64; 2052], p: usize, ends: u64) -> u64
+    requires { ⌜ p < 16 ⌝ }
+    ensures { λ r. ⌜ ((y e : ℕ) → In ends e → Bounded (now (bounds .entry)) p y e → In r y) ⌝ }
+{
+    if ends == 0 {
+        return 0;
+    }
+    let late = bounds[p * MOMENTS + bitset::lowest(ends) as usize];
+    let soon = bounds[1024 + p * MOMENTS + bitset::highest(ends) as usize];
+    bitset::inter(late, soon)
+}
+
+// What the ends of all members leave of the begins of member j.
+fn bounded(bounds: &[u64; 2052], count: usize, j: usize, begins: u64, ends: [u64; 4]) -> u64
+    requires { ⌜ (count ≤ 4) × (j < count) ⌝ }
+    ensures { λ r. ⌜ ((bs es : ℕ → ℕ) → BoundsHave count (now (bounds .entry)) bs es → In begins (bs j) → ((i : ℕ) → i < count → In (entryAt ends i) (es i)) → In r (bs j)) × ((x : ℕ) → In r x → In begins x) ⌝ }
+{
+    let mut r = begins;
+    let mut rest = bitset::inter(bounds[2048 + j], bitset::upto(count as u32 - 1));
+    while rest != 0 {
+        let w = bitset::lowest(rest) as usize;
+        r = bitset::inter(r, beside(bounds, w * 4 + j, ends[w]));
+        rest = bitset::drop_lowest(rest);
+    }
+    r
+}
+
+// The set with the begins that the bounds leave. It has no ends where they leave none.
+pub fn tighten(bounds: &[u64; 2052], count: usize, state: search::Open) -> search::Open
+    requires { ⌜ (count ≤ 4) × (state .last < count) ⌝ }
+    ensures { λ r. ⌜ (r .from ≡ state .from) × (r .last ≡ state .last) × (r .left ≡ state .left) × ((bs es : ℕ → ℕ) → BoundsHave count (now (bounds .entry)) bs es → Fits count state bs es → Fits count r bs es) ⌝ }
+{
+    let from = state.from;
+    let last = state.last;
+    let left = state.left;
+    let mut begins = state.begins;
+    let ends = state.ends;
+    let mut j = 0;
+    while j < count {
+        if bounds[2048 + j] != 0 {
+            let kept = bounded(bounds, count, j, begins[j], ends);
+            if kept == 0 {
+                return search::Open {
+                    from,
+                    last,
+                    left,
+                    begins,
+                    ends: [0; 4],
+                };
+            }
+            begins[j] = kept;
+        }
+        j += 1;
+    }
+    search::Open {
+        from,
+        last,
+        left,
+        begins,
+        ends,
+    }
+}

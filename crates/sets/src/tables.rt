@@ -1,0 +1,299 @@
+// The tables of a set for the moments a..z: the masks of its conditions, and by pairs of members the ends of i where j begins at y, the begins
+// of j where i begins at x, and the ends of i begun at x or later. They leave out what no placement has.
+ghost use mathlib.Core.Path.{_≡_};
+ghost use mathlib.Core.Bool.{true};
+ghost use mathlib.Core.Logic.{_↔_};
+ghost use Prim.Native.Nat.{ℕ, _+_, _*_, _<_, _≤_};
+ghost use lib.ListN.{length, getD};
+ghost use Rattle.bitset.specs.Code.Members.{In};
+ghost use Rattle.words.specs.Fields.{memberNode, conditionI, conditionJ};
+ghost use Rattle.sets.specs.Set.{memberCount};
+ghost use Rattle.sets.specs.Code.Set.{member, Formed};
+ghost use Rattle.sets.specs.Code.Rows.{taskSetOf};
+ghost use Rattle.model.specs.Code.Table.{InTable};
+ghost use Rattle.sets.specs.Code.Search.{pairAt, MetAtMask, MetByMask, EndsHave, GoesHave, Have, Fewer, Cut, Within, Full, Tables};
+use crate::conditions;
+use words::MOMENTS;
+
+// Leaves out of row p of a table, from a to z, what the masks of condition c leave out.
+fn cut(table: &mut [u64; 1024], p: usize, allow: &[u64; 512], c: usize, a: u32, z: u32)
+    requires { ⌜ (p < 16) × (c < 8) × (a ≤ z) × (z < 64) ⌝ }
+    ensures { λ _. ⌜ Cut (now (table .entry)) p (now (allow .entry)) c a z (now (table .exit)) ⌝ }
+{
+    let mut y = a as usize;
+    while y <= z as usize {
+        table[p * MOMENTS + y] = bitset::inter(table[p * MOMENTS + y], allow[c * MOMENTS + y]);
+        y += 1;
+    }
+}
+
+// Leaves out what condition c, of word w, leaves out: begins of i where its partner begins at y, or ends of i.
+fn cut_for(
+    w: u32,
+    c: usize,
+    allow: &[u64; 512],
+    a: u32,
+    z: u32,
+    ends: &mut [u64; 1024],
+    goes: &mut [u64; 1024],
+)
+    requires { ⌜ (c < 8) × (conditionI w < 4) × (conditionJ w < 4) × (a ≤ z) × (z < 64) ⌝ }
+    ensures { λ _. ⌜ ((count : ℕ) (bs es : ℕ → ℕ) → Within count a z bs es → count ≤ 4 → conditionI w < count → conditionJ w < count → MetAtMask w (now (allow .entry)) bs c (es (conditionI w)) → Have (now (ends .entry)) (now (goes .entry)) count bs es → Have (now (ends .exit)) (now (goes .exit)) count bs es) ⌝ }
+{
+    let form = words::form_of(w);
+    let i = words::condition_i(w);
+    let j = conditions::partner(form, i, words::condition_j(w));
+    match form {
+        0 => cut(goes, j * 4 + i, allow, c, a, z),
+        2 => cut(goes, j * 4 + i, allow, c, a, z),
+        _ => cut(ends, i * 4 + j, allow, c, a, z),
+    }
+}
+
+// Leaves out what the conditions leave out.
+fn cut_all(
+    conds: &[u32],
+    allow: &[u64; 512],
+    a: u32,
+    z: u32,
+    ends: &mut [u64; 1024],
+    goes: &mut [u64; 1024],
+)
+    requires { ⌜ (length (now conds) ≤ 8) × ((c : ℕ) → c < length (now conds) → (conditionI (getD (now conds) c 0) < 4) × (conditionJ (getD (now conds) c 0) < 4)) × (a ≤ z) × (z < 64) ⌝ }
+    ensures { λ _. ⌜ ((count : ℕ) (bs es : ℕ → ℕ) → Within count a z bs es → count ≤ 4 → ((c : ℕ) → c < length (now (conds .entry)) → (conditionI (getD (now (conds .entry)) c 0) < count) × (conditionJ (getD (now (conds .entry)) c 0) < count) × MetByMask (now (conds .entry)) (now (allow .entry)) bs c (es (conditionI (getD (now (conds .entry)) c 0)))) → Have (now (ends .entry)) (now (goes .entry)) count bs es → Have (now (ends .exit)) (now (goes .exit)) count bs es) ⌝ }
+{
+    let mut c = 0;
+    while c < conds.len() {
+        cut_for(conds[c], c, allow, a, z, ends, goes);
+        c += 1;
+    }
+}
+
+// The row of member i, of node m, from x, as far as the tables and z allow.
+fn own_row(
+    table: &[u64],
+    m: usize,
+    i: usize,
+    x: u32,
+    z: u32,
+    ends: &[u64; 1024],
+    goes: &[u64; 1024],
+) -> u64
+    requires { ⌜ (m * 64 + 64 ≤ length (now table)) × (i < 4) × (x < 64) × (z < 64) ⌝ }
+    ensures { λ r. ⌜ ((e : ℕ) → In r e ↔ (InTable (now (table .entry)) m x e × (x ≤ e) × (e ≤ z) × In (pairAt (now (ends .entry)) i i x) e × In (pairAt (now (goes .entry)) i i x) x)) ⌝ }
+{
+    let p = (i * 4 + i) * MOMENTS + x as usize;
+    if !bitset::has(goes[p], x) {
+        return 0;
+    }
+    let row = bitset::inter(table[m * MOMENTS + x as usize], bitset::between(x, z));
+    bitset::inter(row, ends[p])
+}
+
+// Puts the own rows of all members on the diagonal of `ends`.
+fn fill_own(members: &[u32], table: &[u64], z: u32, goes: &[u64; 1024], ends: &mut [u64; 1024])
+    requires { ⌜ (length (now members) ≤ 4) × ((i : ℕ) → i < length (now members) → memberNode (getD (now members) i 0) * 64 + 64 ≤ length (now table)) × (z < 64) ⌝ }
+    ensures { λ _. ⌜ ((i x e : ℕ) → i < length (now (members .entry)) → x < 64 → In (pairAt (now (ends .exit)) i i x) e → InTable (now (table .entry)) (memberNode (getD (now (members .entry)) i 0)) x e × (x ≤ e) × (e ≤ z)) × ((bs es : ℕ → ℕ) → Within (length (now (members .entry))) 0 z bs es → ((i : ℕ) → i < length (now (members .entry)) → InTable (now (table .entry)) (memberNode (getD (now (members .entry)) i 0)) (bs i) (es i)) → GoesHave (length (now (members .entry))) (now (goes .entry)) bs → EndsHave (length (now (members .entry))) (now (ends .entry)) bs es → EndsHave (length (now (members .entry))) (now (ends .exit)) bs es) ⌝ }
+{
+    let mut p = 0;
+    while p < members.len() * MOMENTS {
+        let x = (p % 64) as u32;
+        let m = words::member_node(members[p / 64]);
+        ends[(p / 64) * 320 + p % 64] = own_row(table, m, p / 64, x, z, ends, goes);
+        p += 1;
+    }
+}
+
+// Whether members i and j, begun at x and y, may both end, and each may begin where the other does.
+fn together(ends: &[u64; 1024], goes: &[u64; 1024], i: usize, x: u32, j: usize, y: u32) -> bool
+    requires { ⌜ (i < 4) × (j < 4) × (x < 64) × (y < 64) ⌝ }
+    ensures { λ r. ⌜ ((d e : ℕ) → In (pairAt (now (ends .entry)) i i x) d → In (pairAt (now (ends .entry)) i j y) d → In (pairAt (now (ends .entry)) j j y) e → In (pairAt (now (ends .entry)) j i x) e → In (pairAt (now (goes .entry)) j i y) x → r ≡ true) ⌝ }
+{
+    let u = x as usize;
+    let v = y as usize;
+    if bitset::inter(
+        ends[(i * 4 + i) * MOMENTS + u],
+        ends[(i * 4 + j) * MOMENTS + v],
+    )
+        == 0
+    {
+        return false;
+    }
+    if bitset::inter(
+        ends[(j * 4 + j) * MOMENTS + v],
+        ends[(j * 4 + i) * MOMENTS + u],
+    )
+        == 0
+    {
+        return false;
+    }
+    bitset::has(goes[(j * 4 + i) * MOMENTS + v], x)
+}
+
+// The begins of member j, where member i begins at x, with which both may end.
+fn partners(ends: &[u64; 1024], goes: &[u64; 1024], i: usize, x: u32, j: usize) -> u64
+    requires { ⌜ (i < 4) × (j < 4) × (x < 64) ⌝ }
+    ensures { λ r. ⌜ ((y d e : ℕ) → In (pairAt (now (goes .entry)) i j x) y → In (pairAt (now (ends .entry)) i i x) d → In (pairAt (now (ends .entry)) i j y) d → In (pairAt (now (ends .entry)) j j y) e → In (pairAt (now (ends .entry)) j i x) e → In (pairAt (now (goes .entry)) j i y) x → In r y) ⌝ }
+{
+    if ends[(i * 4 + i) * MOMENTS + x as usize] == 0 {
+        return 0;
+    }
+    let mut r = 0;
+    let mut rest = goes[(i * 4 + j) * MOMENTS + x as usize];
+    while rest != 0 {
+        let y = bitset::lowest(rest);
+        if together(ends, goes, i, x, j, y) {
+            r = bitset::union(r, bitset::single(y));
+        }
+        rest = bitset::drop_lowest(rest);
+    }
+    r
+}
+
+// The ends of member i where member j has one of these begins.
+fn some_ends(ends: &[u64; 1024], i: usize, j: usize, begins: u64) -> u64
+    requires { ⌜ (i < 4) × (j < 4) ⌝ }
+    ensures { λ r. ⌜ ((y e : ℕ) → In begins y → In (pairAt (now (ends .entry)) i j y) e → In r e) ⌝ }
+{
+    let mut r = 0;
+    let mut rest = begins;
+    while rest != 0 {
+        r = bitset::union(
+            r,
+            ends[(i * 4 + j) * MOMENTS + bitset::lowest(rest) as usize],
+        );
+        rest = bitset::drop_lowest(rest);
+    }
+    r
+}
+
+// Leaves out, for the pair of members i and j, the begins of j with which no ends of both are left, and the ends of i with which no begin of j
+// is left.
+fn cut_pair(i: usize, j: usize, a: u32, z: u32, ends: &mut [u64; 1024], goes: &mut [u64; 1024])
+    requires { ⌜ (i < 4) × (j < 4) × (a ≤ z) × (z < 64) ⌝ }
+    ensures { λ _. ⌜ Fewer (now (ends .entry)) (now (ends .exit)) × ((count : ℕ) (bs es : ℕ → ℕ) → i < count → j < count → count ≤ 4 → Within count a z bs es → Have (now (ends .entry)) (now (goes .entry)) count bs es → Have (now (ends .exit)) (now (goes .exit)) count bs es) ⌝ }
+{
+    let mut x = a;
+    while x <= z {
+        let begins = partners(ends, goes, i, x, j);
+        goes[(i * 4 + j) * MOMENTS + x as usize] = begins;
+        let p = (i * 4 + i) * MOMENTS + x as usize;
+        ends[p] = bitset::inter(ends[p], some_ends(ends, i, j, begins));
+        x += 1;
+    }
+}
+
+// Whether some condition is on members i and j.
+fn tied(conds: &[u32], i: usize, j: usize) -> bool {
+    let mut c = 0;
+    while c < conds.len() {
+        let w = conds[c];
+        let k = words::condition_i(w);
+        let l = conditions::partner(words::form_of(w), k, words::condition_j(w));
+        if k == i {
+            if l == j {
+                return true;
+            }
+        }
+        if k == j {
+            if l == i {
+                return true;
+            }
+        }
+        c += 1;
+    }
+    false
+}
+
+// Does so for a pair of different members of the set that a condition is on.
+fn cut_tied(
+    conds: &[u32],
+    count: usize,
+    i: usize,
+    j: usize,
+    a: u32,
+    z: u32,
+    ends: &mut [u64; 1024],
+    goes: &mut [u64; 1024],
+)
+    requires { ⌜ (count ≤ 4) × (i < count) × (a ≤ z) × (z < 64) ⌝ }
+    ensures { λ _. ⌜ Fewer (now (ends .entry)) (now (ends .exit)) × ((bs es : ℕ → ℕ) → Within count a z bs es → Have (now (ends .entry)) (now (goes .entry)) count bs es → Have (now (ends .exit)) (now (goes .exit)) count bs es) ⌝ }
+{
+    if count <= j {
+        return;
+    }
+    if i == j {
+        return;
+    }
+    if tied(conds, i, j) {
+        cut_pair(i, j, a, z, ends, goes);
+    }
+}
+
+// Does so for each pair.
+fn cut_pairs(
+    conds: &[u32],
+    count: usize,
+    a: u32,
+    z: u32,
+    ends: &mut [u64; 1024],
+    goes: &mut [u64; 1024],
+)
+    requires { ⌜ (count ≤ 4) × (a ≤ z) × (z < 64) ⌝ }
+    ensures { λ _. ⌜ Fewer (now (ends .entry)) (now (ends .exit)) × ((bs es : ℕ → ℕ) → Within count a z bs es → Have (now (ends .entry)) (now (goes .entry)) count bs es → Have (now (ends .exit)) (now (goes .exit)) count bs es) ⌝ }
+{
+    let mut p = 0;
+    while p < count * 4 {
+        cut_tied(conds, count, p / 4, p % 4, a, z, ends, goes);
+        p += 1;
+    }
+}
+
+// The ends of member i begun at x or later, for each x from z down to a.
+fn fill_later_row(ends: &[u64; 1024], i: usize, a: u32, z: u32, later: &mut [u64; 256])
+    requires { ⌜ (i < 4) × (a ≤ z) × (z < 64) × (length (now later) ≡ 256) ⌝ }
+    ensures { λ _. ⌜ ((x y e : ℕ) → a ≤ x → x ≤ y → y ≤ z → In (pairAt (now (ends .entry)) i i y) e → In (getD (now (later .exit)) (i * 64 + x) 0) e) × ((p : ℕ) → p < i * 64 → getD (now (later .exit)) p 0 ≡ getD (now (later .entry)) p 0) × (length (now (later .exit)) ≡ 256) ⌝ }
+{
+    let mut all = 0;
+    let mut x = z as usize + 1;
+    while (a as usize) < x {
+        x -= 1;
+        all = bitset::union(all, ends[(i * 4 + i) * MOMENTS + x]);
+        later[i * MOMENTS + x] = all;
+    }
+}
+
+fn fill_later(ends: &[u64; 1024], count: usize, a: u32, z: u32, later: &mut [u64; 256])
+    requires { ⌜ (count ≤ 4) × (a ≤ z) × (z < 64) × (length (now later) ≡ 256) ⌝ }
+    ensures { λ _. ⌜ ((i x y e : ℕ) → i < count → a ≤ x → x ≤ y → y ≤ z → In (pairAt (now (ends .entry)) i i y) e → In (getD (now (later .exit)) (i * 64 + x) 0) e) ⌝ }
+{
+    let mut i = 0;
+    while i < count {
+        fill_later_row(ends, i, a, z, later);
+        i += 1;
+    }
+}
+
+// All tables of the set.
+pub fn fill(
+    members: &[u32],
+    conds: &[u32],
+    values: &[u8; 4096],
+    table: &[u64],
+    a: u32,
+    z: u32,
+    n: u32,
+    allow: &mut [u64; 512],
+    ends: &mut [u64; 1024],
+    goes: &mut [u64; 1024],
+    later: &mut [u64; 256],
+)
+    requires { ⌜ Formed (taskSetOf (now members) (now conds) (now values) n) × ((i : ℕ) → i < memberCount (taskSetOf (now members) (now conds) (now values) n) → member (taskSetOf (now members) (now conds) (now values) n) i * 64 + 64 ≤ length (now table)) × (a ≤ z) × (z ≤ n) × Full (now ends) × Full (now goes) × (length (now allow) ≡ 512) × (length (now later) ≡ 256) ⌝ }
+    ensures { λ _. ⌜ Tables (taskSetOf (now (members .entry)) (now (conds .entry)) (now (values .entry)) n) (InTable (now (table .entry))) a z (now (allow .exit)) (now (ends .exit)) (now (goes .exit)) (now (later .exit)) ⌝ }
+{
+    conditions::fill_allowed(values, conds, a, z, n, allow);
+    cut_all(conds, allow, a, z, ends, goes);
+    fill_own(members, table, z, goes, ends);
+    cut_pairs(conds, members.len(), a, z, ends, goes);
+    fill_later(ends, members.len(), a, z, later);
+}
