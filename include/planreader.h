@@ -19,8 +19,9 @@
  * lawful input: there is nothing to test before a call, and no call relies on an earlier one. The buffer lent to a call is the caller's
  * again when it returns, and need not be cleared before it is lent a second time.
  *
- * Time: find takes at most 1 s on the hardest jobs that were tried, a few ms on ordinary ones; check and fill take a few ms. It can't be
- * stopped on its way; a host that must stay responsive calls it on a thread of its own.
+ * Time, measured, not proved: find takes about 0.1 ms on an ordinary door, and about 0.15 s on the slowest single task set that a search of
+ * an hour found. No job that the project's bench tries takes more than 0.25 s on the machine measured, and it fails above 1 s. check and fill
+ * take a few ms. A call can't be stopped on its way; a host that must stay responsive calls find on a thread of its own.
  *
  * Each call returns one 64-bit number: refusal number, 0 for success, in bits 63..56; position, counted from 0 within the list
  * concerned, in 55..40; length in 39..24; count in 23..0.
@@ -46,7 +47,7 @@ extern "C" {
 
 #define PLANREADER_BUFFER_WORDS 4096u /* a shorter buffer is refusal 12 */
 #define PLANREADER_JOB_WORDS 2048u /* a longer job is refusal 1 */
-#define PLANREADER_STACK 131072u /* bytes: what the tests measured, rounded up */
+#define PLANREADER_STACK 196608u /* bytes: what the tests measured, rounded up */
 
 #ifdef PLANREADER_PREFIXED
 #define PLANREADER_CALL(name) planreader_##name

@@ -88,7 +88,7 @@ static uint32_t large_job[JOB_WORDS], large_starts[STARTS], large_facts[4096];
 
 static uint32_t large_reading[4096];
 
-/* A chain of 63 task sets of one member each, n = 0, so that writing the reading goes as deep as it can. */
+/* A task set of four members in a chain of 59 task sets of one member each, n = 0, so that writing the reading and placing the members go as deep as they can. */
 static void deep(void)
 {
     static uint32_t chain[4 + 63 * 2], reading[4096];
@@ -96,8 +96,10 @@ static void deep(void)
     chain[n++] = 0x10010100u;
     chain[n++] = 0x30000001u;
     chain[n++] = 0x50000000u;
-    chain[n++] = 0x61000000u;
-    for (uint32_t p = 1; p < 64; p++) {
+    for (uint32_t p = 0; p < 4; p++) chain[n++] = 0x61000000u;
+    chain[n++] = 0x68000000u;
+    for (uint32_t p = 0; p < 4; p++) chain[n++] = 0x70000000u | p;
+    for (uint32_t p = 5; p < 64; p++) {
         chain[n++] = 0x68000000u;
         chain[n++] = 0x70000000u | (p - 1);
     }
