@@ -82,6 +82,9 @@ fn own_row(
     requires { ⌜ (m * 64 + 64 ≤ length (now table)) × (i < 4) × (x < 64) × (z < 64) ⌝ }
     ensures { λ r. ⌜ ((e : ℕ) → In r e ↔ (InTable (now (table .entry)) m x e × (x ≤ e) × (e ≤ z) × In (pairAt (now (ends .entry)) i i x) e × In (pairAt (now (goes .entry)) i i x) x)) ⌝ }
 {
+    if z < x {
+        return 0;
+    }
     let p = (i * 4 + i) * MOMENTS + x as usize;
     if !bitset::has(goes[p], x) {
         return 0;

@@ -22,7 +22,13 @@ Inv-loop members conds values p n table₀ every allow ends goes later bounds co
 abbrev μ-loop : tie.MeasureT-loop
 μ-loop members conds values p n table₀ every allow ends goes later bounds count b₀ table b = n + 1 - b
 
--- the tables, seen from the loop, and the function's entry
+-- the turn of a row and the loop's head, seen from the row that was found; the tables, seen from the loop, and the function's entry
+abbrev turn : tie.After-row Inv-loop μ-loop → tie.In-loop Inv-loop μ-loop
+turn c = c .before .before .before .before .before .before .before
+
+abbrev loop : tie.After-row Inv-loop μ-loop → tie.At-loop Inv-loop μ-loop
+loop c = turn c .before
+
 abbrev tables : tie.At-loop Inv-loop μ-loop → tie.After-fill Inv-loop μ-loop
 tables l = l .before .before .before .before
 
@@ -51,10 +57,10 @@ row-requires c κs =
     (ready-from (omega arith) (omega (arith, c .before .before .before .before .before .before .loop-test .taken)) (tables l .fill .ensures .ready))
 
 -- what is found is what the set reads to
-found : (c : tie.After-row Inv-loop μ-loop) (e : ℕ) → let l = c .before .before .before .before .before .before .before .before in let a = entry (tables l) .args in
+found : (c : tie.After-row Inv-loop μ-loop) (e : ℕ) → let l = loop c in let a = entry (tables l) .args in
     In (c .row .result .ends) e ↔ SetRule (taskSetOf (a .members .now) (a .conds .now) (a .values .now) (a .n)) (InTable (a .table .now)) (l .loop .b) e
 found c e =
-    let l = c .before .before .before .before .before .before .before .before in
+    let l = loop c in
     let t = tables l in
     let r = row-found (l .before .fill2 .last .1 .1 .1 .1 .1 .0) _ (c .row .result) _ _ (length-map (entry t .args .members .now) memberNode) (t .fill .ensures) (omega arith) refl (l .before .fill2 .ensures) (c .row .ensures .0)
     (c .row .ensures .1) in
@@ -62,11 +68,11 @@ found c e =
 
 loop-again : tie.Need-loop-again Inv-loop μ-loop
 loop-again c =
-    let l = c .before .before .before .before .before .before .before .before in
+    let l = loop c in
     let s = entry (tables l) in
     let g = s .pre in
     let v = l .loop .inv in
-    let up : l .loop .b ≤ s .args .n = omega (arith, c .before .before .before .before .before .before .before .loop-test .taken) in (
+    let up : l .loop .b ≤ s .args .n = omega (arith, turn c .loop-test .taken) in (
       omega arith,
       rows-more (l .loop .b) (c .row .result .ends) (v .1) (omega (arith, g .room, v .1 .long)) up (g .formed .moments) (found c),
     )
@@ -75,13 +81,13 @@ between-requires : tie.Need-between-requires Inv-loop μ-loop
 between-requires c κs = let m = entry (tables (c .before)) .pre .formed .moments in (omega (arith, m, c .loop-test .taken), m)
 
 -- the place of the row in the table
-room : (c : tie.After-row Inv-loop μ-loop) → let l = c .before .before .before .before .before .before .before .before in let a = entry (tables l) .args in
+room : (c : tie.After-row Inv-loop μ-loop) → let l = loop c in let a = entry (tables l) .args in
     (a .p * 64 + l .loop .b < length (l .loop .table)) × (a .p * 64 + l .loop .b < 1152921504606846976)
 room c =
-    let l = c .before .before .before .before .before .before .before .before in
+    let l = loop c in
     let s = entry (tables l) in
     let g = s .pre in
-    let up : l .loop .b < 64 = omega (arith, g .formed .moments, c .before .before .before .before .before .before .before .loop-test .taken) in
+    let up : l .loop .b < 64 = omega (arith, g .formed .moments, turn c .loop-test .taken) in
     (omega (arith, g .room, l .loop .inv .1 .long), omega (arith, g .room, s .good .1 .1 .1 .1 .1 .0))
 
 pub set-rows-spec : {M : Type 1} → statement M
