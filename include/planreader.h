@@ -20,7 +20,7 @@
  * again when it returns, and need not be cleared before it is lent a second time.
  *
  * Time, measured, not proved: find takes about 0.1 ms on an ordinary door, and about 0.15 s on the slowest single task set that a search of
- * an hour found. No job that the project's bench tries takes more than 0.25 s on the machine measured, and it fails above 1 s. check and fill
+ * an hour found. No job whose time the tests measure takes more than 0.25 s on the machine measured, and they fail above 1 s. check and fill
  * take a few ms. A call can't be stopped on its way; a host that must stay responsive calls find on a thread of its own.
  *
  * Each call returns one 64-bit number: refusal number, 0 for success, in bits 63..56; position, counted from 0 within the list

@@ -1,7 +1,7 @@
 //! Find and the yardstick on generated sets: the same numbers and counts, and readings that the independent checker accepts.
 use crate::shapes::{facts, SET};
 use crate::slow::draws;
-use crate::time::best;
+use crate::time::{best, is_within};
 use crate::yardstick;
 use planreader_tests::checker::calls::read_plan;
 use planreader_tests::checker::readings::literal::{is_reading, Triple};
@@ -23,7 +23,7 @@ pub fn within_limits() -> bool {
     let small = (0..SMALL).filter(|_| agrees(&set_draws::any(&mut random).case()).is_some()).count();
     let wide: Vec<f64> = (0..WIDE).filter_map(|_| agrees(&draws::plan(&mut random).case())).collect();
     let slowest = wide.iter().copied().fold(0.0, f64::max);
-    let within = small == SMALL && wide.len() == WIDE && slowest <= SET;
+    let within = small == SMALL && wide.len() == WIDE && is_within(slowest, SET);
     let told = if within { "" } else { "  FAILED" };
     println!(
         "generated sets on which find and the yardstick agree: {small} of {SMALL}, wide ones {} of {WIDE}",

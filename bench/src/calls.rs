@@ -1,5 +1,5 @@
 //! Check and fill on the largest lawful plans, beside the independent checker.
-use crate::time::best;
+use crate::time::{best, is_within};
 use planreader_tests::words::{action, formula, head, initially, law, node, start};
 use planreader_tests::{checker::calls, host};
 
@@ -48,5 +48,5 @@ fn plan_within_limits(d: usize) -> bool {
     let (words, count) = (job.len(), starts.len());
     println!("{d:>3} {words:>6} {count:>6} {job_ms:>9.3} {check_ms:>9.3} {fill_ms:>9.3} {plain_check:>14.3} {plain_fill:>13.3}");
     let same = filled.number == 0 && checked == right && plain.0 == filled && plain.1 == facts;
-    same && job_ms <= JOB && check_ms <= CALL && fill_ms <= CALL
+    same && is_within(job_ms, JOB) && is_within(check_ms, CALL) && is_within(fill_ms, CALL)
 }

@@ -1,7 +1,7 @@
 //! Find beside the yardstick on all shapes: times, and for some instructions.
 use crate::instructions::{self, Finder};
 use crate::shapes::{self, facts, Shape};
-use crate::time::best;
+use crate::time::{best, is_within};
 use crate::yardstick;
 use planreader_tests::host;
 
@@ -17,7 +17,7 @@ fn shape_within_limits(shape: &Shape) -> bool {
     let (ms, found) = best(10, || host::find(&shape.job, &shape.starts, &facts, &mut buffer));
     let (plain_ms, plain) = best(10, || yardstick::find(&shape.job, &shape.starts));
     let same = (found.number == 0) == plain.reading.is_some() && found.count == plain.count;
-    let within = same && ms <= shape.most_ms;
+    let within = same && is_within(ms, shape.most_ms);
     let told = if within { "" } else { "  FAILED" };
     println!(
         "{ms:>9.3} {:>6} {plain_ms:>9.3}  {}: {}, {} triples, {} steps{told}",

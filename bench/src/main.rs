@@ -1,6 +1,6 @@
 //! Times of check, fill and find, beside the independent checker and the yardstick, and instructions counted by callgrind. Exits with 1
 //! where a limit is broken or answers differ.
-use planreader_bench::{agreement, calls, finds, instructions, plain};
+use planreader_bench::{agreement, calls, finds, instructions, plain, time};
 
 fn main() {
     let arguments: Vec<String> = std::env::args().skip(1).collect();
@@ -8,6 +8,10 @@ fn main() {
         assert_eq!(first, instructions::COUNTED, "the only arguments are those of a counted run");
         return instructions::run(shape, finder);
     }
+    println!(
+        "limits are multiplied by {:.2}: how slow this machine is beside the one on which they were set",
+        time::slowness()
+    );
     let parts = [
         calls::within_limits(),
         plain::agrees(),

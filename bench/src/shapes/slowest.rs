@@ -1,5 +1,5 @@
-//! The slowest sets that `slow-sets` found: in an hour by steps, of yardsticks with and without parts of the search, and in 25 minutes by
-//! the time of find.
+//! The slowest sets that `slow-sets` found: in an hour by steps, of yardsticks with and without parts of the search, and in 51 minutes by
+//! the time of find, the last 26 of them on the search as it is.
 use super::{Shape, SET};
 use planreader_tests::generate::sets::{Condition, Root, SetDraft, SetPlan, Span};
 
@@ -16,7 +16,7 @@ struct Slow {
 
 const ALL: u64 = u64::MAX;
 
-const SLOWEST: [Slow; 11] = [
+const SLOWEST: [Slow; 12] = [
     Slow {
         members: &[
             &[(0x3fffffff, ALL, 0, 63)],
@@ -275,6 +275,28 @@ const SLOWEST: [Slow; 11] = [
             [4, 2, 2, 0, 8, 0],
         ],
         moments: &[0xff00000000000000, 0xfffffff000000000, 0x4002528533aa811e, 0x200, 0xfbeaf6fcfddcc963, 0xffffff],
+    },
+    Slow {
+        members: &[
+            &[(ALL, ALL, 0, 0)],
+            &[(0xfff, 0x8000000000000000, 0, 63), (ALL, 0x4858203202840, 0, 63), (ALL, 0x8000000000000000, 0, 63)],
+            &[
+                (ALL, 0xffffffff7fffffff, 0, 63),
+                (0x82427463863085c, 0x3fffc000000000, 0, 63),
+                (0x8000000000000000, ALL, 0, 0),
+            ],
+            &[(ALL, ALL, 0, 0), (ALL, 0x200000, 0, 63)],
+        ],
+        conditions: &[
+            [1, 0, 2, 1, 0, 1],
+            [4, 2, 3, 2, 63, 8],
+            [4, 2, 3, 1, 63, 1],
+            [1, 0, 0, 0, 0, 63],
+            [2, 5, 3, 0, 1, 1],
+            [4, 1, 1, 2, 8, 1],
+            [4, 3, 2, 3, 0, 63],
+        ],
+        moments: &[0x800000, ALL, 0xffffffffffff8000, 0x5555555555555555, 0xffffffffc0000000, 0xfffffffff7ffffff],
     },
 ];
 
