@@ -15,16 +15,11 @@ use Rattle.bitset.specs.Code.Members.{has, In, Highest}
 use Rattle.bitset.proofs.Bools.{not-both, either}
 use Rattle.sets.specs.Code.Bounds.{Grows, Marked, Bounded}
 use Rattle.sets.specs.Code.Search.{BoundsHave}
+use Rattle.sets.proofs.Pairs.{in-kept}
 
 -- the entry that is written
 pub in-new : (l : List ℕ) (i v : ℕ) {k y : ℕ} → i < length l → k ≡ i → In v y → In (getD (set l i v) k 0) y
 in-new l i v {k} {y} room q t = rw (q, getD-set-same l i v 0 room) t
-
--- what an entry has it keeps, where the entry that is written does
-in-kept : (l : List ℕ) (i v : ℕ) → i < length l → ((y : ℕ) → In (getD l i 0) y → In v y) → (q y : ℕ) → In (getD l q 0) y → In (getD (set l i v) q 0) y
-in-kept l i v room more q y t = by-cases (ℕ-discrete q i)
-    (λ r. in-new l i v room r (more y (subst (λ (q : ℕ). In (getD l q 0) y) r t)))
-    (λ n. subst (λ (w : ℕ). In w y) (sym (getD-set-other l i q v 0 n)) t)
 
 -- nothing written, one entry written, and one step after the other
 pub grows-none : {l : List ℕ} → length l ≡ 2052 → Grows l l
@@ -33,7 +28,7 @@ grows-none q = record { long = q; kept = λ q y t. t; words = λ q g. refl }
 pub grows-set : {l : List ℕ} (i v : ℕ) → length l ≡ 2052 → i < 2048 → ((y : ℕ) → In (getD l i 0) y → In v y) → Grows l (set l i v)
 grows-set {l} i v long g more = record {
   long = simp length-set long;
-  kept = in-kept l i v (omega arith) more;
+  kept = λ q y t. in-kept l i v t (λ r. more y (subst (λ (k : ℕ). In (getD l k 0) y) r t));
   words = λ q h. getD-set-other l i q v 0 (omega arith);
 }
 
@@ -71,7 +66,7 @@ module _ {count : ℕ} {l m : List ℕ} {bs es : ℕ → ℕ} (w j v : ℕ) (sma
   after = set m (2048 + j) v
 
   more : (q y : ℕ) → In (getD m q 0) y → In (getD after q 0) y
-  more = in-kept m (2048 + j) v (omega (arith, g .long)) (λ y t. is y .1 (inl t))
+  more q y t = in-kept m (2048 + j) v t (λ r. is y .1 (inl (subst (λ (k : ℕ). In (getD m k 0) y) r t)))
 
   abbrev Row : ℕ → ℕ → Type 0
   Row w′ j′ = ((e : ℕ) → e ≤ es w′ → In (getD after ((w′ * 4 + j′) * 64 + e) 0) (bs j′))

@@ -11,10 +11,11 @@ use lib.ListN.{length, getD}
 use Rattle.bitset.specs.Code.Members.{has, Highest, In}
 use Rattle.bitset.proofs.Bools.{not-both, either}
 use Rattle.words.specs.Fields.{conditionI, conditionJ}
-use Rattle.model.specs.Forms.{ConditionForm, BeginAfterBegin, BeginAfterEnd, HoldsBefore, HoldsAfter, HoldsBetween, ReservedCondition, conditionForm}
+use Rattle.model.specs.Forms.{conditionForm}
 use Rattle.sets.specs.Code.Cover.{Coverable, Covering}
-use Rattle.sets.specs.Code.Search.{asked, partner, partnerOf, MetByMask, pairAt, EndAt, Masked, SearchReady, ReadsWith}
+use Rattle.sets.specs.Code.Search.{asked, partnerOf, MetByMask, pairAt, EndAt, Masked, SearchReady, ReadsWith}
 use Rattle.sets.proofs.Cover.{coverable, covering}
+use Rattle.sets.proofs.Masks.{partner-less}
 
 -- the greatest member up to e, or there is none
 greatest : (x e : ℕ) → ((m : ℕ) × Highest x e m) ⊎ ((k : ℕ) → k ≤ e → has x k ≡ false)
@@ -35,14 +36,6 @@ greatest x (suc e) = ⊎-elim
 
 -- ---- the ends depend on the begins of the members alone
 
-pub partner-below : (f : ConditionForm) {i j count : ℕ} → i < count → j < count → partner f i j < count
-partner-below BeginAfterBegin g h = h
-partner-below BeginAfterEnd g h = h
-partner-below HoldsBefore g h = g
-partner-below HoldsAfter g h = g
-partner-below HoldsBetween g h = h
-partner-below ReservedCondition g h = h
-
 met-same : (cs allow : List ℕ) (bs bs′ : ℕ → ℕ) (c e : ℕ) → let w = getD cs c 0 in bs (partnerOf w) ≡ bs′ (partnerOf w) → bs (conditionI w) ≡ bs′ (conditionI w)
     → MetByMask cs allow bs c e → MetByMask cs allow bs′ c e
 met-same cs allow bs bs′ c e p q h = let f = conditionForm (getD cs c 0) in
@@ -54,7 +47,7 @@ pub end-same : {cs allow ends : List ℕ} {count lo hi : ℕ} {bs bs′ : ℕ �
 end-same {cs} {allow} {ends} {bs = bs} {bs′ = bs′} r q i e l h = record {
   reads = subst (λ (x : ℕ). In (pairAt ends i i x) e) (q i l) (h .reads);
   met = λ c m f. let n = r .named c m in
-      met-same cs allow bs bs′ c e (q _ (partner-below (conditionForm (getD cs c 0)) (n .0) (n .1))) (q _ (n .0)) (h .met c m f);
+      met-same cs allow bs bs′ c e (q _ (partner-less (conditionForm (getD cs c 0)) (n .0) (n .1))) (q _ (n .0)) (h .met c m f);
 }
 
 module _ {cs allow ends : List ℕ} {count b hi : ℕ} {bs Es : ℕ → ℕ} (ready : SearchReady cs ends count b hi)

@@ -1,6 +1,6 @@
 -- What members keep as one of them is placed. Assumes nothing.
 use Prim.Native.Nat.{ℕ, _+_, _*_, _≤_, _<_}
-use mathlib.Core.Path.{_≡_, sym, _∙_, subst}
+use mathlib.Core.Path.{_≡_, sym, _∙_}
 use mathlib.Core.Logic.{_↔_, by-cases}
 use mathlib.Core.List.{List}
 use native.Mathlib.Decide.{ℕ-discrete}
@@ -10,6 +10,7 @@ use lib.Seq.{getD-set-same, getD-set-other}
 use Rattle.bitset.specs.Code.Members.{In}
 use Rattle.sets.specs.Code.Rows.{entryAt}
 use Rattle.sets.specs.Code.Search.{Fits}
+use Rattle.sets.proofs.Moves.{set-kept, set-fewer}
 
 -- the words of begins and ends have bs and es, those of a member that is not left no other begin, and `sought` has the last end
 pub record Has (count : ℕ) (begins ends : List ℕ) (left last sought : ℕ) (bs es : ℕ → ℕ) : Type 0 where
@@ -29,9 +30,7 @@ pub has-start : {count : ℕ} (begins ends : List ℕ) {left left′ last : ℕ}
     → ((j y : ℕ) → j < count → (In left j → ⊥) → In (entryAt begins j) y → y ≡ bs j)
     → Has count (set begins i w) ends left′ last (entryAt ends last) bs es
 has-start {count} begins ends {left} {left′} {last} i w x {bs} {es} long inside single without q begin end fixed = record {
-  begin = λ j l. by-cases (ℕ-discrete j i)
-      (λ r. rw (r, getD-set-same begins i w 0 long) (single (bs i) .1 q))
-      (λ r. rw (getD-set-other begins i j w 0 r) (begin j l));
+  begin = set-kept begins i w long (λ l. single (bs i) .1 q) begin;
   end = end;
   fixed = λ j y l n. by-cases (ℕ-discrete j i)
       (λ r. rw (r, getD-set-same begins i w 0 long) (λ t. single y .0 t ∙ sym q))
@@ -43,16 +42,10 @@ has-start {count} begins ends {left} {left′} {last} i w x {bs} {es} long insid
 pub has-next : {count : ℕ} {begins ends : List ℕ} {left last sought : ℕ} (j b e s : ℕ) {bs es : ℕ → ℕ} → j < length begins → j < length ends
     → In b (bs j) → In e (es j) → ((y : ℕ) → In b y → In (entryAt begins j) y) → In s (es last)
     → Has count begins ends left last sought bs es → Has count (set begins j b) (set ends j e) left last s bs es
-has-next {count} {begins} {ends} {left} j b e s {bs} {es} long long′ new new′ fewer final h = record {
-  begin = λ i l. by-cases (ℕ-discrete i j)
-      (λ r. rw (r, getD-set-same begins j b 0 long) new)
-      (λ r. rw (getD-set-other begins j i b 0 r) (h .begin i l));
-  end = λ i l. by-cases (ℕ-discrete i j)
-      (λ r. rw (r, getD-set-same ends j e 0 long′) new′)
-      (λ r. rw (getD-set-other ends j i e 0 r) (h .end i l));
-  fixed = λ i y l n. by-cases (ℕ-discrete i j)
-      (λ r. rw (r, getD-set-same begins j b 0 long) (λ t. h .fixed j y (subst (λ (k : ℕ). k < count) r l) (subst (λ (k : ℕ). In left k → ⊥) r n) (fewer y t)))
-      (λ r. rw (getD-set-other begins j i b 0 r) (h .fixed i y l n));
+has-next {begins = begins} {ends = ends} j b e s long long′ new new′ fewer final h = record {
+  begin = set-kept begins j b long (λ l. new) (h .begin);
+  end = set-kept ends j e long′ (λ l. new′) (h .end);
+  fixed = λ i y l n t. h .fixed i y l n (set-fewer begins j b long fewer i y t);
   final = final;
 }
 
@@ -60,11 +53,5 @@ has-next {count} {begins} {ends} {left} j b e s {bs} {es} long long′ new new�
 pub has-end : {count a last left : ℕ} {begins ends : List ℕ} {sought : ℕ} (e : ℕ) {bs es : ℕ → ℕ} → last < length ends → In e (es last)
     → Ordered count a last bs es → Has count begins ends left last sought bs es
     → Fits count (record { from = a; last = last; left = left; begins = begins; ends = set ends last e }) bs es
-has-end {last = last} {ends = ends} e long new inside h = record {
-  inside = inside;
-  begins = h .begin;
-  ends = λ i l. by-cases (ℕ-discrete i last)
-      (λ r. rw (r, getD-set-same ends last e 0 long) new)
-      (λ r. rw (getD-set-other ends last i e 0 r) (h .end i l));
-  fixed = h .fixed;
-}
+has-end {last = last} {ends = ends} e long new inside h =
+    record { inside = inside; begins = h .begin; ends = set-kept ends last e long (λ l. new) (h .end); fixed = h .fixed }

@@ -8,7 +8,8 @@ use Rattle.bitset.specs.Code.Members.{In}
 use Rattle.bitset.proofs.Bools.{not-both}
 use Rattle.bitset.proofs.In.{in-union, in-zero}
 use Rattle.sets.specs.Code.Rows.{entryAt}
-use Rattle.sets.specs.Code.Search.{Sought, ReadsWith}
+use Rattle.sets.specs.Code.Search.{Sought, ReadsWith, BeginsKept, Grown}
+use Rattle.sets.specs.declared.search.Found.{Found}
 use Rattle.sets.proofs.Leaves.{onward, reads-with, covers-all}
 use borrow.Author.Needs.{needs}
 use Rattle.sets.proofs.search.leaf.Statement.{statement}
@@ -49,37 +50,37 @@ ends-at-requires : tie.Need-ends-at-requires
 ends-at-requires c κs = let r = entry c .pre .0 in
     (r .few, r .conditions, λ d l. let n = r .named d l in (omega (arith, n .0, r .few), omega (arith, n .1, r .few)), c .first-begins .ensures .1)
 
+-- what is added, with the begins that are kept
+grown : (u : tie.After-union) (kept : List ℕ) → let a = entry (u .before .before .before) .args in
+    let new : Found = record { upto = a .found .upto; ends = u .union .result; begins = kept } in
+    (BeginsKept (a .conds .now) (a .allow .now) (a .ends .now) (a .count) (a .state .from) (a .found)
+    → BeginsKept (a .conds .now) (a .allow .now) (a .ends .now) (a .count) (a .state .from) new)
+    → (((i : ℕ) → entryAt (a .found .begins) i < 64) → (i : ℕ) → entryAt kept i < 64)
+    → Grown (a .conds .now) (a .allow .now) (a .ends .now) (a .count) (a .state .from) (a .found) new
+grown u kept begins moments = let all = in-union (u .union .ensures) in record {
+  upto = refl;
+  kept = λ e t. all e .1 (inl t);
+  reads = λ e t. ⊎-elim inl (λ v. let r = reads (u .before) e v in inr (record { bs = _; es = r .es; masked = r .masked })) (all e .0 t);
+  begins = begins;
+  small = λ h e t. ⊎-elim (h e) (small (u .before) e) (all e .0 t);
+  moments = moments;
+}
+
+found : (u : tie.After-union) (goes later bounds : List ℕ) (e : ℕ) (bs es : ℕ → ℕ) → let a = entry (u .before .before .before) .args in e ≤ a .found .upto
+    → Sought (a .conds .now) (a .allow .now) (a .ends .now) goes later bounds (a .count) (a .state) e bs es → In (u .union .result) e
+found u goes later bounds e bs es l h = in-union (u .union .ensures) e .1 (inr (finds (u .before) goes later bounds e bs es l h))
+
 returns : tie.Need-returns
-returns c =
-    let u = c .before .before in
-    let g = u .before in
-    let k = reads g in (
-      record {
-        upto = refl;
-        kept = λ e t. in-union (u .union .ensures) e .1 (inl t);
-        reads = λ e t. ⊎-elim inl (λ v. let r = k e v in inr (record { bs = _; es = r .es; masked = r .masked })) (in-union (u .union .ensures) e .0 t);
-        begins = λ h t. k _ (record { yes = sym (c .before .has .ensures) ∙ c .if1 .taken });
-        small = λ h e t. ⊎-elim (h e) (small g e) (in-union (u .union .ensures) e .0 t);
-        moments = λ h. g .before .before .first-begins .ensures .1;
-      },
-      λ goes later bounds e bs es l h. in-union (u .union .ensures) e .1 (inr (finds g goes later bounds e bs es l h)),
-    )
+returns c = let u = c .before .before in let g = u .before in (
+  grown u _ (λ h t. reads g _ (record { yes = sym (c .before .has .ensures) ∙ c .if1 .taken })) (λ h. g .before .before .first-begins .ensures .1),
+  found u,
+)
 
 returns-2 : tie.Need-returns-2
-returns-2 c =
-    let u = c .before .before in
-    let g = u .before in
-    let k = reads g in (
-      record {
-        upto = refl;
-        kept = λ e t. in-union (u .union .ensures) e .1 (inl t);
-        reads = λ e t. ⊎-elim inl (λ v. let r = k e v in inr (record { bs = _; es = r .es; masked = r .masked })) (in-union (u .union .ensures) e .0 t);
-        begins = λ h t. ⊎-elim h (λ v. not-both (v .yes) (sym (c .before .has .ensures) ∙ c .if1 .left)) (in-union (u .union .ensures) _ .0 t);
-        small = λ h e t. ⊎-elim (h e) (small g e) (in-union (u .union .ensures) e .0 t);
-        moments = λ h. h;
-      },
-      λ goes later bounds e bs es l h. in-union (u .union .ensures) e .1 (inr (finds g goes later bounds e bs es l h)),
-    )
+returns-2 c = let u = c .before .before in (
+  grown u _ (λ h t. ⊎-elim h (λ v. not-both (v .yes) (sym (c .before .has .ensures) ∙ c .if1 .left)) (in-union (u .union .ensures) _ .0 t)) (λ h. h),
+  found u,
+)
 
 pub leaf-spec : {M : Type 1} → statement M
 leaf-spec =
