@@ -31,21 +31,34 @@ static void expect(const char *what, uint64_t answer, unsigned number, unsigned 
     faults++;
 }
 
-/* The scope's case P3: b and c last 2, a lasts 3, the last moment is 5; b start window 0..0 c, end window 0..0 a. */
+/* The scope's case P3, Example 3 of 004 with the theory of its Example 1. Fluents f, g, h are false at first; b lasts 2 and makes h true, c
+ * lasts 2 and makes g true, a lasts 3, needs g and h, and makes f true; the last moment is 5; b start window 0..0 c, end window 0..0 a. */
 static void try_windows(void)
 {
+    enum { F, G, H };
     const uint32_t job[] = {
-        planreader_head(1, 3, 5), planreader_action(0, 2), planreader_action(1, 2), planreader_action(2, 3),
+        planreader_head(3, 3, 5), planreader_known(F, 0), planreader_known(G, 0), planreader_known(H, 0),
+        planreader_action(0, 2), planreader_law(PLANREADER_MAKES_TRUE, H),
+        planreader_action(1, 2), planreader_law(PLANREADER_MAKES_TRUE, G),
+        planreader_action(2, 3), planreader_law(PLANREADER_NEEDS_TRUE, G), planreader_law(PLANREADER_NEEDS_TRUE, H),
+        planreader_law(PLANREADER_MAKES_TRUE, F),
         planreader_node(PLANREADER_ACT, 0, 0, 0, 0), planreader_node(PLANREADER_ACT, 1, 0, 0, 0),
         planreader_node(PLANREADER_START_WINDOW, 0, 1, 0, 0), planreader_node(PLANREADER_ACT, 2, 0, 0, 0),
         planreader_node(PLANREADER_END_WINDOW, 2, 3, 0, 0),
     };
     const uint32_t starts[] = {planreader_start(0, 0), planreader_start(0, 1), planreader_start(2, 2)};
+    const uint32_t states[] = {
+        planreader_fact(0, F, 0), planreader_fact(0, G, 0), planreader_fact(0, H, 0), planreader_fact(1, F, 0),
+        planreader_fact(2, F, 0), planreader_fact(2, G, 1), planreader_fact(2, H, 1), planreader_fact(3, G, 1),
+        planreader_fact(3, H, 1), planreader_fact(4, G, 1), planreader_fact(4, H, 1), planreader_fact(5, F, 1),
+        planreader_fact(5, G, 1), planreader_fact(5, H, 1),
+    };
     const uint32_t expected[] = {planreader_reading(4, 0, 5), planreader_reading(2, 0, 2), planreader_reading(0, 0, 2),
                                  planreader_reading(1, 0, 2), planreader_reading(3, 2, 5)};
-    expect("P3, fill", planreader_fill(job, 9, starts, 3, facts, PLANREADER_BUFFER_WORDS), 0, 0, 0, 0);
-    expect("P3, check", planreader_check(job, 9, starts, 3, facts, 0), 0, 0, 0, 0);
-    expect("P3, find", planreader_find(job, 9, starts, 3, facts, 0, reading, PLANREADER_BUFFER_WORDS), 0, 0, 5, 5);
+    expect("P3, fill", planreader_fill(job, 17, starts, 3, facts, PLANREADER_BUFFER_WORDS), 0, 0, 14, 0);
+    if (memcmp(facts, states, sizeof states) != 0) printf("P3: other facts\n"), faults++;
+    expect("P3, check", planreader_check(job, 17, starts, 3, states, 14), 0, 0, 0, 0);
+    expect("P3, find", planreader_find(job, 17, starts, 3, states, 14, reading, PLANREADER_BUFFER_WORDS), 0, 0, 5, 5);
     if (memcmp(reading, expected, sizeof expected) != 0) printf("P3: another reading\n"), faults++;
 }
 
