@@ -54,8 +54,8 @@ pub no-form : {A : Type 0} (k : ℕ)
     → (((((((((A × (k ≡ 0 → ⊥)) × (k ≡ 1 → ⊥)) × (k ≡ 2 → ⊥)) × (k ≡ 3 → ⊥)) × (k ≡ 4 → ⊥)) × (k ≡ 5 → ⊥)) × (k ≡ 6 → ⊥)) × (k ≡ 7 → ⊥)) × (k ≡ 8 → ⊥))
     → formNumber k ≡ Reserved
 no-form k r =
-    let low = r .0 .0 .0 .0 .0 in
-    reserved k (from-nine k (from-four k (low .0 .0 .0 .1) (low .0 .0 .1) (low .0 .1) (low .1)) (r .0 .0 .0 .0 .1) (r .0 .0 .0 .1) (r .0 .0 .1) (r .0 .1) (r .1))
+    let (((((((((rest, not-0), not-1), not-2), not-3), not-4), not-5), not-6), not-7), not-8) = r in
+    reserved k (from-nine k (from-four k not-0 not-1 not-2 not-3) not-4 not-5 not-6 not-7 not-8)
 
 -- a condition of a number that no form has is reserved
 pub no-condition : (k : ℕ) → (k ≡ 0 → ⊥) → (k ≡ 1 → ⊥) → (k ≡ 2 → ⊥) → (k ≡ 3 → ⊥) → (k ≡ 4 → ⊥) → conditionNumber k ≡ ReservedCondition

@@ -12,8 +12,11 @@ use borrow.Author.Needs.{needs}
 use Rattle.bitset.proofs.upto_highest.Statement.{statement}
 use Rattle.bitset.proofs.upto_highest.Tie as tie
 
+abbrev entry : tie.After-m → tie.Start
+entry c = c .before .before .before
+
 -- the highest member
-top : (c : tie.After-m) → Highest (c .before .before .before .args .x) 63 (c .m .given .0 .0)
+top : (c : tie.After-m) → Highest (entry c .args .x) 63 (c .m .given .0 .0)
 top c = subst (HighestUpto _ _) (c .m .given .1) (c .before .before .highest-upto .ensures)
 
 returns : tie.Need-returns
@@ -22,7 +25,7 @@ returns c k =
     let w = in-upto (c .upto .ensures) k in (
       λ u. record { member = _; in-x = record { yes = h .member }; upto = w .0 u },
       λ s. let l = s .upto in w .1 (by-cases (decLe k (c .before .before .m .given .0 .0)) (λ g. g) (λ g.
-          let b = in-below (c .before .before .before .before .before .fits .x .fits) (s .in-x) in
+          let b = in-below (entry (c .before .before) .fits .x .fits) (s .in-x) in
           not-both (s .in-x .yes) (h .last (s .member) (omega arith) (omega arith)))),
     )
 

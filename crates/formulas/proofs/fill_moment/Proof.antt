@@ -25,8 +25,11 @@ Inv-loop and or job formulas count history t values₀ head k₀ values k = Turn
 abbrev μ-loop : tie.MeasureT-loop
 μ-loop and or job formulas count history t values₀ head k₀ values k = count - k
 
+abbrev first : tie.At-loop Inv-loop μ-loop → tie.Start Inv-loop μ-loop
+first c = c .before .before .before
+
 abbrev entry : tie.After-at Inv-loop μ-loop → tie.Start Inv-loop μ-loop
-entry c = c .before .before .before .before .before
+entry c = first (c .before .before)
 
 abbrev place : tie.After-form-value-arg Inv-loop μ-loop → tie.After-at Inv-loop μ-loop
 place c = c .before .before
@@ -72,7 +75,7 @@ loop-again c =
 
 returns : tie.Need-returns Inv-loop μ-loop
 returns c =
-    let start = c .before .before .before .before in
+    let start = first (c .before) in
     let e : c .before .loop .k ≡ formulaCount (start .args .job .now) = omega (arith, start .pre .grounds .counted) in
     fill-end (rw e at (c .before .loop .inv .filled))
 

@@ -9,6 +9,9 @@ use Rattle.formulas.proofs.form_value.Tie as tie
 abbrev entry : tie.After-formula-y → tie.Start
 entry c = c .before .before .before
 
+abbrev formed : tie.After-formula-y → tie.After-form-of
+formed c = c .before .before
+
 abbrev read-and : tie.After-by-table → tie.After-formula-y
 read-and c = c .before .before .before .before
 
@@ -21,21 +24,25 @@ returns c = rw (← c .before .before .before .form-of .ensures .0, c .match .ke
 
 returns-2 : tie.Need-returns-2
 unfolding formValue
-returns-2 c = rw (← c .before .before .before .before .before .form-of .ensures .0, c .before .before .match .keys2, ← c .before .atom-fluent .ensures .0)
+returns-2 c =
+    let read = c .before .before .before in
+    rw (← formed read .form-of .ensures .0, c .before .before .match .keys2, ← c .before .atom-fluent .ensures .0)
 
 returns-3 : tie.Need-returns-3
 unfolding formValue
-returns-3 c = rw (← c .before .before .before .before .form-of .ensures .0, c .before .match .keys3, ← c .before .before .before .formula-x .ensures .0)
+returns-3 c =
+    let read = c .before .before in
+    rw (← formed read .form-of .ensures .0, c .before .match .keys3, ← read .before .formula-x .ensures .0)
 
 returns-4 : tie.Need-returns-4
 unfolding formValue
-returns-4 c = rw (← read-and c .before .before .form-of .ensures .0, c .before .before .before .match .keys4, ← read-and c .before .formula-x .ensures .0, ← read-and c .formula-y .ensures .0) (c .by-table .ensures)
+returns-4 c = rw (← formed (read-and c) .form-of .ensures .0, c .before .before .before .match .keys4, ← read-and c .before .formula-x .ensures .0, ← read-and c .formula-y .ensures .0) (c .by-table .ensures)
 
 returns-5 : tie.Need-returns-5
 unfolding formValue
 returns-5 c =
-    let rest = c .before .before .before .match .rest in
-    rw (← read-or c .before .before .form-of .ensures .0, ne-eqb _ 0 (rest .0 .0 .0 .1), ne-eqb _ 1 (rest .0 .0 .1), ne-eqb _ 2 (rest .0 .1), ne-eqb _ 3 (rest .1), ← read-or c .before .formula-x .ensures .0, ← read-or c .formula-y .ensures .0) (c .by-table2 .ensures)
+    let ((((rest, not-0), not-1), not-2), not-3) = c .before .before .before .match .rest in
+    rw (← formed (read-or c) .form-of .ensures .0, ne-eqb _ 0 not-0, ne-eqb _ 1 not-1, ne-eqb _ 2 not-2, ne-eqb _ 3 not-3, ← read-or c .before .formula-x .ensures .0, ← read-or c .formula-y .ensures .0) (c .by-table2 .ensures)
 
 pub form-value-spec : {M : Type 1} → statement M
 form-value-spec =

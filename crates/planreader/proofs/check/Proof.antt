@@ -10,9 +10,13 @@ use native.Mathlib.Omega.{arith}
 use Rattle.planreader.proofs.check.Statement.{statement}
 use Rattle.planreader.proofs.check.Tie as tie
 
-in-range : (c : tie.After-check-plan) → InRange (checkAnswer (c .before .before .before .before .args .job .now) (c .before .before .before .before .args .starts .now) (c .before .before .before .before .args .facts .now))
+abbrev entry : tie.After-check-plan → tie.Start
+entry c = c .before .before .before .before
+
+in-range : (c : tie.After-check-plan) → InRange (checkAnswer (entry c .args .job .now) (entry c .args .starts .now) (entry c .args .facts .now))
 in-range c =
-    check-range (c .before .before .before .before .args .job .now) (c .before .before .before .before .args .starts .now) (λ i. omega (arith, c .before .before .shared-slice-known2 .given i)) (c .before .before .before .before .args .facts .now)
+    let a = entry c .args in
+    check-range (a .job .now) (a .starts .now) (λ i. omega (arith, c .before .before .shared-slice-known2 .given i)) (a .facts .now)
 
 pub check-spec : {M : Type 1} → statement M
 check-spec =

@@ -11,9 +11,16 @@ use native.Mathlib.Omega.{arith}
 use Rattle.planreader.proofs.fill.Statement.{statement}
 use Rattle.planreader.proofs.fill.Tie as tie
 
-in-range : (c : tie.After-slice-known2) → InRange (fillAnswer (length (c .before .before .before .before .before .before .before .args .buffer .now)) (c .before .before .before .before .before .before .before .args .job .now) (c .before .before .before .before .before .before .before .args .starts .now))
+abbrev known : tie.After-slice-known2 → tie.After-shared-slice-known2
+known c = c .before .before .before .before .before
+
+abbrev entry : tie.After-slice-known2 → tie.Start
+entry c = known c .before .before
+
+in-range : (c : tie.After-slice-known2) → InRange (fillAnswer (length (entry c .args .buffer .now)) (entry c .args .job .now) (entry c .args .starts .now))
 in-range c =
-    fill-range (c .before .before .before .before .before .before .before .args .job .now) (c .before .before .before .before .before .before .before .args .starts .now) (λ i. omega (arith, c .before .before .before .before .before .shared-slice-known2 .given i)) (length (c .before .before .before .before .before .before .before .args .buffer .now))
+    let a = entry c .args in
+    fill-range (a .job .now) (a .starts .now) (λ i. omega (arith, known c .shared-slice-known2 .given i)) (length (a .buffer .now))
 
 returns : tie.Need-returns
 returns c = let made = c .before .before .before .fill-plan .ensures in

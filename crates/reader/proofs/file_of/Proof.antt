@@ -16,8 +16,8 @@ returns-2 c = let a = entry (c .before) .args .a in unended (a .bytes) (a .fd) (
 returns-3 : tie.Need-returns-3
 returns-3 c =
     let a = entry (c .before) .args .a in
-    let told = c .before .struct-told2 .given in
-    ended (a .bytes) (a .fd) (a .next) (record { sfits = told .0 .1 }) (record { sfits = told .1 .1 .0 .1 }) (c .before .before .before .if1 .left) (c .if2 .left)
+    let (fd, (bytes, (next, rest))) = c .before .struct-told2 .given in
+    ended (a .bytes) (a .fd) (a .next) (record { sfits = fd .1 }) (record { sfits = next .1 }) (c .before .before .before .if1 .left) (c .if2 .left)
 
 pub file-of-spec : {M : Type 1} → statement M
 file-of-spec = tie.close (tie.spec returns returns-2 returns-3)

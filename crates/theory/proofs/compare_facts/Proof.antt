@@ -15,14 +15,22 @@ Inv-loop given wanted i₀ i = (i ≤ length given) × (factsRefusal given wante
 abbrev μ-loop : tie.MeasureT-loop
 μ-loop given wanted i₀ i = length given - i
 
+-- the turn of the loop, from where two words are read
+abbrev turn : tie.After-shared-slice-known4 Inv-loop μ-loop → tie.In-loop Inv-loop μ-loop
+turn c = c .before .before .before
+
 returns : tie.Need-returns Inv-loop μ-loop
 returns c = c .refuse .ensures ∙ sym (c .before .before .before .loop .inv .1 ∙ wanted-ends _ _ _ (c .before .before .loop-test .taken) (c .before .if1 .taken))
 
 returns-2 : tie.Need-returns-2 Inv-loop μ-loop
-returns-2 c = c .refuse2 .ensures ∙ sym (c .before .before .before .before .before .before .loop .inv .1 ∙ facts-differ _ _ _ (c .before .before .before .before .before .loop-test .taken) (c .before .before .before .before .if1 .left) (c .before .if2 .taken))
+returns-2 c =
+    let read = c .before .before in
+    c .refuse2 .ensures ∙ sym (turn read .before .loop .inv .1 ∙ facts-differ _ _ _ (turn read .loop-test .taken) (read .before .before .if1 .left) (c .before .if2 .taken))
 
 loop-again : tie.Need-loop-again Inv-loop μ-loop
-loop-again c = (omega arith, c .before .before .before .before .before .loop .inv .1 ∙ facts-same _ _ _ (c .before .before .before .before .loop-test .taken) (c .before .before .before .if1 .left) (c .if2 .left))
+loop-again c =
+    let read = c .before in
+    (omega arith, turn read .before .loop .inv .1 ∙ facts-same _ _ _ (turn read .loop-test .taken) (read .before .before .if1 .left) (c .if2 .left))
 
 returns-3 : tie.Need-returns-3 Inv-loop μ-loop
 returns-3 c = c .refuse3 .ensures ∙ sym (c .before .before .before .loop .inv .1 ∙ given-ends _ _ _ (c .before .before .loop-test .left) (c .before .if3 .taken))

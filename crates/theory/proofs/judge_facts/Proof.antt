@@ -24,8 +24,15 @@ entry c = c .before .before .before .before
 abbrev judged : tie.Else1 → tie.After-judge
 judged c = c .before .before .before
 
+abbrev passed : tie.After-wanted → tie.Else1
+passed c = c .before .before .before .before .before
+
 abbrev ahead : tie.After-fill-facts → tie.Else1
-ahead c = c .before .before .before .before .before .before
+ahead c = passed (c .before)
+
+-- the working list with the facts in front
+abbrev wanted : tie.After-fill-facts → List ℕ
+wanted c = let (job, (history, (list, rest))) = c .fill-facts .last in list
 
 -- of a plan that rows 1 to 10 pass
 clear : (c : tie.Else1) → planRefusal (entry (judged c) .args .job .now) (entry (judged c) .args .starts .now) .number ≡ 0
@@ -36,14 +43,14 @@ passing c = judged c .judge .ensures .passed (clear c)
 
 -- the facts are written, and fit the working list
 filled : (c : tie.After-fill-facts)
-    → let s = entry (judged (ahead c)) in Filled (replicate 4096 0) (factsOf (s .args .job .now) (s .args .starts .now)) (c .fill-facts .result) (c .fill-facts .last .1 .1 .0)
+    → let s = entry (judged (ahead c)) in Filled (replicate 4096 0) (factsOf (s .args .job .now) (s .args .starts .now)) (c .fill-facts .result) (wanted c)
 filled c = c .fill-facts .ensures _ (passing (ahead c) .history)
 
-fits : (c : tie.After-fill-facts) → c .fill-facts .result ≤ length (c .fill-facts .last .1 .1 .0)
+fits : (c : tie.After-fill-facts) → c .fill-facts .result ≤ length (wanted c)
 fits c =
     let s = entry (judged (ahead c)) in
     let fit = facts-fit (s .args .job .now) (s .args .starts .now) (plan-formed _ _ (clear (ahead c))) in
-    let len : length (c .fill-facts .last .1 .1 .0) ≡ 4096 = ap length (filled c .held) ∙ simp length-sets in
+    let len : length (wanted c) ≡ 4096 = ap length (filled c .held) ∙ simp length-sets in
     omega (arith, filled c .count)
 
 returns : tie.Need-returns
@@ -72,5 +79,5 @@ pub judge-facts-spec : {M : Type 1} → statement M
 judge-facts-spec =
     tie.close
     (tie.spec (λ c κs. search needs) returns (λ c. search needs)
-    (λ c κs. (plan-formed _ _ (clear (c .before .before .before .before .before)), omega arith)) (λ c. fits (c .before))
+    (λ c κs. (plan-formed _ _ (clear (passed c)), omega arith)) (λ c. fits (c .before))
     (λ c. sym (length-take-le _ _ (fits (c .before .before)))) (λ c κs. search needs) returns-2)

@@ -13,8 +13,22 @@ use borrow.Author.Needs.{needs}
 use Rattle.theory.proofs.judge_starts.Statement.{statement}
 use Rattle.theory.proofs.judge_starts.Tie as tie
 
+-- the function's entry, from where the places of actions are taken; the two tables, from the rows on times; and the entry from there
+abbrev placed : tie.After-places2 → tie.Start
+placed c = c .before .before .before .before .before
+
+abbrev tabled : tie.After-effects → tie.After-durations
+tabled c = c .before .before
+
+abbrev made : tie.After-check-times → tie.After-effects
+made c = c .before .before .before
+
 abbrev timed : tie.After-check-times → tie.Start
-timed c = c .before .before .before .before .before .before .before .before .before .before .before
+timed c = placed (tabled (made c) .before)
+
+-- past the rows on times, from the history
+abbrev told : tie.After-history → tie.Else1
+told c = c .before .before .before
 
 -- rows 1 to 5 pass, so that the rows on starts are the answer
 starts-rows : (s : tie.Start) → startsRefusal (s .args .job .now) (s .args .starts .now) ≡ planRefusal (s .args .job .now) (s .args .starts .now)
@@ -23,20 +37,22 @@ starts-rows s = or-passed (jobRefusal (s .args .job .now)) (startsRefusal (s .ar
 
 durations-requires : tie.Need-durations-requires
 durations-requires c κs =
-    let s = c .before .before .before .before .before in
+    let s = placed c in
     (well-formed _ (s .pre .0), actions-indexed _ (s .pre .0) (s .pre .1))
 
 effects-requires : tie.Need-effects-requires
 effects-requires c κs =
-    let s = c .before .before .before .before .before .before .before in
+    let s = placed (c .before .before) in
     (well-formed _ (s .pre .0), actions-indexed _ (s .pre .0) (s .pre .1))
 
 check-times-requires : tie.Need-check-times-requires
-check-times-requires c κs = record {
-  formed = well-formed _ (c .before .before .before .before .before .before .before .before .before .before .pre .0);
-  lasts = c .before .before .before .before .durations .ensures;
-  makes = c .before .before .effects .ensures;
-}
+check-times-requires c κs =
+    let e = c .before .before in
+    record {
+      formed = well-formed _ (placed (tabled e .before) .pre .0);
+      lasts = tabled e .durations .ensures;
+      makes = e .effects .ensures;
+    }
 
 returns : tie.Need-returns
 returns c =
@@ -47,16 +63,17 @@ returns c =
 
 history-requires : tie.Need-history-requires
 history-requires c κs =
-    let times = c .before .before .before .before in
+    let passing = c .before .before in
+    let times = passing .before .before in
     record {
       well = well-formed _ (timed times .pre .0);
-      tables = record { durations = times .before .before .before .before .before .durations .ensures; effects = times .before .before .before .effects .ensures };
-      named = named (times-passed (times .check-times .ensures) (c .before .before .if1 .left));
+      tables = record { durations = tabled (made times) .durations .ensures; effects = made times .effects .ensures };
+      named = named (times-passed (times .check-times .ensures) (passing .if1 .left));
     }
 
 check-needs-requires : tie.Need-check-needs-requires
 check-needs-requires c κs =
-    let passing = c .before .before .before .before .before in
+    let passing = told (c .before .before) in
     let times = passing .before .before in
     let s = timed times in
     record {
@@ -68,14 +85,14 @@ check-needs-requires c κs =
 
 returns-2 : tie.Need-returns-2
 returns-2 c =
-    let passing = c .before .before .before .before .before .before in
+    let passing = told (c .before .before .before) in
     let times = passing .before .before in
     record {
       refusal = starts-next _ _ (times .check-times .ensures) (passing .if1 .left) (c .check-needs .ensures) ∙ starts-rows (timed times);
       passed = λ z. record {
         clear = z;
         index = timed times .pre .1;
-        durations = times .before .before .before .before .before .durations .ensures;
+        durations = tabled (made times) .durations .ensures;
         history = c .before .before .before .history .ensures;
       };
     }

@@ -26,15 +26,21 @@ moments s =
     let end = end-last (h .prepared) (h .known) begin (h .found) in
     (omega arith, omega arith)
 
--- the function's entry, seen from the form, and the fields that were read
+-- the function's entry, seen from the node's place and from the form, and the fields that were read
+abbrev placed : tie.After-place → tie.Start
+placed c = c .before .before .before
+
+abbrev at-x : tie.After-form-of → tie.After-node-x
+at-x f = f .before .before .before .before
+
 abbrev entry : tie.After-form-of → tie.Start
-entry f = f .before .before .before .before .before .before .before .before .before
+entry f = placed (at-x f .before .before)
 
 abbrev wordOf : tie.Start → ℕ
 wordOf s = getD (now (s .args .words)) (getD (now (s .args .places)) (s .args .triple .node) 0) 0
 
-x-is : (f : tie.After-form-of) → f .before .before .before .before .node-x .result ≡ nodeX (wordOf (entry f))
-x-is f = f .before .before .before .before .node-x .ensures .0
+x-is : (f : tie.After-form-of) → at-x f .node-x .result ≡ nodeX (wordOf (entry f))
+x-is f = at-x f .node-x .ensures .0
 
 y-is : (f : tie.After-form-of) → f .before .before .before .node-y .result ≡ nodeY (wordOf (entry f))
 y-is f = f .before .before .before .node-y .ensures .0
@@ -48,9 +54,9 @@ n-is f = f .before .node-n .ensures .0
 form-is : (f : tie.After-form-of) {k : ℕ} → f .form-of .result ≡ k → formNumber (form (wordOf (entry f))) ≡ formNumber k
 form-is f e = ap formNumber (sym (f .form-of .ensures .0) ∙ e)
 
-pair : (f : tie.After-form-of) → Within (now (entry f .args .table)) (f .before .before .before .before .node-x .result) (f .before .before .before .node-y .result) (entry f .args .triple .begin) (entry f .args .triple .end)
+pair : (f : tie.After-form-of) → Within (now (entry f .args .table)) (at-x f .node-x .result) (f .before .before .before .node-y .result) (entry f .args .triple .begin) (entry f .args .triple .end)
 pair f = record {
-  left = f .before .before .before .before .node-x .ensures .1;
+  left = at-x f .node-x .ensures .1;
   right = f .before .before .before .node-y .ensures .1;
   begin = moments (entry f) .0;
   finish = moments (entry f) .1;
@@ -164,11 +170,11 @@ choose-parts-spec =
     tie.close
     (tie.spec (λ c. let h = c .before .before .pre .1 in omega (arith, h .known, h .prepared .ready .few))
     (λ c. let h = c .before .before .pre .1 in omega (arith, h .known, h .prepared .ready .few))
-    (λ c. omega (arith, inside (c .before .before .before))) (λ c. inside (c .before .before .before .before)) (λ c κs. search needs)
+    (λ c. omega (arith, inside (placed c))) (λ c. inside (placed (c .before))) (λ c κs. search needs)
     (λ c κs. search needs) (λ c κs. search needs) (λ c κs. search needs) (λ c κs. search needs) (λ c κs. search needs) (λ c κs. search needs)
     sequence-requires choice-requires (λ c. search needs)
-    (λ c. omega (arith, moments (entry (c .before)) .0, c .before .before .before .before .before .node-x .ensures .1))
-    (λ c. omega (arith, moments (entry (c .before)) .0, c .before .before .before .before .before .node-x .ensures .1))
+    (λ c. omega (arith, moments (entry (c .before)) .0, at-x (c .before) .node-x .ensures .1))
+    (λ c. omega (arith, moments (entry (c .before)) .0, at-x (c .before) .node-x .ensures .1))
     (λ c κs. moments (entry (c .before .before))) (λ c κs. search needs) start-requires end-requires set-requires (λ c κs. search needs)
     act-returns test-returns sequence-returns choice-returns if-returns
     (λ c. λ u h. let a = c .before in absurd (h .other (form-is (a .before) (a .match .keys6)))) start-returns end-returns set-returns

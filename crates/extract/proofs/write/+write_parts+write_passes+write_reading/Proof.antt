@@ -32,13 +32,13 @@ use Rattle.extract.proofs.write.+write_parts+write_passes+write_reading
 use Rattle.extract.proofs.write.+write_parts+write_passes+write_reading.Tie.{close}
 
 abbrev μ-parts : Measures 5 parts-kinds.ps ℕ
-μ-parts κs a = a .1 .1 .1 .1 .1 .0 .node * 2
+μ-parts κs a = let (words, (places, (values, (last, (table, (triple, rest)))))) = a in triple .node * 2
 
 abbrev μ-passes : Measures 5 passes-kinds.ps ℕ
-μ-passes κs a = a .1 .1 .1 .1 .1 .0 .node * 2
+μ-passes κs a = let (words, (places, (values, (last, (table, (triple, rest)))))) = a in triple .node * 2
 
 abbrev μ : Measures 5 kinds.ps ℕ
-μ κs a = a .1 .1 .1 .1 .1 .0 .node * 2 + 1
+μ κs a = let (words, (places, (values, (last, (table, (triple, rest)))))) = a in triple .node * 2 + 1
 
 abbrev parts-at : ℕ → In 5 parts-kinds.ps
 parts-at t = and 5 parts-kinds.ps (is 5 parts-kinds.ps μ-parts t) parts.Pre
@@ -96,6 +96,12 @@ module _ (t : ℕ) where
   abbrev entry : Stored → lts.Start (calls t) (own-at t) own.Post
   entry w = w .before .before .before .before
 
+  abbrev Formed : Type 0
+  Formed = lts.After-form-of (calls t) (own-at t) own.Post
+
+  abbrev stored : Formed → Stored
+  stored f = f .before .before .before
+
   same-size : (w : Stored) → length (set (entry w .args .buffer .now) (entry w .args .at) (w .reading-word .result)) ≡ length (entry w .args .buffer .now)
   same-size w = length-set (entry w .args .buffer .now) (entry w .args .at) (w .reading-word .result)
 
@@ -124,12 +130,12 @@ module _ (t : ℕ) where
   form-of-requires c κs = search needs
 
   add-passes : lts.Need-add-write-passes (calls t) (own-at t) own.Post
-  add-passes c = let s = entry (c .before .before .before .before) in omega (arith, has-room (s .pre .1 .1), s .good)
+  add-passes c = let s = entry (stored (c .before)) in omega (arith, has-room (s .pre .1 .1), s .good)
 
   write-passes-requires : lts.Need-write-passes-requires (calls t) (own-at t) own.Post
   write-passes-requires c κs =
       let i = c .before in
-      let w = i .before .before .before .before in
+      let w = stored (i .before) in
       let (is, (u, s)) = entry w .pre in
       (omega arith, (u, resize (same-size w) (headed s), ap formNumber (sym (i .before .form-of .ensures .0) ∙ i .if1 .taken)))
 
@@ -137,7 +143,7 @@ module _ (t : ℕ) where
   same-length c =
       let r = c .before .before in
       let i = r .before .before in
-      let w = i .before .before .before .before in
+      let w = stored (i .before) in
       let (is, (u, s)) = entry w .pre in
       written-length (r .write-passes .ensures u (resize (same-size w) (headed s)) (ap formNumber (sym (i .before .form-of .ensures .0) ∙ i .if1 .taken))) ∙ same-size w
 
@@ -145,17 +151,17 @@ module _ (t : ℕ) where
   returns c = λ u s.
       let r = c .before .before in
       let i = r .before .before in
-      let w = i .before .before .before .before in
+      let w = stored (i .before) in
       written-under (w .reading-word .ensures)
       (r .write-passes .ensures u (resize (same-size w) (headed s)) (ap formNumber (sym (i .before .form-of .ensures .0) ∙ i .if1 .taken)))
 
   add-parts : lts.Need-add-write-parts (calls t) (own-at t) own.Post
-  add-parts c = let s = entry (c .before .before .before .before) in omega (arith, has-room (s .pre .1 .1), s .good)
+  add-parts c = let s = entry (stored (c .before)) in omega (arith, has-room (s .pre .1 .1), s .good)
 
   write-parts-requires : lts.Need-write-parts-requires (calls t) (own-at t) own.Post
   write-parts-requires c κs =
       let i = c .before in
-      let w = i .before .before .before .before in
+      let w = stored (i .before) in
       let (is, (u, s)) = entry w .pre in
       (omega arith, (u, resize (same-size w) (headed s), λ g. i .if1 .left (i .before .form-of .ensures .0 ∙ form-number _ g (omega arith))))
 
@@ -163,7 +169,7 @@ module _ (t : ℕ) where
   same-length-2 c =
       let r = c .before .before in
       let i = r .before .before in
-      let w = i .before .before .before .before in
+      let w = stored (i .before) in
       let (is, (u, s)) = entry w .pre in
       written-length (r .write-parts .ensures u (resize (same-size w) (headed s)) (λ g. i .if1 .left (i .before .form-of .ensures .0 ∙ form-number _ g (omega arith)))) ∙ same-size w
 
@@ -171,7 +177,7 @@ module _ (t : ℕ) where
   returns-2 c = λ u s.
       let r = c .before .before in
       let i = r .before .before in
-      let w = i .before .before .before .before in
+      let w = stored (i .before) in
       written-under (w .reading-word .ensures)
       (r .write-parts .ensures u (resize (same-size w) (headed s)) (λ g. i .if1 .left (i .before .form-of .ensures .0 ∙ form-number _ g (omega arith))))
 
@@ -188,6 +194,12 @@ module _ (t : ℕ) where
 
   abbrev start : Parted → parts-lts.Start (parts-calls t) (parts-at t) parts.Post Inv-parts μ-loop-parts
   start k = k .before .before .before .before
+
+  abbrev turn : parts-lts.After-slice-known2 (parts-calls t) (parts-at t) parts.Post Inv-parts μ-loop-parts → Turn
+  turn c = c .before .before .before .before
+
+  abbrev past : parts-lts.After-loop (parts-calls t) (parts-at t) parts.Post Inv-parts μ-loop-parts → Parted
+  past c = c .before .before .before .before .before
 
   -- the parts, by what makes the table right
   chosen : (k : Parted) → let a = start k .args in let u = start k .pre .1 .0 in
@@ -237,14 +249,14 @@ module _ (t : ℕ) where
       (omega (arith, chosen k .lower (l .before .loop .i) taken), (u, resize (written-length so-far) (part-child s (chosen k) taken so-far)))
 
   add-i : parts-lts.Need-add-i (parts-calls t) (parts-at t) parts.Post Inv-parts μ-loop-parts
-  add-i c = omega (arith, few (c .before .before .before .before))
+  add-i c = omega (arith, few (turn c))
 
   parts-loop-less : parts-lts.Need-loop-less (parts-calls t) (parts-at t) parts.Post Inv-parts μ-loop-parts
-  parts-loop-less c = omega (arith, c .before .before .before .before .loop-test .taken)
+  parts-loop-less c = omega (arith, turn c .loop-test .taken)
 
   parts-loop-again : parts-lts.Need-loop-again (parts-calls t) (parts-at t) parts.Post Inv-parts μ-loop-parts
   parts-loop-again c =
-      let l = c .before .before .before .before in
+      let l = turn c in
       let taken = l .loop-test .taken in (
         omega (arith, taken),
         λ u t s g.
@@ -254,13 +266,13 @@ module _ (t : ℕ) where
 
   parts-same-length : parts-lts.Need-same-length (parts-calls t) (parts-at t) parts.Post Inv-parts μ-loop-parts
   parts-same-length c =
-      let k = c .before .before .before .before .before in
+      let k = past c in
       let (is, (u, s, other)) = start k .pre in
       written-length (c .before .loop .inv .1 u _ s (chosen k))
 
   parts-returns : parts-lts.Need-returns (parts-calls t) (parts-at t) parts.Post Inv-parts μ-loop-parts
   parts-returns c = λ u s other.
-      let k = c .before .before .before .before .before in
+      let k = past c in
       let g = k .choose-parts .ensures u (choosable s other) in
       let (upto, w) = c .before .loop .inv in
       part-end s g (omega (arith, upto, c .loop-test .left)) (w u _ s g)
@@ -270,8 +282,14 @@ module _ (t : ℕ) where
   abbrev Body : Type 0
   Body = passes-lts.After-node-y (passes-calls t) (passes-at t) passes.Post Inv-passes μ-loop-passes
 
+  abbrev lent : passes-lts.After-place (passes-calls t) (passes-at t) passes.Post Inv-passes μ-loop-passes → passes-lts.Start (passes-calls t) (passes-at t) passes.Post Inv-passes μ-loop-passes
+  lent c = c .before .before .before .before
+
   abbrev head : Body → passes-lts.Start (passes-calls t) (passes-at t) passes.Post Inv-passes μ-loop-passes
-  head y = y .before .before .before .before .before .before
+  head y = lent (y .before .before)
+
+  abbrev at-cut : passes-lts.After-slice-known2 (passes-calls t) (passes-at t) passes.Post Inv-passes μ-loop-passes → passes-lts.After-cut (passes-calls t) (passes-at t) passes.Post Inv-passes μ-loop-passes
+  at-cut c = c .before .before .before .before
 
   passes-mul-place : passes-lts.Need-mul-place (passes-calls t) (passes-at t) passes.Post Inv-passes μ-loop-passes
   passes-mul-place c = omega (arith, moments (c .before .before .before .pre .1 .1) .0)
@@ -280,10 +298,10 @@ module _ (t : ℕ) where
   passes-copy-place c = omega (arith, moments (c .before .before .before .pre .1 .1) .0)
 
   mul-node-y : passes-lts.Need-mul-node-y (passes-calls t) (passes-at t) passes.Post Inv-passes μ-loop-passes
-  mul-node-y c = omega (arith, place-inside (c .before .before .before .before .pre .1 .1))
+  mul-node-y c = omega (arith, place-inside (lent c .pre .1 .1))
 
   read-node-y : passes-lts.Need-shared-slice-read-node-y (passes-calls t) (passes-at t) passes.Post Inv-passes μ-loop-passes
-  read-node-y c = place-inside (c .before .before .before .before .before .pre .1 .1)
+  read-node-y c = place-inside (lent (c .before) .pre .1 .1)
 
   node-y-requires : passes-lts.Need-node-y-requires (passes-calls t) (passes-at t) passes.Post Inv-passes μ-loop-passes
   node-y-requires c κs = search needs
@@ -314,7 +332,7 @@ module _ (t : ℕ) where
 
   passes-loop-less : passes-lts.Need-loop-less (passes-calls t) (passes-at t) passes.Post Inv-passes μ-loop-passes
   passes-loop-less c =
-      let q = c .before .before .before .before in
+      let q = at-cut c in
       omega (arith, q .cut .ensures .after, q .before .loop-test .taken)
 
   passes-loop-again : passes-lts.Need-loop-again (passes-calls t) (passes-at t) passes.Post Inv-passes μ-loop-passes

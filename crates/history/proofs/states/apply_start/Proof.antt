@@ -13,8 +13,11 @@ use Rattle.history.proofs.states.apply_start.Tie as tie
 abbrev entry : tie.After-acts-arg → tie.Start
 entry c = c .before .before .before .before
 
+abbrev arm : tie.After-apply-arg → tie.Then1
+arm c = c .before .before .before
+
 abbrev tested : tie.After-apply-arg → tie.After-acts
-tested c = c .before .before .before .before
+tested c = arm c .before
 
 acts-here : (c : tie.After-acts) → c .acts .result ≡ acts (entry (c .before) .args .job .now) (entry (c .before) .args .hiding) (entry (c .before) .args .t) (entry (c .before) .args .s)
 acts-here c =
@@ -31,7 +34,7 @@ returns c =
     let here = tested (c .before) in
     let a = entry (here .before) .args in
     let p = entry (here .before) .pre .0 in
-    start-applied (a .hiding) (a .t) (a .s) (p .tables .effects) (p .named .action 0 (omega arith)) (sym (acts-here here) ∙ c .before .before .before .before .if1 .taken)
+    start-applied (a .hiding) (a .t) (a .s) (p .tables .effects) (p .named .action 0 (omega arith)) (sym (acts-here here) ∙ arm (c .before) .if1 .taken)
     (rw (c .before .before .fluents-of .ensures .0, here .before .before .before .start-action .ensures .0) at (c .apply .ensures))
 
 returns-2 : tie.Need-returns-2

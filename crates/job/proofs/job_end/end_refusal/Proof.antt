@@ -4,6 +4,9 @@ use borrow.Author.Needs.{needs}
 use Rattle.job.proofs.job_end.end_refusal.Statement.{statement}
 use Rattle.job.proofs.job_end.end_refusal.Tie as tie
 
+abbrev entry : tie.After-less-one → tie.Start
+entry c = c .before .before .before .before
+
 returns : tie.Need-returns
 unfolding endRefusal
 returns c =
@@ -11,7 +14,7 @@ returns c =
     let set = names .before .before .before in
     let count = set .before .before .before in
     let root = count .before .before in
-    let s = root .before .before .before .before .pre .1 in
+    let s = entry root .pre .1 in
     rw (
       ← (s .actions),
       ← (s .nodes),

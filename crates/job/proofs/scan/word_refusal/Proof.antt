@@ -10,8 +10,12 @@ use Rattle.job.proofs.Refusal.{ruled, may, may-not}
 use Rattle.job.proofs.scan.word_refusal.Statement.{statement}
 use Rattle.job.proofs.scan.word_refusal.Tie as tie
 
+-- the function's entry, from the test of the word before and from past it
+abbrev asked : tie.After-may-follow → tie.Start
+asked c = c .before .before .before .before .before .before
+
 abbrev entry : tie.Else1 → tie.Start
-entry c = c .before .before .before .before .before .before .before
+entry c = asked (c .before)
 
 -- past the test of the word before, the refusal of a word of kind k is its rule's
 passed : (c : tie.Else1) (k : ℕ) → c .before .before .before .kind-of .result ≡ k
@@ -22,17 +26,17 @@ passed c k h =
 
 returns : tie.Need-returns
 returns c =
-    let s = c .before .before .before .before .before .before .before in
+    let s = asked (c .before) in
     sym
     (may-not (s .args .job .now) (s .args .i) _ (sym (c .before .before .before .kind-of .ensures .0))
     (rw (← (c .before .before .predecessor .ensures)) (sym (c .before .may-follow .ensures) ∙ not-true _ (c .if1 .taken))))
 
 returns-10 : tie.Need-returns-10
 returns-10 c =
-    let r = c .match .rest in
+    let ((((((((rest, not-1), not-2), not-3), not-4), not-5), not-6), not-7), not-8) = c .match .rest in
     sym
     (passed (c .before) _ refl
-    ∙ rw (ne-eqb _ 1 (r .0 .0 .0 .0 .0 .0 .0 .1), ne-eqb _ 2 (r .0 .0 .0 .0 .0 .0 .1), ne-eqb _ 3 (r .0 .0 .0 .0 .0 .1), ne-eqb _ 4 (r .0 .0 .0 .0 .1), ne-eqb _ 5 (r .0 .0 .0 .1), ne-eqb _ 6 (r .0 .0 .1), ne-eqb _ 7 (r .0 .1), ne-eqb _ 8 (r .1)))
+    ∙ rw (ne-eqb _ 1 not-1, ne-eqb _ 2 not-2, ne-eqb _ 3 not-3, ne-eqb _ 4 not-4, ne-eqb _ 5 not-5, ne-eqb _ 6 not-6, ne-eqb _ 7 not-7, ne-eqb _ 8 not-8))
 
 pub word-refusal-spec : {M : Type 1} → statement M
 word-refusal-spec =

@@ -16,8 +16,11 @@ use Rattle.reading.proofs.rows.row.Tie as tie
 abbrev entry : tie.After-form-of → tie.Start
 entry f = f .before .before .before .before .before .before
 
-x-is : (f : tie.After-form-of) → f .before .before .before .before .node-x .result ≡ nodeX (entry f .args .word)
-x-is f = f .before .before .before .before .node-x .ensures .0
+abbrev at-x : tie.After-form-of → tie.After-node-x
+at-x f = f .before .before .before .before
+
+x-is : (f : tie.After-form-of) → at-x f .node-x .result ≡ nodeX (entry f .args .word)
+x-is f = at-x f .node-x .ensures .0
 
 y-is : (f : tie.After-form-of) → f .before .before .before .node-y .result ≡ nodeY (entry f .args .word)
 y-is f = f .before .before .before .node-y .ensures .0

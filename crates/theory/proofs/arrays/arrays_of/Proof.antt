@@ -6,8 +6,15 @@ use borrow.Author.Needs.{needs}
 use Rattle.theory.proofs.arrays.arrays_of.Statement.{statement}
 use Rattle.theory.proofs.arrays.arrays_of.Tie as tie
 
+-- the function's entry, from where the plan's parts are taken, and from the last moment
+abbrev taken : tie.After-shared-slice-known3 → tie.Start
+taken c = c .before .before .before .before .before .before .before .before .before .before
+
 abbrev entry : tie.After-last-of → tie.Start
-entry c = c .before .before .before .before .before .before .before .before .before .before .before
+entry c = taken (c .before)
+
+abbrev at-last : tie.After-start-moments → tie.After-last-of
+at-last c = c .before .before .before .before
 
 standard-values-requires : tie.Need-standard-values-requires
 standard-values-requires c κs =
@@ -17,7 +24,7 @@ standard-values-requires c κs =
 
 returns : tie.Need-returns
 returns c =
-    let l = c .before .before .before .before in
+    let l = at-last c in
     let s = entry l in
     let p = s .pre in
     let clear = job-clear _ _ (p .clear) in
@@ -33,5 +40,5 @@ returns c =
 pub arrays-of-spec : {M : Type 1} → statement M
 arrays-of-spec =
     tie.close
-    (tie.spec (λ c. plan-formed _ _ (c .before .before .before .before .before .before .before .before .before .before .pre .clear) .some)
+    (tie.spec (λ c. plan-formed _ _ (taken c .pre .clear) .some)
     (λ c κs. search needs) standard-values-requires (λ c κs. search needs) returns)

@@ -14,11 +14,15 @@ Inv-loop starts moments₀ i₀ moments i = (i ≤ length starts) × Started sta
 abbrev μ-loop : tie.MeasureT-loop
 μ-loop starts moments₀ i₀ moments i = i
 
+-- the turn of the loop, from where the sets are joined
+abbrev turn : tie.After-union Inv-loop μ-loop → tie.In-loop Inv-loop μ-loop
+turn c = c .before .before .before .before .before
+
 loop-again : tie.Need-loop-again Inv-loop μ-loop
 loop-again c =
-    let l = c .before .before .before .before .before .loop-test .taken in (
+    let l = turn c .loop-test .taken in (
       omega arith,
-      started-more (c .before .single .result) (c .union .result) (c .before .before .before .before .before .before .loop .inv .1) (omega arith) (omega arith)
+      started-more (c .before .single .result) (c .union .result) (turn c .before .loop .inv .1) (omega arith) (omega arith)
           (c .before .before .before .start-action .ensures .0)
           (c .before .before .start-moment .ensures .0)
           (c .before .single .ensures)
