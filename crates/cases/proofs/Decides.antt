@@ -21,7 +21,7 @@ use Rattle.model.specs.Forms.{Form, Act, Test, Sequence, Choice, If, While, Sta
 use Rattle.reading.specs.Forms.{setAt}
 use Rattle.reading.specs.Code.Forms.{NodeReadable}
 use Rattle.reading.specs.Reading.{HasReading}
-use Rattle.reading.specs.Code.Rule.{Rule}
+use Rattle.reading.specs.Code.Rule.{InTurn, StartsWithin, EndsWithin, Rule}
 use Rattle.cases.proofs.Decision.{some, each, through, metb, insideb, coveredb, conditionb, placingb, tried, setb, ruleb, reads}
 use Rattle.reading.proofs.Step.{step, Filled, carry}
 
@@ -122,7 +122,7 @@ module _ (b e : ℕ) (bs es : ℕ → ℕ) where
       (and-given _ _ (and-law (leb b e) (leb e (s .last)) (le-law b e) (le-law e (s .last)))
       (λ o. and-given _ _ (each-tells (insideb b e bs es) (memberCount s) (λ i l. inside-law i))
       (λ i. and-law _ _ (covers-law (memberCount s)) (each-tells (conditionb s bs es) (length (s .conditions)) (condition o i)))))
-      (λ h. record { onward = h .0 .0; within = h .0 .1; inside = h .1 .0; covers = h .1 .1 .0; met = h .1 .1 .1 }, λ p. ((p .onward, p .within), (p .inside, (p .covers, p .met))))
+      (λ h. let ((onward, within), (inside, (covers, met))) = h in record { onward = onward; within = within; inside = inside; covers = covers; met = met }, λ p. ((p .onward, p .within), (p .inside, (p .covers, p .met))))
     where
       condition : (b ≤ e) × (e ≤ s .last) → ((i : ℕ) → i < memberCount s → (b ≤ bs i) × (bs i ≤ es i) × (es i ≤ e))
           → (c : ℕ) → c < length (s .conditions) → Tells (conditionb s bs es c) (Met s (getD (s .conditions) c 0) bs es)
@@ -208,10 +208,10 @@ set-law {s} R b e g = (
 
 -- some m from a to n between the two parts
 between : (n a : ℕ) (f g : ℕ → Bool)
-    → Tells (some (λ m. leb a m && (f m && g m)) (suc n)) ((m : ℕ) × (a ≤ m) × (m ≤ n) × (f m ≡ true) × (g m ≡ true))
+    → Tells (some (λ m. leb a m && (f m && g m)) (suc n)) (InTurn a n (λ m. f m ≡ true) (λ m. g m ≡ true))
 between n a f g = Iff·trans (some-law (λ m. leb a m && (f m && g m)) (suc n)) (
-  λ h. let r = both (h .0) .0 (h .2) in (h .0, r .0, omega (arith, h .1), r .1 .0, r .1 .1),
-  λ h. (h .0, omega (arith, h .2), both (h .0) .1 (h .1, (h .3, h .4))),
+  λ h. let r = both (h .0) .0 (h .2) in record { m = h .0; early = r .0; upto = omega (arith, h .1); left = r .1 .0; right = r .1 .1 },
+  λ h. (h .m, omega (arith, h .upto), both (h .m) .1 (h .early, (h .left, h .right))),
 )
   where
     both : (m : ℕ) → Tells (leb a m && (f m && g m)) ((a ≤ m) × ((f m ≡ true) × (g m ≡ true)))
@@ -223,7 +223,7 @@ within-law lo hi m = and-law (leb lo m) (leb m hi) (le-law lo m) (le-law m hi)
 
 start-law : (n e lo hi : ℕ) (f : ℕ → Bool) (g : ℕ → ℕ → Bool)
     → Tells (some (λ m. (leb lo m && leb m hi) && some (λ k. f k && some (λ l. eqb e (max k l) && g m l) (suc e)) (suc e)) (suc n))
-    ((m : ℕ) × (lo ≤ m) × (m ≤ hi) × (m ≤ n) × ((k : ℕ) × (l : ℕ) × (e ≡ max k l) × (f k ≡ true) × (g m l ≡ true)))
+    (StartsWithin lo hi n e (λ k. f k ≡ true) (λ m l. g m l ≡ true))
 start-law n e lo hi f g = Iff·trans (some-law (λ m. (leb lo m && leb m hi) && some (first m) (suc e)) (suc n)) (
   λ h.
       let a = outer (h .0) .0 (h .2) in
@@ -231,13 +231,13 @@ start-law n e lo hi f g = Iff·trans (some-law (λ m. (leb lo m && leb m hi) && 
       let c = inner (h .0) (b .0) .0 (b .2) in
       let d = some-law (second (h .0) (b .0)) (suc e) .0 (c .1) in
       let r = last (h .0) (b .0) (d .0) .0 (d .2) in
-      (h .0, a .0 .0, a .0 .1, omega (arith, h .1), (b .0, d .0, r .0, c .0, r .1)),
+      record { m = h .0; early = a .0 .0; late = a .0 .1; upto = omega (arith, h .1); k = b .0; l = d .0; greater = r .0; left = c .0; right = r .1 },
   λ h.
-      let m = h .0 in
-      let k = h .4 .0 in
-      let l = h .4 .1 in
-      let q = h .4 .2 in
-      (m, omega (arith, h .3), outer m .1 ((h .1, h .2), some-law (first m) (suc e) .1 (k, omega arith, inner m k .1 (h .4 .3, some-law (second m k) (suc e) .1 (l, omega arith, last m k l .1 (q, h .4 .4)))))),
+      let m = h .m in
+      let k = h .k in
+      let l = h .l in
+      let q = h .greater in
+      (m, omega (arith, h .upto), outer m .1 ((h .early, h .late), some-law (first m) (suc e) .1 (k, omega arith, inner m k .1 (h .left, some-law (second m k) (suc e) .1 (l, omega arith, last m k l .1 (q, h .right)))))),
 )
   where
     second : ℕ → ℕ → ℕ → Bool
@@ -257,17 +257,17 @@ start-law n e lo hi f g = Iff·trans (some-law (λ m. (leb lo m && leb m hi) && 
 
 end-law : (n b M N : ℕ) (f g : ℕ → Bool)
     → Tells (some (λ k. (leb b k && f k) && some (λ m. (leb (k + M) m && leb m (k + N)) && g m) (suc n)) (suc n))
-    ((k : ℕ) × (m : ℕ) × (b ≤ k) × (k + M ≤ m) × (m ≤ k + N) × (m ≤ n) × (f k ≡ true) × (g m ≡ true))
+    (EndsWithin b M N n (λ k. f k ≡ true) (λ m. g m ≡ true))
 end-law n b M N f g = Iff·trans (some-law (λ k. (leb b k && f k) && some (begin k) (suc n)) (suc n)) (
   λ h.
       let a = outer (h .0) .0 (h .2) in
       let c = some-law (begin (h .0)) (suc n) .0 (a .1) in
       let r = inner (h .0) (c .0) .0 (c .2) in
-      (h .0, c .0, a .0 .0, r .0 .0, r .0 .1, omega (arith, c .1), a .0 .1, r .1),
+      record { k = h .0; m = c .0; after = a .0 .0; early = r .0 .0; late = r .0 .1; upto = omega (arith, c .1); left = a .0 .1; right = r .1 },
   λ h.
-      let k = h .0 in
-      let m = h .1 in
-      (k, omega (arith, h .3, h .5), outer k .1 ((h .2, h .6), some-law (begin k) (suc n) .1 (m, omega (arith, h .5), inner k m .1 ((h .3, h .4), h .7)))),
+      let k = h .k in
+      let m = h .m in
+      (k, omega (arith, h .early, h .upto), outer k .1 ((h .after, h .left), some-law (begin k) (suc n) .1 (m, omega (arith, h .upto), inner k m .1 ((h .early, h .late), h .right)))),
 )
   where
     begin : ℕ → ℕ → Bool

@@ -129,9 +129,10 @@ module _ {P : Procedure} {T : Trajectory} {size : ℕ} {places table : List ℕ}
   module _ {x y : ℕ} (f : formAt P p ≡ Sequence) (ex : x ≡ fieldX P p) (ey : y ≡ fieldY P p) where
     pub sequence-some : (k : ℕ) × (m : ℕ) × CutAt table x y b e 0 0 b k m
     sequence-some =
-        let (m, h, l, tx, ty) = rule Sequence f in
+        let r = rule Sequence f in
+        let l = r .upto in
         let small = s .ready .moments in
-        (m, m, record { after = h; end = omega arith; early = omega arith; late = omega arith; begin = omega arith; ends = rw ex tx; begins = rw ey ty })
+        (r .m, r .m, record { after = r .early; end = omega arith; early = omega arith; late = omega arith; begin = omega arith; ends = rw ex (r .left); begins = rw ey (r .right) })
 
     pub sequence-chosen : {k m : ℕ} → CutAt table x y b e 0 0 b k m → Chosen P T table p b e (twoParts x b k y m e)
     sequence-chosen {k} {m} c =
@@ -144,9 +145,11 @@ module _ {P : Procedure} {T : Trajectory} {size : ℕ} {places table : List ℕ}
   module _ {x y least most : ℕ} (f : formAt P p ≡ EndWindow) (ex : x ≡ fieldX P p) (ey : y ≡ fieldY P p) (em : least ≡ fieldM P p) (en : most ≡ fieldN P p) where
     pub end-some : (k : ℕ) × (m : ℕ) × CutAt table x y b e least most b k m
     end-some =
-        let (k, m, h, g, u, l, tx, ty) = rule EndWindow f in
+        let r = rule EndWindow f in
+        let l = r .upto in
+        let g = r .early in
         let small = s .ready .moments in
-        (k, m, record { after = h; end = omega arith; early = rw em g; late = rw en u; begin = omega arith; ends = rw ex tx; begins = rw ey ty })
+        (r .k, r .m, record { after = r .after; end = omega arith; early = rw em g; late = rw en (r .late); begin = omega arith; ends = rw ex (r .left); begins = rw ey (r .right) })
 
     pub end-chosen : {k m : ℕ} → CutAt table x y b e least most b k m → Chosen P T table p b e (twoParts x b k y m e)
     end-chosen c =
@@ -157,10 +160,10 @@ module _ {P : Procedure} {T : Trajectory} {size : ℕ} {places table : List ℕ}
   module _ {x y least most : ℕ} (f : formAt P p ≡ StartWindow) (ex : x ≡ fieldX P p) (ey : y ≡ fieldY P p) (em : least ≡ fieldM P p) (en : most ≡ fieldN P p) where
     pub start-some : (k : ℕ) × (m : ℕ) × (l : ℕ) × StartAt table x y b e least most k m l
     start-some =
-        let (m, h, g, l, rest) = rule StartWindow f in
-        let (k, j, d, tx, ty) = rest in
+        let r = rule StartWindow f in
+        let l = r .upto in
         let small = s .ready .moments in
-        (k, m, j, record { early = rw em h; late = rw en g; begin = omega arith; ends = record { first = rw ex tx; second = rw ey ty; greater = d } })
+        (r .k, r .m, r .l, record { early = rw em (r .early); late = rw en (r .late); begin = omega arith; ends = record { first = rw ex (r .left); second = rw ey (r .right); greater = r .greater } })
 
     pub start-chosen : {k m l : ℕ} → StartAt table x y b e least most k m l → Chosen P T table p b e (twoParts x b k y m l)
     start-chosen c =

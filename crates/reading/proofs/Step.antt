@@ -63,18 +63,18 @@ module _ {P : Procedure} {T : Trajectory} where
   parts : {p b e : ℕ} {ws : List ℕ} → e ≤ T .last → Reading P T whole p b e ws → Rule P T (HasReading P T) (formAt P p) p b e
   parts h (act f s d) = rw f (s, d, h)
   parts h (test f t d) = rw f (t, d)
-  parts h (sequence f l r) = let hl = onward l in let hr = onward r in rw f (_, hl, omega arith, (omega arith, (_, l)), (h, (_, r)))
+  parts h (sequence f l r) = let hl = onward l in let hr = onward r in rw f (record { m = _; early = hl; upto = omega arith; left = (omega arith, (_, l)); right = (h, (_, r)) })
   parts h (first f l) = rw f (inl (h, (_, l)))
   parts h (second f r) = rw f (inr (h, (_, r)))
   parts h (taken f t l) = rw f (inl (t, (h, (_, l))))
   parts h (otherwise f t r) = rw f (inr (t, (h, (_, r))))
   parts h (loop f (done t d)) = rw f (inl (t, d))
   parts h (loop f (pass {m = m} t g l r)) =
-      let hr = onward r in rw f (inr (t, (m, omega arith, omega arith, (omega arith, (_, l)), (h, (_, loop f r)))))
+      let hr = onward r in rw f (inr (t, record { m = m; early = omega arith; upto = omega arith; left = (omega arith, (_, l)); right = (h, (_, loop f r)) }))
   parts h (startWindow {k = k} {m = m} {l = j} f l r g u d) =
-      let hr = onward r in rw f (m, g, u, omega arith, (k, j, d, (omega arith, (_, l)), (omega arith, (_, r))))
+      let hr = onward r in rw f (record { m = m; early = g; late = u; upto = omega arith; k = k; l = j; greater = d; left = (omega arith, (_, l)); right = (omega arith, (_, r)) })
   parts h (endWindow {k = k} {m = m} f l r g u) =
-      let hl = onward l in let hr = onward r in rw f (k, m, hl, g, u, omega arith, (omega arith, (_, l)), (h, (_, r)))
+      let hl = onward l in let hr = onward r in rw f (record { k = k; m = m; after = hl; early = g; late = u; upto = omega arith; left = (omega arith, (_, l)); right = (h, (_, r)) })
   parts h (set {bs = bs} {es = es} {us = us} f r g) = rw f (record {
     begins = bs;
     ends = es;
@@ -92,19 +92,19 @@ module _ {P : Procedure} {T : Trajectory} where
   unfolding Passing
   made Act f h r = (r .2, (_, act f (r .0) (r .1)))
   made Test f h r = let d = r .1 in (omega arith, (_, test f (r .0) d))
-  made Sequence f h r = (r .4 .0, (_, sequence f (r .3 .1 .1) (r .4 .1 .1)))
+  made Sequence f h r = (r .right .0, (_, sequence f (r .left .1 .1) (r .right .1 .1)))
   made Choice f h (inl r) = (r .0, (_, first f (r .1 .1)))
   made Choice f h (inr r) = (r .0, (_, second f (r .1 .1)))
-  made If f h (inl r) = (r .1 .0, (_, taken f (r .0) (r .1 .1 .1)))
-  made If f h (inr r) = (r .1 .0, (_, otherwise f (r .0) (r .1 .1 .1)))
+  made If f h (inl r) = let (t, l) = r in (l .0, (_, taken f t (l .1 .1)))
+  made If f h (inr r) = let (t, l) = r in (l .0, (_, otherwise f t (l .1 .1)))
   made While f h (inl r) = let d = r .1 in (omega arith, (_, loop f (done (r .0) d)))
   made While f h (inr r) =
-      let rest = r .1 .4 in let g = r .1 .1 in
-      (rest .0, (_, loop f (pass {m = r .1 .0} (r .0) (omega arith) (r .1 .3 .1 .1) ((rw f at (passing (rest .1 .1))) .1))))
+      let (t, s) = r in let g = s .early in let rest = s .right in
+      (rest .0, (_, loop f (pass {m = s .m} t (omega arith) (s .left .1 .1) ((rw f at (passing (rest .1 .1))) .1))))
   made StartWindow f h r =
-      let x = r .4 .3 .0 in let y = r .4 .4 .0 in let d = r .4 .2 in
-      (omega arith, (_, startWindow f (r .4 .3 .1 .1) (r .4 .4 .1 .1) (r .1) (r .2) d))
-  made EndWindow f h r = (r .7 .0, (_, endWindow f (r .6 .1 .1) (r .7 .1 .1) (r .3) (r .4)))
+      let x = r .left .0 in let y = r .right .0 in let d = r .greater in
+      (omega arith, (_, startWindow f (r .left .1 .1) (r .right .1 .1) (r .early) (r .late) d))
+  made EndWindow f h r = (r .right .0, (_, endWindow f (r .left .1 .1) (r .right .1 .1) (r .early) (r .late)))
   made Set f h r = let us = chosen r in (r .placing .within, (_, set {us = λ i. us i .0} f (λ i l. us i .1 l) (r .placing)))
   made Reserved f h r = absurd r
 
@@ -121,18 +121,50 @@ pub carry : (P : Procedure) (T : Trajectory) {p b : ℕ} (e : ℕ) {R S : ℕ �
     → ((q c d : ℕ) → Filled p (b + 1) q c → c ≤ T .last → R q c d → S q c d) → Rule P T R k p b e → Rule P T S k p b e
 carry P T e Act g h f r = r
 carry P T e Test g h f r = r
-carry P T e Sequence g h f r = (r .0, r .1, r .2, f _ _ _ (inl (g .0)) h (r .3), f _ _ _ (inl (g .1 .0)) (r .2) (r .4))
+carry P T e Sequence g h f r = record {
+  m = r .m;
+  early = r .early;
+  upto = r .upto;
+  left = f _ _ _ (inl (g .0)) h (r .left);
+  right = f _ _ _ (inl (g .1 .0)) (r .upto) (r .right);
+}
 carry P T e Choice g h f (inl r) = inl (f _ _ _ (inl (g .0)) h r)
 carry P T e Choice g h f (inr r) = inr (f _ _ _ (inl (g .1 .0)) h r)
 carry P T e If g h f (inl r) = inl (r .0, f _ _ _ (inl (g .0)) h (r .1))
 carry P T e If g h f (inr r) = inr (r .0, f _ _ _ (inl (g .1 .0)) h (r .1))
 carry P T e While g h f (inl r) = inl r
-carry P T e While g h f (inr r) =
-    inr (r .0, (r .1 .0, r .1 .1, r .1 .2, f _ _ _ (inl (g .0)) h (r .1 .3), f _ _ _ (inr (refl, r .1 .1)) (r .1 .2) (r .1 .4)))
-carry P T e StartWindow g h f r =
-    (r .0, r .1, r .2, r .3, (r .4 .0, r .4 .1, r .4 .2, f _ _ _ (inl (g .0)) h (r .4 .3), f _ _ _ (inl (g .1 .0)) (r .3) (r .4 .4)))
-carry P T e EndWindow g h f r =
-    (r .0, r .1, r .2, r .3, r .4, r .5, f _ _ _ (inl (g .0)) h (r .6), f _ _ _ (inl (g .1 .0)) (r .5) (r .7))
+carry P T e While g h f (inr r) = let (t, s) = r in
+    inr (
+      t,
+      record {
+        m = s .m;
+        early = s .early;
+        upto = s .upto;
+        left = f _ _ _ (inl (g .0)) h (s .left);
+        right = f _ _ _ (inr (refl, s .early)) (s .upto) (s .right);
+      },
+    )
+carry P T e StartWindow g h f r = record {
+  m = r .m;
+  early = r .early;
+  late = r .late;
+  upto = r .upto;
+  k = r .k;
+  l = r .l;
+  greater = r .greater;
+  left = f _ _ _ (inl (g .0)) h (r .left);
+  right = f _ _ _ (inl (g .1 .0)) (r .upto) (r .right);
+}
+carry P T e EndWindow g h f r = record {
+  k = r .k;
+  m = r .m;
+  after = r .after;
+  early = r .early;
+  late = r .late;
+  upto = r .upto;
+  left = f _ _ _ (inl (g .0)) h (r .left);
+  right = f _ _ _ (inl (g .1 .0)) (r .upto) (r .right);
+}
 carry P T {p = p} e Set g h f r = record {
   begins = r .begins;
   ends = r .ends;

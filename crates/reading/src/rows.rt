@@ -3,12 +3,13 @@
 ghost use mathlib.Core.Bool.{true};
 ghost use mathlib.Core.Path.{_≡_};
 ghost use mathlib.Core.Logic.{_↔_, _⊎_};
-ghost use Prim.Native.Nat.{ℕ, _+_, _*_, _<_, _≤_, max};
+ghost use Prim.Native.Nat.{ℕ, _+_, _*_, _<_, _≤_};
 ghost use lib.ListN.{length};
 ghost use Rattle.bitset.specs.Code.Members.{has, In};
 ghost use Rattle.words.specs.Fields.{fails, holds};
 ghost use Rattle.model.specs.Code.Arrays.{alone, trajectoryAt};
 ghost use Rattle.model.specs.Code.Table.{InTable};
+ghost use Rattle.reading.specs.Code.Rule.{InTurn, StartsWithin, EndsWithin};
 ghost use Rattle.reading.specs.Code.Table.{TwoRows, RowsThrough, WindowReady, After, RowReady, RowOf};
 use words::MOMENTS;
 
@@ -69,7 +70,7 @@ fn test_row(value: u8, b: usize) -> u64
 // 2, sequence.
 fn sequence_row(last: usize, table: &[u64], x: usize, y: usize, b: usize) -> u64
     requires { ⌜ RowsThrough (now table) x y b last ⌝ }
-    ensures { λ r. ⌜ ((e : ℕ) → In r e ↔ ((m : ℕ) × (b ≤ m) × (m ≤ last) × InTable (now (table .entry)) x b m × InTable (now (table .entry)) y m e)) ⌝ }
+    ensures { λ r. ⌜ ((e : ℕ) → In r e ↔ InTurn b last (InTable (now (table .entry)) x b) (λ m. InTable (now (table .entry)) y m e)) ⌝ }
 {
     bitset::join_rows(table[x * MOMENTS + b], table, y * MOMENTS)
 }
@@ -100,7 +101,7 @@ fn if_row(value: u8, table: &[u64], y: usize, m: usize, b: usize) -> u64
 fn while_row(guard: u8, last: usize, table: &[u64], p: usize, y: usize, b: usize) -> u64
     requires { ⌜ (b ≤ last) × (last < 64) ⌝ }
     requires { ⌜ TwoRows (now table) p y b ⌝ }
-    ensures { λ r. ⌜ ((e : ℕ) → In r e ↔ (((guard ≡ fails) × (e ≡ b)) ⊎ ((guard ≡ holds) × ((m : ℕ) × (b + 1 ≤ m) × (m ≤ last) × InTable (now (table .entry)) y b m × InTable (now (table .entry)) p m e)))) ⌝ }
+    ensures { λ r. ⌜ ((e : ℕ) → In r e ↔ (((guard ≡ fails) × (e ≡ b)) ⊎ ((guard ≡ holds) × InTurn (b + 1) last (InTable (now (table .entry)) y b) (λ m. InTable (now (table .entry)) p m e)))) ⌝ }
 {
     if guard == 0 {
         return bitset::single(b as u32);
@@ -124,7 +125,7 @@ fn start_window_row(
 ) -> u64
     requires { ⌜ TwoRows (now table) x y b ⌝ }
     requires { ⌜ WindowReady last least most ⌝ }
-    ensures { λ r. ⌜ ((e : ℕ) → In r e ↔ ((m : ℕ) × (b + least ≤ m) × (m ≤ b + most) × (m ≤ last) × ((k : ℕ) × (l : ℕ) × (e ≡ max k l) × InTable (now (table .entry)) x b k × InTable (now (table .entry)) y m l))) ⌝ }
+    ensures { λ r. ⌜ ((e : ℕ) → In r e ↔ StartsWithin (b + least) (b + most) last e (InTable (now (table .entry)) x b) (InTable (now (table .entry)) y)) ⌝ }
 {
     let begins = window(b + least, b + most, last);
     bitset::max_of(
@@ -145,7 +146,7 @@ fn end_window_row(
 ) -> u64
     requires { ⌜ RowsThrough (now table) x y b last ⌝ }
     requires { ⌜ WindowReady last least most ⌝ }
-    ensures { λ r. ⌜ ((e : ℕ) → In r e ↔ ((k : ℕ) × (m : ℕ) × (b ≤ k) × (k + least ≤ m) × (m ≤ k + most) × (m ≤ last) × InTable (now (table .entry)) x b k × InTable (now (table .entry)) y m e)) ⌝ }
+    ensures { λ r. ⌜ ((e : ℕ) → In r e ↔ EndsWithin b least most last (InTable (now (table .entry)) x b) (λ m. InTable (now (table .entry)) y m e)) ⌝ }
 {
     let begins = windows(table[x * MOMENTS + b], least, most, last);
     bitset::join_rows(begins, table, y * MOMENTS)

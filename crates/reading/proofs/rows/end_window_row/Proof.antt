@@ -15,8 +15,8 @@ returns c = λ e.
       λ t.
           let r = j .0 t in
           let a = w (r .0) .0 (r .1) in
-          (a .end, r .0, inside (a .end) (a .member) .0, a .early, a .late, a .upto, a .member, r .2),
-      λ h. j .1 (h .1, w (h .1) .1 (record { end = h .0; member = h .6; early = h .3; late = h .4; upto = h .5 }), h .7),
+          record { k = a .end; m = r .0; after = inside (a .end) (a .member) .0; early = a .early; late = a .late; upto = a .upto; left = a .member; right = r .2 },
+      λ h. j .1 (h .m, w (h .m) .1 (record { end = h .k; member = h .left; early = h .early; late = h .late; upto = h .upto }), h .right),
     )
 
 pub end-window-row-spec : {M : Type 1} → statement M

@@ -6,8 +6,8 @@ use Rattle.reading.proofs.rows.sequence_row.Tie as tie
 
 returns : tie.Need-returns
 returns c = λ e. let j = in-joined (c .join-rows .ensures) e in (
-  λ t. let r = j .0 t in let i = c .before .before .before .pre .inside (r .0) (r .1) in (r .0, i .0, i .1, r .1, r .2),
-  λ r. j .1 (r .0, r .3, r .4),
+  λ t. let r = j .0 t in let i = c .before .before .before .pre .inside (r .0) (r .1) in record { m = r .0; early = i .0; upto = i .1; left = r .1; right = r .2 },
+  λ r. j .1 (r .m, r .left, r .right),
 )
 
 pub sequence-row-spec : {M : Type 1} → statement M

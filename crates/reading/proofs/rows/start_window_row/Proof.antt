@@ -9,8 +9,9 @@ returns c = λ e.
     let x = in-max (c .max-of .ensures) e in
     let j = in-joined (c .before .join-rows .ensures) in
     let w = c .before .before .before .window .ensures in (
-      λ t. let r = x .0 t in let y = j (r .1) .0 (r .4) in let k = w (y .0) .0 (y .1) in (y .0, k .0, k .1, k .2, (r .0, r .1, r .2, r .3, y .2)),
-      λ h. x .1 (h .4 .0, h .4 .1, h .4 .2, h .4 .3, j (h .4 .1) .1 (h .0, w (h .0) .1 (h .1, h .2, h .3), h .4 .4)),
+      λ t. let r = x .0 t in let y = j (r .1) .0 (r .4) in let k = w (y .0) .0 (y .1) in
+          record { m = y .0; early = k .0; late = k .1; upto = k .2; k = r .0; l = r .1; greater = r .2; left = r .3; right = y .2 },
+      λ h. x .1 (h .k, h .l, h .greater, h .left, j (h .l) .1 (h .m, w (h .m) .1 (h .early, h .late, h .upto), h .right)),
     )
 
 pub start-window-row-spec : {M : Type 1} → statement M

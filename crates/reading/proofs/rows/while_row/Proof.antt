@@ -21,8 +21,8 @@ returns-2 c = λ e.
     let v = then2 c .if2 .taken in
     let x = in-both (c .before .inter .ensures) in
     let w = c .before .before .window .ensures in (
-      λ t. let r = j .0 t in let i = x (r .0) .0 (r .1) in let k = w (r .0) .0 (i .1) in inr (v, (r .0, k .0, k .2, i .0, r .2)),
-      ⊎-elim (λ h. absurd (omega (arith, h .0))) (λ h. j .1 (h .1 .0, x (h .1 .0) .1 (h .1 .3, w (h .1 .0) .1 (h .1 .1, h .1 .2, h .1 .2)), h .1 .4)),
+      λ t. let r = j .0 t in let i = x (r .0) .0 (r .1) in let k = w (r .0) .0 (i .1) in inr (v, record { m = r .0; early = k .0; upto = k .2; left = i .0; right = r .2 }),
+      ⊎-elim (λ h. absurd (omega (arith, h .0))) (λ h. let p = h .1 in j .1 (p .m, x (p .m) .1 (p .left, w (p .m) .1 (p .early, p .upto, p .upto)), p .right)),
     )
 
 pub while-row-spec : {M : Type 1} → statement M
