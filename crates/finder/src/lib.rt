@@ -7,9 +7,9 @@ ghost use Rattle.finder.specs.Find.{Searched, Outcome};
 ghost use Rattle.finder.specs.Code.Seek.{Seekable};
 use answers::Answer;
 use answers::answer_of;
-use answers::refuse;
 use model::Arrays;
 use theory::arrays_of;
+use theory::buffer_refusal;
 use theory::judge_facts;
 
 // Of a plan that passes: fills the table, counts, and writes a reading of the root where there is one.
@@ -51,8 +51,9 @@ pub fn find_reading(job: &[u32], starts: &[u32], facts: &[u32], buffer: &mut [u3
     ensures { λ r. ⌜ Outcome (now (job .entry)) (now (starts .entry)) (now (facts .entry)) (now (buffer .entry)) r (now (buffer .exit)) ⌝ }
     ensures { λ r. ⌜ InRange r × (lengthOf r ≤ 4032) ⌝ }
 {
-    if buffer.len() < 4096 {
-        return answer_of(refuse(12, 0), 0, 0);
+    let short = buffer_refusal(buffer.len());
+    if short.number != 0 {
+        return answer_of(short, 0, 0);
     }
     let plan = judge_facts(job, starts, facts);
     let refusal = plan.refusal;

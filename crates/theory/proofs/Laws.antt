@@ -6,18 +6,28 @@ use Prim.Native.Nat.{ℕ, suc, _+_, _≤_, _<_}
 use native.Mathlib.Nat.{zero-add}
 use native.Mathlib.Numerals.{add-one}
 use native.Mathlib.Omega.{arith}
-use borrow.Author.Tests.{eqb-true, eq-eqb, ne-eqb}
-use lib.Dec.{eqb}
+use native.Mathlib.Decide.{decLt}
+use mathlib.Core.Logic.{by-cases}
+use borrow.Author.Tests.{eqb-true, eq-eqb, ne-eqb, le-ltb, ltb-false}
+use lib.Dec.{eqb, ltb}
 use lib.ListN.{length, getD, take, drop, drop-of-length-le}
 use lib.Seq.{sets, sets-eq, take-at, take-length}
 use Rattle.words.proofs.Scan.{drop-next}
-use Rattle.answers.proofs.Rows.{or-assoc}
+use Rattle.answers.proofs.Rows.{or-assoc, row-none}
 use Rattle.answers.specs.Rows.{refusal, passed, firstRefusal}
 use Rattle.job.specs.Refusal.{jobRefusal}
 use Rattle.starts.specs.Rows.{startsRefusal}
 use Rattle.facts.specs.Facts.{factsOf}
 use Rattle.facts.specs.Code.Written.{Filled}
-use Rattle.theory.specs.Answers.{planRefusal, factsRefusal, checkRefusal}
+use Rattle.theory.specs.Answers.{bufferRefusal, planRefusal, factsRefusal, checkRefusal}
+
+-- row 12 fits exactly where the buffer is too short
+module _ (room : ℕ) where
+  pub has-room : bufferRefusal room .number ≡ 0 → 4096 ≤ room
+  has-room e = ltb-false room 4096 (row-none (ltb room 4096) 12 0 (omega arith) e)
+
+  pub lacks-room : (bufferRefusal room .number ≡ 0 → ⊥) → room < 4096
+  lacks-room n = by-cases (decLt room 4096) (λ l. l) (λ g. absurd (n (rw (le-ltb room 4096 (omega arith)))))
 
 -- check's rows are those of the plan, and row 11 after them
 pub check-rows : (job starts facts : List ℕ) → checkRefusal job starts facts ≡ firstRefusal (planRefusal job starts) (factsRefusal facts (factsOf job starts) 0)

@@ -4,13 +4,14 @@ ghost use lib.ListN.{length};
 ghost use Rattle.facts.specs.Facts.{factsOf};
 ghost use Rattle.job.specs.Refusal.{jobRefusal};
 ghost use Rattle.job.specs.Code.Index.{checkedOf};
-ghost use Rattle.theory.specs.Answers.{planRefusal, factsRefusal, checkRefusal, checkAnswer, fillAnswer, written};
+ghost use Rattle.theory.specs.Answers.{bufferRefusal, planRefusal, factsRefusal, checkRefusal, checkAnswer, fillAnswer, written};
 ghost use Rattle.theory.specs.Code.Judged.{Judged};
 use answers::Answer;
 use answers::Refusal;
 use answers::answer_of;
 use answers::none;
 use answers::refuse;
+use answers::row_of;
 use facts::fill_facts;
 use history::durations;
 use history::effects;
@@ -133,13 +134,24 @@ pub fn check_plan(job: &[u32], starts: &[u32], facts: &[u32]) -> Answer
     answer_of(plan.refusal, 0, 0)
 }
 
+// The words that a lent buffer has at least: as many as there can be facts, and more than a reading has.
+pub const BUFFER_WORDS: usize = 4096;
+
+// Row 12, of fill and of find.
+pub fn buffer_refusal(room: usize) -> Refusal
+    ensures { λ r. ⌜ r ≡ bufferRefusal room ⌝ }
+{
+    row_of(room < BUFFER_WORDS, 12, 0)
+}
+
 // Rows 12 and 1 to 10; then the facts are written to the front of the buffer.
 pub fn fill_plan(job: &[u32], starts: &[u32], buffer: &mut [u32]) -> Answer
     ensures { λ r. ⌜ r ≡ fillAnswer (length (now (buffer .entry))) (now (job .entry)) (now (starts .entry)) ⌝ }
     ensures { λ r. ⌜ now (buffer .exit) ≡ written r (factsOf (now (job .entry)) (now (starts .entry))) (now (buffer .entry)) ⌝ }
 {
-    if buffer.len() < 4096 {
-        return answer_of(refuse(12, 0), 0, 0);
+    let short = buffer_refusal(buffer.len());
+    if short.number != 0 {
+        return answer_of(short, 0, 0);
     }
     let plan = judge(job, starts);
     let refused = plan.refusal;
