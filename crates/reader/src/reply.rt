@@ -43,11 +43,13 @@ fn are_sized(job: usize, plan: usize) -> bool
     }
 }
 
+const FILE_WORDS: usize = files::MAX_BYTES / 4;
+
 // Zeros, as values whose length alone is known: a goal does not write them out.
-fn file_words() -> [u32; 8192]
+fn file_words() -> [u32; FILE_WORDS]
     ensures { λ r. ⌜ 8192 ≡ length r ⌝ }
 {
-    [0; 8192]
+    [0; FILE_WORDS]
 }
 
 fn lent_words() -> [u32; 4096]

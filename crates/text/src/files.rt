@@ -5,10 +5,13 @@ ghost use lib.ListN.{length};
 ghost use Rattle.text.specs.Files.{sized, startsOf};
 ghost use Rattle.text.specs.Code.Decoded.{wordOfBytes, Decoded};
 
+// 32 KiB, the most that a file may have.
+pub const MAX_BYTES: usize = 32768;
+
 pub fn is_sized(n: usize) -> bool
     ensures { λ r. ⌜ r ≡ sized n ⌝ }
 {
-    if n <= 32768 { n % 4 == 0 } else { false }
+    if n <= MAX_BYTES { n % 4 == 0 } else { false }
 }
 
 // How many words of a plan are starts: those before the first that is not of kind 9.
