@@ -1,19 +1,23 @@
 -- Laws of the answers: rows one after the other, the comparison of two lists, and words written from the front. Assumes nothing.
 use mathlib.Core.Bool.{Bool, true, false, cond}
 use mathlib.Core.List.{List, [], _∷_, _++_}
+use mathlib.Core.Logic.{by-cases}
 use mathlib.Core.Path.{_≡_, refl, _∙_}
 use Prim.Native.Nat.{ℕ, suc, _+_, _≤_, _<_}
 use native.Mathlib.Nat.{zero-add}
 use native.Mathlib.Numerals.{add-one}
 use native.Mathlib.Omega.{arith}
 use native.Mathlib.Decide.{decLt}
-use mathlib.Core.Logic.{by-cases}
-use borrow.Author.Tests.{eqb-true, eq-eqb, ne-eqb, le-ltb, ltb-false}
+use borrow.Author.Tests.{eqb-true, eq-eqb, ne-eqb, lt-ltb, le-ltb, ltb-false}
 use lib.Dec.{eqb, ltb}
 use lib.ListN.{length, getD, take, drop, drop-of-length-le}
 use lib.Seq.{sets, sets-eq, take-at, take-length}
 use Rattle.words.proofs.Scan.{drop-next}
 use Rattle.answers.proofs.Rows.{or-assoc, row-none}
+use Rattle.answers.specs.declared.Refusal.{Refusal}
+use Rattle.answers.specs.declared.Answer.{Answer}
+use Rattle.answers.specs.declared.Answer.the-variants.{Refused}
+use Rattle.answers.specs.Packed.{answerOf}
 use Rattle.answers.specs.Rows.{refusal, passed, firstRefusal}
 use Rattle.job.specs.Refusal.{jobRefusal}
 use Rattle.starts.specs.Rows.{startsRefusal}
@@ -21,13 +25,16 @@ use Rattle.facts.specs.Facts.{factsOf}
 use Rattle.facts.specs.Code.Written.{Filled}
 use Rattle.theory.specs.Answers.{bufferRefusal, planRefusal, factsRefusal, checkRefusal}
 
--- row 12 fits exactly where the buffer is too short
-module _ (room : ℕ) where
-  pub has-room : bufferRefusal room .number ≡ 0 → 4096 ≤ room
-  has-room e = ltb-false room 4096 (row-none (ltb room 4096) 12 0 (omega arith) e)
+-- row 12: where it does not fit, the buffer is long enough; where it fits, it is too short, and the answer is 12
+module _ (room : ℕ) {r : Refusal} (is : r ≡ bufferRefusal room) where
+  pub has-room : r .number ≡ 0 → 4096 ≤ room
+  has-room e = ltb-false room 4096 (row-none (ltb room 4096) 12 0 (omega arith) (rw is at e))
 
-  pub lacks-room : (bufferRefusal room .number ≡ 0 → ⊥) → room < 4096
-  lacks-room n = by-cases (decLt room 4096) (λ l. l) (λ g. absurd (n (rw (le-ltb room 4096 (omega arith)))))
+  pub lacks-room : (r .number ≡ 0 → ⊥) → room < 4096
+  lacks-room n = by-cases (decLt room 4096) (λ l. l) (λ g. absurd (n (rw (is, le-ltb room 4096 (omega arith)))))
+
+  pub answer-short : {a : Answer} → (r .number ≡ 0 → ⊥) → a ≡ answerOf r 0 0 → a ≡ Refused 12 0 0
+  answer-short n e = e ∙ rw (is, lt-ltb room 4096 (lacks-room n))
 
 -- check's rows are those of the plan, and row 11 after them
 pub check-rows : (job starts facts : List ℕ) → checkRefusal job starts facts ≡ firstRefusal (planRefusal job starts) (factsRefusal facts (factsOf job starts) 0)

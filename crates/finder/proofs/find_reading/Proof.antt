@@ -3,14 +3,12 @@ use mathlib.Core.Path.{_≡_, sym, _∙_, ap, subst}
 use Prim.Native.Nat.{_≤_}
 use native.Mathlib.Omega.{arith}
 use lib.ListN.{length}
-use borrow.Author.Tests.{lt-ltb}
 use Rattle.answers.specs.declared.Refusal.{Refusal}
-use Rattle.answers.specs.declared.Answer.the-variants.{Refused}
 use Rattle.answers.specs.Packed.{answerOf}
 use Rattle.answers.specs.Code.Packed.{InRange}
 use Rattle.theory.specs.Answers.{checkRefusal, checkAnswer}
 use Rattle.theory.specs.Code.Judged.{Passed}
-use Rattle.theory.proofs.Laws.{has-room, lacks-room}
+use Rattle.theory.proofs.Laws.{has-room, lacks-room, answer-short}
 use Rattle.theory.proofs.Range.{check-range}
 use Rattle.theory.proofs.Passing.{job-clear}
 use Rattle.finder.proofs.Refusals.{short-buffer, row-refused, then-sought}
@@ -39,7 +37,7 @@ refused c = c .before .before .before
 
 -- past row 12 there is room
 room : (c : tie.After-judge-facts) → 4096 ≤ length (entry c .args .buffer .now)
-room c = has-room _ (sym (ap (λ (r : Refusal). r .number) (sized c .buffer-refusal .ensures)) ∙ c .before .if1 .left)
+room c = has-room _ (sized c .buffer-refusal .ensures) (c .before .if1 .left)
 
 -- a plan that passes rows 1 to 11
 clear : (c : tie.Else2) → let s = entry (judged c) .args in checkRefusal (s .job .now) (s .starts .now) (s .facts .now) .number ≡ 0
@@ -53,9 +51,8 @@ returns c =
     let called = c .before .before .before in
     let is = called .buffer-refusal .ensures in
     let size = length (asked called .args .buffer .now) in
-    let short = lacks-room size (λ z. c .before .if1 .taken (ap (λ (r : Refusal). r .number) is ∙ z)) in
-    let made : c .answer-of .result ≡ Refused 12 0 0 = c .answer-of .ensures ∙ rw (is, lt-ltb size 4096 short) in
-    rw made (short-buffer _ _ _ _ short, (omega arith, omega arith))
+    rw (answer-short size is (c .before .if1 .taken) (c .answer-of .ensures))
+    (short-buffer _ _ _ _ (lacks-room size is (c .before .if1 .taken)), (omega arith, omega arith))
 
 returns-2 : tie.Need-returns-2
 unfolding checkAnswer

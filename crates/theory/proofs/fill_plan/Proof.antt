@@ -6,14 +6,13 @@ use borrow.Author.Tests.{lt-ltb, le-ltb, eq-eqb, ne-eqb}
 use lib.ListN.{length}
 use lib.Seq.{length-sets}
 use Rattle.answers.specs.declared.Refusal.{Refusal}
-use Rattle.answers.specs.declared.Answer.the-variants.{Refused}
 use Rattle.answers.specs.Packed.{answerOf}
 use Rattle.facts.specs.Facts.{factsOf}
 use Rattle.facts.specs.Code.Written.{Filled}
 use Rattle.facts.proofs.Lists.{facts-fit}
 use Rattle.theory.specs.Answers.{planRefusal, fillRefusal, fillAnswer}
 use Rattle.answers.proofs.Rows.{answer-refused}
-use Rattle.theory.proofs.Laws.{has-room, lacks-room, filled-front}
+use Rattle.theory.proofs.Laws.{has-room, lacks-room, answer-short, filled-front}
 use Rattle.theory.proofs.Passing.{plan-formed}
 use borrow.Author.Needs.{needs}
 use native.Mathlib.Omega.{arith}
@@ -41,7 +40,7 @@ ahead c = c .before .before .before .before
 
 -- past row 12 there is room
 room : (c : tie.After-judge) → 4096 ≤ length (entry c .args .buffer .now)
-room c = has-room _ (sym (ap (λ (r : Refusal). r .number) (sized c .buffer-refusal .ensures)) ∙ c .before .if1 .left)
+room c = has-room _ (sized c .buffer-refusal .ensures) (c .before .if1 .left)
 
 clear : (c : tie.Else2) → planRefusal (entry (judged c) .args .job .now) (entry (judged c) .args .starts .now) .number ≡ 0
 clear c = sym (ap (λ (r : Refusal). r .number) (judged c .judge .ensures .refusal)) ∙ c .if2 .left
@@ -60,9 +59,8 @@ returns c =
     let called = c .before .before .before in
     let is = called .buffer-refusal .ensures in
     let size = length (asked called .args .buffer .now) in
-    let short = lacks-room size (λ z. c .before .if1 .taken (ap (λ (r : Refusal). r .number) is ∙ z)) in
-    let made : c .answer-of .result ≡ Refused 12 0 0 = c .answer-of .ensures ∙ rw (is, lt-ltb size 4096 short) in
-    (made ∙ rw (lt-ltb size 4096 short), rw made)
+    let made = answer-short size is (c .before .if1 .taken) (c .answer-of .ensures) in
+    (made ∙ rw (lt-ltb size 4096 (lacks-room size is (c .before .if1 .taken))), rw made)
 
 returns-2 : tie.Need-returns-2
 unfolding fillAnswer fillRefusal planRefusal
