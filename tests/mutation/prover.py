@@ -79,9 +79,9 @@ KINDS = {
     # a fact that is asked: no proof of it was found
     "a fact fails": ("`search`: no proof", "`omega`", "it is not proved that", "give a proof of that"),
     # a step of the written proof is a proof of something else than what is asked
-    "a step fails": ("expected type", "two types", "`rw`"),
+    "a step fails": ("expected type", "two types", "two sides", "`rw`"),
     # the written proof names what the mutant does not ask, or leaves out what it asks
-    "proof must change": (" that can be named from here",),
+    "proof must change": (" that can be named from here", " has no field "),
 }
 
 
