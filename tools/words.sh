@@ -9,7 +9,9 @@
 #     Start MOMENT ACTION
 #
 # After these values each takes a text, for the comment. A value that does not fit its field, is missing or is no number is said on standard
-# error; the function then returns 1, and writes in place of the word a line that w32 refuses. Names with words_ in front are its own.
+# error; the function then returns 1, and writes in place of the word a line that w32 refuses. A misspelt name is none of these functions and
+# writes no line at all; 'set -e' after '. words.sh' ends a script there, but not at 'test 0' for 'Test 0', which the shell takes. No option
+# of the shell is set here: it may be one that the planner works in. Names with words_ in front are its own.
 
 # Writes a word: BASE, and the values in their FIELDS. A field is LOWEST-BIT:MOST, or LOWEST-BIT:truth for true or false.
 words_line() { # USE BASE FIELDS VALUE.. [TEXT]
