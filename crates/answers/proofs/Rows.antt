@@ -11,7 +11,8 @@ use Rattle.answers.specs.Packed.{answerOf}
 use Rattle.answers.specs.Rows.{refusal, passed, row, firstRefusal, refusalAt, firstOf}
 use Rattle.answers.specs.declared.Refusal.{Refusal}
 
-at-number : (i n : ℕ) → refusalAt i n .number ≡ n
+-- a number at a position
+pub at-number : (i n : ℕ) → refusalAt i n .number ≡ n
 at-number i n = go (eqb n 0) refl
   where
     go : (t : Bool) → eqb n 0 ≡ t → cond t passed (refusal n i) .number ≡ n

@@ -3,26 +3,23 @@ use mathlib.Core.Bool.{Bool, true, false, cond}
 use mathlib.Core.List.{List, [], _∷_, _++_, append-assoc, append-nil}
 use mathlib.Core.Path.{_≡_, refl, ap, _∙_}
 use Prim.Native.Nat.{ℕ, zero, suc, _+_, _-_, _*_, _≤_, _<_}
-use native.Mathlib.Nat.{add-zero, add-suc, suc-add, suc-mul}
+use native.Mathlib.Nat.{add-zero, add-suc, suc-mul}
 use native.Mathlib.Numerals.{add-one}
 use native.Mathlib.Omega.{arith}
 use lib.Dec.{eqb}
-use store.Seg.{take-pre}
-use lib.ListN.{length, getD, set, take, length-append}
+use lib.ListN.{length, getD, length-append}
 use lib.Seq.{sets, length-sets}
 use Rattle.words.specs.Scan.{concatBelow}
-use Rattle.words.specs.Fields.{unknown, factWord}
-use Rattle.job.specs.Parts.{headWord, fluents, lastMoment}
+use Rattle.words.specs.Lists.{insert}
+use Rattle.words.proofs.Copies.{sets-append}
+use Rattle.words.specs.Fields.{unknown, startMoment, startAction, factWord}
+use Rattle.job.specs.Parts.{headWord, fluents, lastMoment, duration}
 use Rattle.job.specs.Code.WellFormed.{WellFormed}
 use Rattle.history.specs.Values.{valueAt}
 use Rattle.history.specs.Code.Tables.{History}
-use Rattle.facts.specs.Facts.{factOf, factsAt, factsUpto, factsOf}
+use Rattle.history.proofs.Before.{value-before}
+use Rattle.facts.specs.Facts.{factOf, factsAt, factsUpto, factsAfter, factsOf}
 use Rattle.facts.specs.Code.Written.{rowFacts, Written, Filled}
-
--- one list written after another
-sets-append : (vs ws l : List ℕ) (i : ℕ) → sets l i (vs ++ ws) ≡ sets (sets l i vs) (i + length vs) ws
-sets-append [] ws l i = rw add-zero
-sets-append (v ∷ vs) ws l i = rw (add-suc i (length vs)) (sets-append vs ws (set l i v) (suc i) ∙ rw suc-add)
 
 module _ {old : List ℕ} {at : ℕ} where
   pub written-none : Written old at [] at old
@@ -133,9 +130,20 @@ unfolding concatBelow
 gather-split g n zero = rw (add-zero, append-nil)
 gather-split g n (suc k) = rw (add-suc n k, gather-split g n k, append-assoc)
 
-pub facts-front : (job starts : List ℕ) (t : ℕ) → t ≤ lastMoment job → take (length (factsUpto job starts t)) (factsOf job starts) ≡ factsUpto job starts t
-unfolding factsOf factsUpto
-facts-front job starts t l =
+pub facts-split : (job starts : List ℕ) (t : ℕ) → t ≤ lastMoment job → factsOf job starts ≡ factsUpto job starts t ++ factsAfter job starts t
+unfolding factsOf factsUpto factsAfter
+facts-split job starts t l =
     let e : lastMoment job + 1 ≡ t + 1 + (lastMoment job - t) = omega arith in
     rw (e, gather-split (factsAt job starts) (t + 1) (lastMoment job - t))
-    (take-pre (concatBelow (factsAt job starts) (t + 1)) _)
+
+-- those of one moment more
+pub facts-next : (job starts : List ℕ) (t : ℕ) → factsUpto job starts (t + 1) ≡ factsUpto job starts t ++ factsAt job starts (t + 1)
+unfolding factsUpto
+facts-next job starts t = gather-more (factsAt job starts) (t + 1)
+
+-- a start that is put in changes no fact up to its own moment
+pub facts-before : (job : List ℕ) (w : ℕ) → 0 < duration job (startAction w) → (starts : List ℕ) (t : ℕ) → t ≤ startMoment w
+    → factsUpto job (insert w starts) t ≡ factsUpto job starts t
+unfolding factsUpto factsAt
+facts-before job w lasts starts t l =
+    gather-same _ _ (t + 1) (λ i m. gather-same _ _ (fluents job) (λ f k. rw (value-before job w lasts starts i f (omega arith))))

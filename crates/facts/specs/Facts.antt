@@ -1,7 +1,7 @@
 -- The list of known facts, by moment and then by fluent, so that the words ascend.
 use mathlib.Core.Bool.{cond}
 use mathlib.Core.List.{List, [], _∷_}
-use Prim.Native.Nat.{ℕ, _+_}
+use Prim.Native.Nat.{ℕ, _+_, _-_}
 use lib.Dec.{eqb}
 use Rattle.words.specs.Fields.{unknown, factWord}
 use Rattle.words.specs.Scan.{concatBelow}
@@ -16,9 +16,12 @@ factOf head t f value = cond (eqb value unknown) [] (factWord head t f value ∷
 unfoldable pub factsAt : List ℕ → List ℕ → ℕ → List ℕ
 factsAt job starts t = concatBelow (λ f. factOf (headWord job) t f (valueAt job starts t f)) (fluents job)
 
--- the facts of moments 0 to t; all facts
+-- the facts of moments 0 to t; those of the moments after t; all facts
 unfoldable pub factsUpto : List ℕ → List ℕ → ℕ → List ℕ
 factsUpto job starts t = concatBelow (factsAt job starts) (t + 1)
+
+unfoldable pub factsAfter : List ℕ → List ℕ → ℕ → List ℕ
+factsAfter job starts t = concatBelow (λ i. factsAt job starts (t + 1 + i)) (lastMoment job - t)
 
 unfoldable pub factsOf : List ℕ → List ℕ → List ℕ
 factsOf job starts = factsUpto job starts (lastMoment job)

@@ -5,6 +5,9 @@ ghost use Rattle.answers.specs.Packed.{packed, Unpacked};
 ghost use Rattle.facts.specs.Facts.{factsOf};
 ghost use Rattle.theory.specs.Answers.{checkAnswer, fillAnswer, written};
 ghost use Rattle.planreader.specs.Promised.{Promised};
+
+pub mod stepping;
+
 use answers::pack;
 use finder::find_reading;
 use theory::check_plan;

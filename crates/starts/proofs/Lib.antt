@@ -1,6 +1,6 @@
 -- Laws that belong to no one function: Rows (rows on the words of a list), StartsFormed
 -- (what row 6 shows), LatestFinish (rows 8 and 9 by the latest finishes), ClashTable (the table of pairs that clash), Needs (needs by the
--- history), RefusalFits (the refusal fits an answer's fields), Lawful (no row fits exactly lawful starts).
+-- history), Opposed (which two starts clash), RefusalFits (the refusal fits an answer's fields), Lawful (no row fits exactly lawful starts).
 pub mod Rows
 pub mod StartsFormed
 pub mod LatestFinish
@@ -8,3 +8,4 @@ pub mod ClashTable
 pub mod Needs
 pub mod RefusalFits
 pub mod Lawful
+pub mod Opposed

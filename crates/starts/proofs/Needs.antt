@@ -1,4 +1,4 @@
--- The needs of an action by the history of a plan. Assumes nothing.
+-- The needs of an action, by the history of a plan; a start that is put in changes none up to its own moment. Assumes nothing.
 use mathlib.Core.Bool.{Bool}
 use mathlib.Core.List.{List, [], _∷_}
 use mathlib.Core.Path.{_≡_, refl, sym, _∙_}
@@ -9,10 +9,12 @@ use lib.ListN.{length, getD, drop, length-drop}
 use lib.Seq.{getD-drop}
 use Rattle.words.specs.Fields.{ofKind, kind, fluentOf, startMoment, startAction}
 use Rattle.words.specs.Scan.{any, takeWhile}
+use Rattle.words.specs.Lists.{insert}
 use Rattle.words.proofs.Scan.{takeWhile-entry}
-use Rattle.job.specs.Parts.{headWord, fluents, actions, lastMoment, lawsOf}
+use Rattle.job.specs.Parts.{headWord, fluents, actions, lastMoment, duration, lawsOf}
 use Rattle.job.proofs.ByPlace.{action-counted, laws-place}
 use Rattle.history.specs.Values.{valueAt}
+use Rattle.history.proofs.Before.{value-before}
 use Rattle.starts.specs.Rows.{unmet, unmetAt, needsUnmet}
 use Rattle.starts.specs.Code.Given.{Recorded}
 use Rattle.starts.proofs.StartsFormed.{right-word}
@@ -40,7 +42,7 @@ module _ {job places history starts : List ℕ} (given : Recorded job places his
           rw (entry .0, same)
           (given .formed .law (p + i) (omega (arith, entry .2, length-drop p job)) (eqb-true (kind (getD job (p + i) 0)) 4 (rw same at (entry .1))))
 
-  needs-read : (t : ℕ) → t ≤ lastMoment job → any (unmet (headWord job) (λ f. getD history (t * 64 + f) 0)) (lawsOf job a) ≡ unmetAt job starts t a
+  pub needs-read : (t : ℕ) → t ≤ lastMoment job → any (unmet (headWord job) (λ f. getD history (t * 64 + f) 0)) (lawsOf job a) ≡ unmetAt job starts t a
   needs-read t m = any-agree _ _ (lawsOf job a) agree
     where
       agree : (i : ℕ) → i < length (lawsOf job a)
@@ -55,3 +57,8 @@ unfolding needsUnmet
 unmet-read given {i} l ea el eu er =
     let right = right-word (given .words) i l in
     sym (er ∙ rw (el, ea, eu) (needs-read given _ (right .action) _ (right .moment)))
+
+pub unmet-before : (job : List ℕ) (w : ℕ) → 0 < duration job (startAction w) → (starts : List ℕ) (t a : ℕ) → t ≤ startMoment w
+    → unmetAt job (insert w starts) t a ≡ unmetAt job starts t a
+unmet-before job w lasts starts t a l =
+    any-agree _ _ (lawsOf job a) (λ i m. rw (value-before job w lasts starts t (fluentOf (headWord job) (getD (lawsOf job a) i 0)) l))

@@ -8,11 +8,20 @@ use native.Mathlib.Omega.{arith}
 use borrow.Author.Tests.{eqb-true}
 use lib.Dec.{eqb}
 use lib.ListN.{length, getD, drop}
-use Rattle.answers.specs.Rows.{refusalAt, firstOf}
+use Rattle.answers.specs.Rows.{firstRefusal, refusalAt, firstOf}
+use Rattle.answers.specs.declared.Refusal.{Refusal}
+use Rattle.answers.proofs.Rows.{at-number}
 use Rattle.answers.proofs.Range.{Fitting, pick-fits, refusal-fits, passed-fits, or-fits, first-fits}
 use Rattle.starts.specs.Rows.{wrongWord, startRows, numbered, rowsRefusal, startsRefusal}
 use Rattle.starts.proofs.Rows.{row-clear}
 use Rattle.starts.proofs.StartsFormed.{few-words}
+
+or-number : (a b : Refusal) → a .number < 2 ^ 8 → b .number < 2 ^ 8 → firstRefusal a b .number < 2 ^ 8
+or-number a b h l = cases (eqb (a .number) 0)
+  where
+    cases : (t : Bool) → cond t b a .number < 2 ^ 8
+    cases true = l
+    cases false = h
 
 numbered-low : (number : ℕ) (test : ℕ → Bool) → number < 2 ^ 8 → (i : ℕ) → numbered number test i < 2 ^ 8
 numbered-low number test h i = cases (test i)
@@ -33,6 +42,25 @@ rows-fit (row ∷ rest) n l h =
     or-fits (firstOf (numbered (row .0) (row .1)) n) (rowsRefusal rest n)
     (first-fits (numbered (row .0) (row .1)) (numbered-low (row .0) (row .1) (h .0)) n (omega arith))
     (rows-fit rest n l (h .1))
+
+-- the number alone fits, however long the list
+first-number : (f : ℕ → ℕ) → ((i : ℕ) → f i < 2 ^ 8) → (n : ℕ) → firstOf f n .number < 2 ^ 8
+unfolding firstOf
+first-number f h zero = omega arith
+first-number f h (suc n) = or-number (firstOf f n) (refusalAt n (f n)) (first-number f h n) (rw (at-number n (f n)) (h n))
+
+rows-number : (rows : List (ℕ × (ℕ → Bool))) (n : ℕ) → Low rows → rowsRefusal rows n .number < 2 ^ 8
+unfolding rowsRefusal
+rows-number [] n h = omega arith
+rows-number (row ∷ rest) n h =
+    or-number (firstOf (numbered (row .0) (row .1)) n) (rowsRefusal rest n)
+    (first-number (numbered (row .0) (row .1)) (numbered-low (row .0) (row .1) (h .0)) n)
+    (rows-number rest n (h .1))
+
+pub starts-number : (job starts : List ℕ) → startsRefusal job starts .number < 2 ^ 8
+unfolding startsRefusal
+starts-number job starts =
+    rows-number (startRows job starts) (length starts) (omega arith, (omega arith, (omega arith, (omega arith, (omega arith, tt)))))
 
 module _ (job starts : List ℕ) (words : (i : ℕ) → getD starts i 0 < 2 ^ 32) where
   few : (n : ℕ) → firstOf (numbered 6 (wrongWord job starts)) n .number ≡ 0 → n ≤ 4096

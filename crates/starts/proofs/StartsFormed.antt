@@ -8,7 +8,7 @@ use native.Mathlib.Omega.{arith}
 use borrow.Author.Tests.{not-false, eqb-true, leb-true, ltb-true, ne-eqb}
 use lib.Dec.{eqb}
 use lib.ListN.{length, getD}
-use Rattle.words.specs.Fields.{kind, field, startMoment, startAction}
+use Rattle.words.specs.Fields.{kind, field, startMoment, startAction, startWord}
 use Rattle.words.proofs.Choices.{both-true}
 use Rattle.job.specs.Parts.{actions, lastMoment}
 use Rattle.history.specs.Actions.{finish}
@@ -28,6 +28,18 @@ pub record Right (job : List ℕ) (s : ℕ) : Type 0 where
   pub moment : startMoment s ≤ lastMoment job
   pub action : startAction s < actions job
 
+pub right-of : {job : List ℕ} {s : ℕ} → isStart job s ≡ true → Right job s
+right-of e =
+    let a = both-true _ _ e in
+    let b = both-true _ _ (a .0) in
+    let k = both-true _ _ (b .0) in
+    record {
+      of-kind = eqb-true _ 9 (k .0);
+      bare = eqb-true _ 0 (k .1);
+      moment = leb-true _ _ (b .1);
+      action = ltb-true _ _ (a .1);
+    }
+
 -- a word that row 6 does not fit
 module _ (job starts : List ℕ) (i : ℕ) (h : wrongWord job starts i ≡ false) where
   parts : (isStart job (getD starts i 0) ≡ true) × (ascends starts i ≡ true)
@@ -38,16 +50,7 @@ module _ (job starts : List ℕ) (i : ℕ) (h : wrongWord job starts i ≡ false
   is-start-at = parts .0
 
   pub right-at : Right job (getD starts i 0)
-  right-at =
-      let a = both-true _ _ (parts .0) in
-      let b = both-true _ _ (a .0) in
-      let k = both-true _ _ (b .0) in
-      record {
-        of-kind = eqb-true _ 9 (k .0);
-        bare = eqb-true _ 0 (k .1);
-        moment = leb-true _ _ (b .1);
-        action = ltb-true _ _ (a .1);
-      }
+  right-at = right-of (parts .0)
 
   -- it is above the one before it
   above-at : 0 < i → getD starts (i - 1) 0 < getD starts i 0
@@ -88,14 +91,14 @@ pub finish-is : {job durations starts : List ℕ} → Durations job durations �
     → startMoment (getD starts i 0) + getD durations (startAction (getD starts i 0)) 0 ≡ finish job (getD starts i 0)
 finish-is d h i l = finish-tabled d _ (right-word h i l .action)
 
--- a right word is 9 · 2^28 + 64 u + a
-low-bits : (s : ℕ) → 2415919104 ≤ s → s < 2415919104 + 4096 → s ≡ 2415919104 + startMoment s * 64 + startAction s
+-- a right word is that of its action and its moment
+low-bits : (s : ℕ) → 2415919104 ≤ s → s < 2415919104 + 4096 → s ≡ startWord (startMoment s) (startAction s)
 low-bits s l h = omega arith
 
 word-low : {job : List ℕ} {s : ℕ} → Right job s → s < 2 ^ 32 → (2415919104 ≤ s) × (s < 2415919104 + 4096)
 word-low r w = let k = r .of-kind in let b = r .bare in omega arith
 
-word-is : {job : List ℕ} {s : ℕ} → Right job s → s < 2 ^ 32 → s ≡ 2415919104 + startMoment s * 64 + startAction s
+pub word-is : {job : List ℕ} {s : ℕ} → Right job s → s < 2 ^ 32 → s ≡ startWord (startMoment s) (startAction s)
 word-is r w = let b = word-low r w in low-bits _ (b .0) (b .1)
 
 -- of lists of 32-bit words
@@ -115,7 +118,7 @@ module _ (job starts : List ℕ) (words : (i : ℕ) → getD starts i 0 < 2 ^ 32
       cases (no l) = omega arith
 
 -- words that ascend have moments that do, strictly where the action is the same
-ordered : {s s' : ℕ} → s ≡ 2415919104 + startMoment s * 64 + startAction s → s' ≡ 2415919104 + startMoment s' * 64 + startAction s' → s < s'
+pub ordered : {s s' : ℕ} → s ≡ startWord (startMoment s) (startAction s) → s' ≡ startWord (startMoment s') (startAction s') → s < s'
     → (startMoment s ≤ startMoment s') × (startAction s ≡ startAction s' → startMoment s < startMoment s')
 ordered e e' l = (omega arith, λ a. omega arith)
 

@@ -18,7 +18,7 @@ use answers::refuse;
 use words::*;
 
 // Whether two actions clash, and the table of all pairs.
-fn has_clash(job: &[u32], effects: &[u8; 4096], a: usize, b: usize) -> bool
+pub fn has_clash(job: &[u32], effects: &[u8; 4096], a: usize, b: usize) -> bool
     requires { ⌜ Paired (now job) (now effects) a b ⌝ }
     ensures { λ r. ⌜ r ≡ clash (now (job .entry)) a b ⌝ }
 {

@@ -11,10 +11,13 @@ mod unmet;
 
 use answers::Refusal;
 pub use clashes::first_clash;
+pub use clashes::has_clash;
 pub use order::wrong_word;
+pub use times::finish_of;
 pub use times::late_end;
 pub use times::restart;
 pub use unmet::check_needs;
+pub use unmet::has_unmet;
 
 // The first of rows 6 to 9 that fits, at the first word that it fits. Row 10, `check_needs`, comes after them.
 pub fn check_times(

@@ -22,7 +22,7 @@ fn is_unmet(head: u32, history: &[u8; 4096], t: usize, w: u32) -> bool
     ((role == 0) & !(value == HOLDS)) | ((role == 1) & !(value == FAILS))
 }
 
-fn has_unmet(head: u32, history: &[u8; 4096], t: usize, laws: &[u32]) -> bool
+pub fn has_unmet(head: u32, history: &[u8; 4096], t: usize, laws: &[u32]) -> bool
     requires { ⌜ t < 64 ⌝ }
     ensures { λ r. ⌜ r ≡ any (unmet head (λ f. getD (now (history .entry)) (t * 64 + f) 0)) (now (laws .entry)) ⌝ }
 {

@@ -35,7 +35,7 @@ pub struct Plan {
 }
 
 // A refused plan: nothing is promised of its tables.
-fn refused(refusal: Refusal, index: Index) -> Plan
+pub fn refused(refusal: Refusal, index: Index) -> Plan
     ensures { λ r. ⌜ r .refusal ≡ refusal ⌝ }
 {
     let durations = [0usize; 64];
@@ -49,7 +49,7 @@ fn refused(refusal: Refusal, index: Index) -> Plan
 }
 
 // Rows 6 to 10 of a job that passes rows 1 to 5.
-fn judge_starts(job: &[u32], index: Index, starts: &[u32]) -> Plan
+pub fn judge_starts(job: &[u32], index: Index, starts: &[u32]) -> Plan
     requires { ⌜ (jobRefusal (now job) .number ≡ 0) × (index ≡ checkedOf (now job) .index) ⌝ }
     ensures { λ r. ⌜ Judged (planRefusal (now (job .entry)) (now (starts .entry))) (now (job .entry)) (now (starts .entry)) r ⌝ }
 {

@@ -3,7 +3,7 @@
 use mathlib.Core.Bool.{Bool, true, false, cond}
 use mathlib.Core.List.{List, [], _∷_}
 use mathlib.Core.Logic.{by-cases}
-use mathlib.Core.Path.{_≡_, refl, ap}
+use mathlib.Core.Path.{_≡_, refl, ap, sym, _∙_}
 use Prim.Native.Nat.{ℕ, zero, suc, _+_, _<_, _≤_}
 use native.Mathlib.Numerals.{add-one}
 use native.Mathlib.Decide.{decLt}
@@ -37,6 +37,24 @@ module _ (ws : List ℕ) (i : ℕ) where
     pub any-end : length ws ≤ i → any test (drop i ws) ≡ false
     unfolding any
     any-end h = rw (drop-of-length-le ws h)
+
+-- a loop at word i of a list: whether some word passes shows from there on
+pub record AnyFrom (test : ℕ → Bool) (ws : List ℕ) (i : ℕ) : Type 0 where
+  pub inside : i ≤ length ws
+  pub rest : any test ws ≡ any test (drop i ws)
+
+module _ {test : ℕ → Bool} {ws : List ℕ} where
+  pub from-start : AnyFrom test ws 0
+  from-start = record { inside = omega arith; rest = refl }
+
+  pub from-more : {i : ℕ} → AnyFrom test ws i → i < length ws → test (getD ws i 0) ≡ false → AnyFrom test ws (i + 1)
+  from-more {i} f l e = record { inside = omega arith; rest = f .rest ∙ any-miss ws i test l e }
+
+  pub from-found : {i : ℕ} → AnyFrom test ws i → i < length ws → test (getD ws i 0) ≡ true → true ≡ any test ws
+  from-found {i} f l e = sym (f .rest ∙ any-hit ws i test l e)
+
+  pub from-end : {i : ℕ} → AnyFrom test ws i → length ws ≤ i → false ≡ any test ws
+  from-end {i} f l = sym (f .rest ∙ any-end ws i test l)
 
 module _ (test : ℕ → Bool) where
   -- word i of the leading ones is word i of the list, and passes

@@ -134,7 +134,7 @@ abbrev pub conditionN : ℕ → ℕ
 conditionN w = field w 5 0
 
 -- kind 9, start (an occurrence of an action, 004's init): its moment u (time point), its action a, and the bits that it leaves
--- spare
+-- spare; the word that action a starts at moment u
 abbrev pub startSpare : ℕ → Bool
 startSpare s = spare s 27 12
 
@@ -143,6 +143,9 @@ startMoment s = field s 11 6
 
 abbrev pub startAction : ℕ → ℕ
 startAction s = field s 5 0
+
+abbrev pub startWord : ℕ → ℕ → ℕ
+startWord u a = 9 * 2 ^ 28 + u * 2 ^ 6 + a
 
 -- kind 10, fact: the word that fluent f has a value, other than open, at moment t
 abbrev pub factWord : ℕ → ℕ → ℕ → ℕ → ℕ

@@ -3,8 +3,13 @@ ghost use mathlib.Core.Bool.{cond};
 ghost use mathlib.Core.Path.{_≡_};
 ghost use Prim.Native.Nat.{_<_, _≤_};
 ghost use lib.ListN.{length, drop};
-ghost use Rattle.words.specs.Fields.{kind, ofKind, form, spare, headSpare, actionNumber, actionSpare, isSet, memberSpare, startSpare, fluentsOf, actionsOf, lastOf, fluentOf, knownSpare, lawSpare, knownValue, durationOf, roleOf, makes, madeValue, formulaX, formulaY, atomFluent, atomSpare, nodeX, nodeY, nodeM, nodeN, memberNode, conditionFormula, conditionI, conditionJ, conditionM, conditionN, startMoment, startAction, factWord, readingWord};
+ghost use Rattle.words.specs.Fields.{kind, ofKind, form, spare, headSpare, actionNumber, actionSpare, isSet, memberSpare, startSpare, fluentsOf, actionsOf, lastOf, fluentOf, knownSpare, lawSpare, knownValue, durationOf, roleOf, makes, madeValue, formulaX, formulaY, atomFluent, atomSpare, nodeX, nodeY, nodeM, nodeN, memberNode, conditionFormula, conditionI, conditionJ, conditionM, conditionN, startMoment, startAction, startWord, factWord, readingWord};
 ghost use Rattle.words.specs.Scan.{takeWhile};
+
+pub mod buffers;
+
+pub use buffers::copy_words;
+pub use buffers::insert_word;
 
 // The kinds of words.
 pub const HEAD: u32 = 1;
@@ -314,6 +319,14 @@ pub fn start_action(s: u32) -> usize
     ensures { λ r. ⌜ (r ≡ startAction s) × (r < 64) ⌝ }
 {
     (s % 64) as usize
+}
+
+// The word that action `a` starts at moment `u`.
+pub fn start_word(u: usize, a: usize) -> u32
+    requires { ⌜ (u < 64) × (a < 64) ⌝ }
+    ensures { λ r. ⌜ r ≡ startWord u a ⌝ }
+{
+    (START << 28) + ((u as u32) << 6) + (a as u32)
 }
 
 // The fact word that fluent `f` has a value, other than open, at moment `t`.

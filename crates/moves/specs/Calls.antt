@@ -1,0 +1,50 @@
+-- The answers of the four calls on the words of a trial, and what each leaves in the lent words and in the lent buffer.
+use mathlib.Core.List.{List, [], _∷_, _++_}
+use Prim.Native.Nat.{ℕ}
+use lib.Dec.{ltb}
+use lib.ListN.{length, getD, take, drop}
+use Rattle.words.specs.Lists.{firstWords}
+use Rattle.answers.specs.declared.Refusal.{Refusal}
+use Rattle.answers.specs.declared.Answer.{Answer}
+use Rattle.answers.specs.declared.Answer.the-variants.{Accepted, Refused}
+use Rattle.answers.specs.Rows.{row, firstRow}
+use Rattle.answers.specs.Packed.{answerOf}
+use Rattle.job.specs.Refusal.{jobRefusal}
+use Rattle.facts.specs.Facts.{factsUpto}
+use Rattle.theory.specs.Answers.{bufferRefusal}
+use Rattle.moves.specs.Trials.{Trial, Move, trialRefusal, ownRefusal}
+
+-- a trial's words: its moment, the number of its starts, the starts; the trial that the first 4,098 words say, where those that are not
+-- there count as 0
+abbrev pub trialWords : Trial → List ℕ
+trialWords T = T .moment ∷ length (T .starts) ∷ T .starts
+
+abbrev pub trialIn : List ℕ → Trial
+trialIn words = record { moment = getD words 0 0; starts = firstWords (getD words 1 0) (take 4096 (drop 2 words)) }
+
+-- fewer words than a trial may need are a trial that no moves could give
+abbrev pub roomRefusal : ℕ → Refusal
+roomRefusal room = row (ltb room 4098) 14 0
+
+-- beginning, a move, showing: each call's rows from the top. Beginning and moves answer as check does, showing as fill does.
+unfoldable pub beginAnswer : ℕ → List ℕ → Answer
+beginAnswer room job = answerOf (firstRow (jobRefusal job ∷ roomRefusal room ∷ [])) 0 0
+
+unfoldable pub moveAnswer : List ℕ → List ℕ → Move → Answer
+moveAnswer job words m =
+    answerOf (firstRow (jobRefusal job ∷ roomRefusal (length words) ∷ trialRefusal job (trialIn words) ∷ ownRefusal job (trialIn words) m ∷ [])) 0 0
+
+-- the facts that a trial shows: those of moments 0 to the present one
+abbrev pub shownFacts : List ℕ → Trial → List ℕ
+shownFacts job T = factsUpto job (T .starts) (T .moment)
+
+unfoldable pub showAnswer : ℕ → List ℕ → List ℕ → Answer
+showAnswer room job words =
+    answerOf (firstRow (bufferRefusal room ∷ jobRefusal job ∷ roomRefusal (length words) ∷ trialRefusal job (trialIn words) ∷ []))
+    (length (shownFacts job (trialIn words)))
+    0
+
+-- the words after a call with that answer that hands back T: its words in front, the rest as it was; a refusal changes no word
+abbrev pub handedBack : Answer → Trial → List ℕ → List ℕ
+handedBack (Accepted l c) T words = trialWords T ++ drop (length (trialWords T)) words
+handedBack (Refused n p c) T words = words

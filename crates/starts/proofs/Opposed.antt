@@ -1,0 +1,62 @@
+-- Two starts clash whichever comes first; when a start clashes with one that does not begin later. Assumes nothing.
+use mathlib.Core.Bool.{Bool, true, false, _&&_, _||_}
+use mathlib.Core.List.{List}
+use mathlib.Core.Path.{_≡_, refl}
+use Prim.Native.Nat.{ℕ, zero, suc, _+_, _≤_, _<_}
+use native.Mathlib.Omega.{arith}
+use borrow.Author.Tests.{ltb-true, ltb-false, leb-true, lt-ltb, le-leb}
+use lib.Dec.{eqb, leb, ltb}
+use Rattle.words.specs.Fields.{holds, fails, startMoment, startAction}
+use Rattle.words.specs.Scan.{anyBelow}
+use Rattle.words.proofs.Choices.{both-true, or-swap, is-false}
+use Rattle.words.proofs.AnyBelow.{some-hit, some-none}
+use Rattle.job.specs.Parts.{fluents, lastMoment}
+use Rattle.history.specs.Actions.{effect, finish, inHand}
+use Rattle.starts.specs.Rows.{opposed, clash, together, clashing}
+
+and-swap : (a b : Bool) → (a && b) ≡ (b && a)
+and-swap true true = refl
+and-swap true false = refl
+and-swap false true = refl
+and-swap false false = refl
+
+any-same : (f g : ℕ → Bool) (n : ℕ) → ((i : ℕ) → f i ≡ g i) → anyBelow f n ≡ anyBelow g n
+unfolding anyBelow
+any-same f g zero h = refl
+any-same f g (suc n) h = rw (any-same f g n h, h n)
+
+module _ (job : List ℕ) where
+  clash-swap : (a b : ℕ) → clash job a b ≡ clash job b a
+  unfolding clash
+  clash-swap a b =
+      any-same (opposed job a b) (opposed job b a) (fluents job)
+      (λ f. swap (eqb (effect job a f) holds) (eqb (effect job b f) fails) (eqb (effect job a f) fails) (eqb (effect job b f) holds))
+    where
+      swap : (p q r s : Bool) → ((p && q) || (r && s)) ≡ ((s && r) || (q && p))
+      swap p q r s = rw (and-swap p q, and-swap r s) (or-swap (q && p) (s && r))
+
+  together-swap : (s s' : ℕ) → together job s s' ≡ together job s' s
+  unfolding together
+  together-swap s s' = any-same _ _ (lastMoment job + 1) (λ t. and-swap (inHand job t s) (inHand job t s'))
+
+  pub clashing-swap : (s s' : ℕ) → clashing job s s' ≡ clashing job s' s
+  clashing-swap s s' = rw (together-swap s s', clash-swap (startAction s) (startAction s'))
+
+  -- both are in hand at some moment exactly where the earlier one has not finished when the later one begins
+  pub together-later : (s s' : ℕ) → startMoment s ≤ startMoment s' → startMoment s' < finish job s' → startMoment s' ≤ lastMoment job
+      → together job s s' ≡ ltb (startMoment s') (finish job s)
+  unfolding together
+  together-later s s' l d m = cases (ltb (startMoment s') (finish job s)) refl
+    where
+      cases : (t : Bool) → ltb (startMoment s') (finish job s) ≡ t → anyBelow (λ t. inHand job t s && inHand job t s') (lastMoment job + 1) ≡ t
+      cases true e =
+          some-hit (λ t. inHand job t s && inHand job t s') (lastMoment job + 1) (startMoment s') (omega arith)
+          (rw (le-leb (startMoment s) (startMoment s') l, e, le-leb (startMoment s') (startMoment s') (omega arith), lt-ltb (startMoment s') (finish job s') d))
+      cases false e = some-none (λ t. inHand job t s && inHand job t s') (lastMoment job + 1) (λ t k. is-false _ (λ z. apart t e z))
+        where
+          apart : (t : ℕ) → ltb (startMoment s') (finish job s) ≡ false → (inHand job t s && inHand job t s') ≡ true → ⊥
+          apart t e z =
+              let both = both-true (inHand job t s) (inHand job t s') z in
+              let first = both-true (leb (startMoment s) t) (ltb t (finish job s)) (both .0) in
+              let second = both-true (leb (startMoment s') t) (ltb t (finish job s')) (both .1) in
+              omega (arith, ltb-true t (finish job s) (first .1), leb-true (startMoment s') t (second .0), ltb-false (startMoment s') (finish job s) e)

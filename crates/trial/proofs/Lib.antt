@@ -1,0 +1,10 @@
+-- Laws that belong to no one function: Facing (when a start clashes with a new one), NewStart (the rows of a new start, one after the other),
+-- Judging (the rows of the job and of the trial, one after the other), Moves (what a move hands back), Handed (a trial as words), CallRows
+-- (the rows of the four calls).
+pub mod Facing
+pub mod NewStart
+pub mod Judging
+pub mod Moves
+pub mod Handed
+pub mod CallRows
+pub mod Range

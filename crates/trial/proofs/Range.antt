@@ -1,0 +1,70 @@
+-- Whatever the job and the words, the answers of the four calls fit their fields. Assumes nothing.
+use mathlib.Core.List.{List}
+use Prim.Native.Nat.{ℕ, _+_}
+use native.Mathlib.Omega.{arith}
+use lib.Dec.{eqb, leb, ltb}
+use lib.ListN.{length}
+use Rattle.words.specs.Fields.{startWord}
+use Rattle.words.specs.Scan.{any}
+use Rattle.answers.specs.Rows.{row, refusalAt}
+use Rattle.answers.specs.Code.Packed.{InRange}
+use Rattle.answers.proofs.Rows.{or-none}
+use Rattle.answers.proofs.Range.{Fitting, pick-fits, refusal-fits, passed-fits, or-fits, row-fits, answer-fits}
+use Rattle.job.specs.Parts.{actions, lastMoment, duration}
+use Rattle.job.specs.Refusal.{jobRefusal}
+use Rattle.job.proofs.Fits.{job-fits}
+use Rattle.job.proofs.WellFormed.{well-formed}
+use Rattle.starts.specs.Rows.{clashing, unmetAt, startsRefusal}
+use Rattle.starts.proofs.RefusalFits.{starts-number}
+use Rattle.facts.proofs.Lists.{facts-few}
+use Rattle.theory.specs.Answers.{bufferRefusal}
+use Rattle.moves.specs.Trials.{Trial, Move, Start, On, outside, busy, trialRefusal, startRefusal, onRefusal, ownRefusal}
+use Rattle.moves.specs.Calls.{trialIn, roomRefusal, beginAnswer, moveAnswer, shownFacts, showAnswer}
+use Rattle.moves.proofs.Passing.{bounds}
+
+room-fits : (room : ℕ) → Fitting (roomRefusal room)
+room-fits room = row-fits (ltb room 4098) 14 0 (omega arith) (omega arith)
+
+trial-fits : (job : List ℕ) (T : Trial) → Fitting (trialRefusal job T)
+unfolding trialRefusal
+trial-fits job T =
+    or-fits (row (outside job T) 14 0) (refusalAt 0 (startsRefusal job (T .starts) .number)) (row-fits (outside job T) 14 0 (omega arith) (omega arith))
+    (pick-fits (eqb (startsRefusal job (T .starts) .number) 0) passed-fits (refusal-fits (starts-number job (T .starts)) (omega arith)))
+
+own-fits : (job : List ℕ) (T : Trial) (m : Move) → Fitting (ownRefusal job T m)
+unfolding startRefusal onRefusal
+own-fits job T (Start a) =
+    or-fits _ _ (row-fits (leb (actions job) a) 6 0 (omega arith) (omega arith))
+    (or-fits _ _ (row-fits (ltb (lastMoment job) (T .moment + duration job a)) 7 0 (omega arith) (omega arith))
+    (or-fits _ _ (row-fits (any (busy job (T .moment) a) (T .starts)) 8 0 (omega arith) (omega arith))
+    (or-fits _ _ (row-fits (any (λ s. clashing job s (startWord (T .moment) a)) (T .starts)) 9 0 (omega arith) (omega arith))
+    (row-fits (unmetAt job (T .starts) (T .moment) a) 10 0 (omega arith) (omega arith)))))
+own-fits job T On = row-fits (leb (lastMoment job) (T .moment)) 14 0 (omega arith) (omega arith)
+
+pub begin-range : (room : ℕ) (job : List ℕ) → InRange (beginAnswer room job)
+unfolding beginAnswer
+begin-range room job = answer-fits _ 0 0 (or-fits (jobRefusal job) (roomRefusal room) (job-fits job) (room-fits room)) (λ e. (omega arith, omega arith))
+
+pub move-range : (job words : List ℕ) (m : Move) → InRange (moveAnswer job words m)
+unfolding moveAnswer
+move-range job words m =
+    answer-fits _ 0 0
+    (or-fits (jobRefusal job) _ (job-fits job)
+    (or-fits (roomRefusal (length words)) _ (room-fits (length words))
+    (or-fits (trialRefusal job (trialIn words)) (ownRefusal job (trialIn words) m) (trial-fits job (trialIn words)) (own-fits job (trialIn words) m))))
+    (λ e. (omega arith, omega arith))
+
+pub show-range : (room : ℕ) (job words : List ℕ) → InRange (showAnswer room job words)
+unfolding showAnswer
+show-range room job words =
+    answer-fits _ _ 0
+    (or-fits (bufferRefusal room) _ (row-fits (ltb room 4096) 12 0 (omega arith) (omega arith))
+    (or-fits (jobRefusal job) _ (job-fits job)
+    (or-fits (roomRefusal (length words)) (trialRefusal job (trialIn words)) (room-fits (length words)) (trial-fits job (trialIn words)))))
+    (λ e.
+    let late = or-none (bufferRefusal room) _ e .1 in
+    let jobs = or-none (jobRefusal job) _ late in
+    let formed = well-formed job (jobs .0) in
+    let trial = or-none (roomRefusal (length words)) (trialRefusal job (trialIn words)) (jobs .1) .1 in
+    let few = facts-few job (trialIn words .starts) formed (trialIn words .moment) in
+    (omega (arith, few, bounds job (trialIn words) trial .present, formed .few-moments), omega arith))

@@ -1,0 +1,87 @@
+-- `trial::Trial::show` meets its contract: a row refuses and leaves the buffer, or the facts up to the present moment are written. Assumes
+-- nothing.
+use mathlib.Core.Path.{_≡_, sym, ap, _∙_}
+use Prim.Native.Nat.{ℕ, _≤_}
+use native.Mathlib.Omega.{arith}
+use borrow.Author.Needs.{needs}
+use borrow.Author.Tests.{lt-ltb, le-ltb, eq-eqb, ne-eqb}
+use lib.ListN.{length}
+use lib.Seq.{length-sets}
+use Rattle.answers.specs.declared.Refusal.{Refusal}
+use Rattle.answers.specs.Packed.{answerOf}
+use Rattle.answers.proofs.Rows.{answer-refused}
+use Rattle.facts.specs.Code.Written.{Filled}
+use Rattle.facts.proofs.Lists.{facts-few}
+use Rattle.theory.proofs.Laws.{filled-front}
+use Rattle.moves.specs.Calls.{shownFacts}
+use Rattle.trial.specs.Stepped.{trialOf, shownAnswer}
+use Rattle.trial.proofs.NewStart.{present-formed}
+use Rattle.trial.proofs.Moves.{facts-shown}
+use Rattle.trial.proofs.Trial.show.Statement.{statement}
+use Rattle.trial.proofs.Trial.show.Tie as tie
+
+abbrev entry : tie.After-judged → tie.Start
+entry c = c .before .before .before .before
+
+abbrev judged : tie.Else2 → tie.After-judged
+judged c = c .before .before .before
+
+abbrev ahead : tie.After-fill-upto → tie.Else2
+ahead c = c .before .before .before .before
+
+filled : (c : tie.After-fill-upto)
+    → let s = entry (judged (ahead c)) in
+    Filled (s .args .buffer .now) (shownFacts (s .args .job .now) (trialOf (s .args .self))) (c .fill-upto .result) (c .fill-upto .last .1 .1 .1 .0)
+filled c =
+    let j = judged (ahead c) in
+    let a = entry j .args in
+    let z = ahead c .if2 .left in
+    let plan = j .judged .ensures .passed z in
+    rw (facts-shown (a .job .now) (a .self) (j .judged .ensures .sized z)) at (c .fill-upto .ensures _ (plan .passed .history))
+
+fill-upto-requires : tie.Need-fill-upto-requires
+fill-upto-requires c κs =
+    let e = c .before .before .before in
+    let j = judged e in
+    let plan = j .judged .ensures .passed (e .if2 .left) in
+    record { well = present-formed plan; moment = plan .present; room = j .before .if1 .left }
+
+returns : tie.Need-returns
+unfolding shownAnswer
+returns c =
+    let made = c .answer-of .ensures ∙ ap (λ (r : Refusal). answerOf r 0 0) (c .before .refuse .ensures) in
+    (made ∙ rw (lt-ltb _ _ (c .before .before .if1 .taken)), rw made)
+
+returns-2 : tie.Need-returns-2
+unfolding shownAnswer
+returns-2 c =
+    let j = c .before .before .before .before in
+    let a = entry j .args in
+    let never = c .before .if2 .taken in
+    let made = c .answer-of2 .ensures ∙ answer-refused _ 0 0 (length (shownFacts (a .job .now) (trialOf (a .self)))) 0 never in
+    (made ∙ rw (le-ltb _ _ (j .before .if1 .left), ← j .judged .ensures .refusal), rw (c .answer-of2 .ensures, ne-eqb _ 0 never))
+
+returns-3 : tie.Need-returns-3
+unfolding shownAnswer
+returns-3 c =
+    let f = c .before .before .before in
+    let e = ahead f in
+    let j = judged e in
+    let a = entry j .args in
+    let T = trialOf (a .self) in
+    let room = j .before .if1 .left in
+    let plan = j .judged .ensures .passed (e .if2 .left) in
+    let formed = present-formed plan in
+    let few = facts-few (a .job .now) (T .starts) formed (T .moment) in
+    let fit : length (shownFacts (a .job .now) T) ≤ length (a .buffer .now) = omega (arith, few, plan .present, formed .few-moments, room) in (
+      c .answer-of3 .ensures ∙ ap (λ (n : ℕ). answerOf (j .judged .result .refusal) n 0) (filled f .count)
+          ∙ ap (λ (r : Refusal). answerOf r (length (shownFacts (a .job .now) T)) 0) (j .judged .ensures .refusal) ∙ rw (le-ltb _ _ room),
+      rw (c .answer-of3 .ensures, eq-eqb _ 0 (e .if2 .left)) (filled-front (filled f) fit .1),
+    )
+
+pub show-spec : {M : Type 1} → statement M
+show-spec =
+    tie.close
+    (tie.spec (λ c κs. search needs) (λ c κs. search needs) returns (λ c κs. search needs) (λ c κs. search needs) returns-2
+    fill-upto-requires (λ c κs. search needs)
+    (λ c. ap length (filled (c .before .before .before) .held) ∙ simp length-sets) returns-3)

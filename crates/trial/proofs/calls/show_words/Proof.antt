@@ -1,0 +1,37 @@
+-- `trial::calls::show_words` meets its contract: the words are too few, or the trial that they say is shown. Assumes nothing.
+use mathlib.Core.List.{[], _∷_}
+use mathlib.Core.Path.{ap, _∙_}
+use borrow.Author.Needs.{needs}
+use Rattle.answers.specs.declared.Refusal.{Refusal}
+use Rattle.answers.specs.Rows.{refusal, firstRow, firstRefusal}
+use Rattle.answers.specs.Packed.{answerOf}
+use Rattle.job.specs.Refusal.{jobRefusal}
+use Rattle.trial.proofs.CallRows.{short-show, shown}
+use Rattle.trial.proofs.calls.show_words.Statement.{statement}
+use Rattle.trial.proofs.calls.show_words.Tie as tie
+
+abbrev entry : tie.After-row-of → tie.Start
+entry c = c .before .before .before .before .before
+
+returns : tie.Need-returns
+returns c =
+    let f = c .before in
+    let k = f .before in
+    let b = k .before in
+    short-show _ _ _ (b .before .if1 .taken)
+    (c .answer-of .ensures
+    ∙ ap (λ (r : Refusal). answerOf r 0 0)
+    (f .first-refusal .ensures ∙ ap (firstRefusal (b .row-of .result)) (k .short-refusal .ensures)
+    ∙ ap (λ (r : Refusal). firstRefusal r (firstRow (jobRefusal (entry b .args .job .now) ∷ refusal 14 0 ∷ []))) (b .row-of .ensures)))
+
+returns-2 : tie.Need-returns-2
+returns-2 c =
+    let w = c .before .before in
+    let t = w .before .before in
+    shown _ _ _ (t .before .if1 .left) (t .taken .result) (t .taken .ensures) (w .show .ensures .0) (w .show .ensures .1)
+
+pub show-words-spec : {M : Type 1} → statement M
+show-words-spec =
+    tie.close
+    (tie.spec (λ c κs. search needs) (λ c κs. search needs) (λ c κs. search needs) (λ c κs. search needs) returns (λ c κs. c .if1 .left)
+    (λ c κs. search needs) (λ c. search needs) returns-2)

@@ -1,0 +1,90 @@
+-- `trial::rows::start_refusal` meets its contract: one of rows 6 to 8 fits, or rows 9 and 10 decide. Assumes nothing.
+use mathlib.Core.Bool.{false}
+use mathlib.Core.Path.{_≡_, sym, _∙_}
+use Prim.Native.Nat.{_^_, _+_, _<_, _≤_}
+use native.Mathlib.Omega.{arith}
+use borrow.Author.Needs.{needs}
+use borrow.Author.Tests.{le-leb, lt-leb, lt-ltb, le-ltb}
+use lib.Dec.{leb, ltb}
+use lib.ListN.{getD}
+use Rattle.words.specs.Lists.{Each}
+use Rattle.words.proofs.Lists.{each-of}
+use Rattle.job.specs.Parts.{actions, lastMoment, duration}
+use Rattle.trial.proofs.NewStart.{present-formed, present-timed, tested, row-6, row-7, row-8, rows-9-10}
+use Rattle.trial.proofs.rows.start_refusal.Statement.{statement}
+use Rattle.trial.proofs.rows.start_refusal.Tie as tie
+
+abbrev entry : tie.After-actions-of → tie.Start
+entry c = c .before .before .before .before
+
+abbrev first : tie.After-last-of → tie.After-actions-of
+first c = c .before .before .before
+
+abbrev second : tie.After-some-busy → tie.After-last-of
+second c = c .before .before .before
+
+-- words are of 32 bits
+small : (c : tie.After-actions-of) → Each (λ s. s < 2 ^ 32) (entry c .args .starts .now)
+small c = each-of (entry c .args .starts .now) (λ i l. omega (arith, c .before .before .shared-slice-known2 .given i))
+
+returns : tie.Need-returns
+returns c =
+    let f = c .before .before in
+    tested (entry f .pre) (small f) (c .refuse .ensures ∙ row-6 _ _ _ _ (le-leb _ _ (rw (f .actions-of .ensures .0) at (c .before .if1 .taken))))
+
+-- the action is the job's, and its duration is read from the table
+below : (c : tie.After-last-of) → entry (first c) .args .a < actions (entry (first c) .args .job .now)
+below c = rw (first c .actions-of .ensures .0) at (c .before .before .if1 .left)
+
+lasts : (c : tie.After-last-of)
+    → let args = entry (first c) .args in getD (args .plan .durations) (args .a) 0 ≡ duration (args .job .now) (args .a)
+lasts c = entry (first c) .pre .passed .durations .entry _ (below c)
+
+not-6 : (c : tie.After-last-of) → leb (actions (entry (first c) .args .job .now)) (entry (first c) .args .a) ≡ false
+not-6 c = lt-leb _ _ (below c)
+
+returns-2 : tie.Need-returns-2
+returns-2 c =
+    let l = c .before .before in
+    let f = first l in
+    let a = entry f .args in
+    let late : lastMoment (a .job .now) < a .u + duration (a .job .now) (a .a) = omega (arith, lasts l, l .last-of .ensures .0, c .before .if2 .taken) in
+    tested (entry f .pre) (small f) (c .refuse2 .ensures ∙ row-7 _ _ _ _ (not-6 l) (lt-ltb _ _ late))
+
+not-7 : (c : tie.After-some-busy)
+    → let args = entry (first (second c)) .args in ltb (lastMoment (args .job .now)) (args .u + duration (args .job .now) (args .a)) ≡ false
+not-7 c =
+    let l = second c in
+    let a = entry (first l) .args in
+    let inside : a .u + duration (a .job .now) (a .a) ≤ lastMoment (a .job .now) = omega (arith, lasts l, l .last-of .ensures .0, c .before .before .if2 .left) in
+    le-ltb _ _ inside
+
+returns-3 : tie.Need-returns-3
+returns-3 c =
+    let b = c .before .before in
+    let f = first (second b) in
+    tested (entry f .pre) (small f)
+    (c .refuse3 .ensures ∙ row-8 _ _ _ _ (not-6 (second b)) (not-7 b) (sym (b .some-busy .ensures) ∙ c .before .if3 .taken))
+
+returns-4 : tie.Need-returns-4
+returns-4 c =
+    let b = c .before .before in
+    let f = first (second b) in
+    tested (entry f .pre) (small f)
+    (c .state-refusal .ensures ∙ rows-9-10 _ _ _ _ (not-6 (second b)) (not-7 b) (sym (b .some-busy .ensures) ∙ c .before .if3 .left))
+
+array-read-if2 : tie.Need-array-read-if2
+array-read-if2 c = omega (arith, below c, present-formed (entry (first c) .pre) .few-actions)
+
+add-if2 : tie.Need-add-if2
+add-if2 c =
+    let given = entry (first c) .pre in
+    record { fits = omega (arith, given .present, present-formed given .few-moments, given .passed .durations .small (entry (first c) .args .a)) }
+
+pub start-refusal-spec : {M : Type 1} → statement M
+start-refusal-spec =
+    tie.close
+    (tie.spec (λ c. present-formed (c .before .before .before .pre) .some) (λ c κs. search needs) (λ c κs. search needs) returns
+    (λ c κs. search needs) (λ c. search needs) array-read-if2 add-if2 (λ c κs. search needs) returns-2
+    (λ c κs. present-timed (entry (first (c .before .before)) .pre)) (λ c κs. search needs) returns-3
+    (λ c κs. let l = second (c .before) in (entry (first l) .pre, below l)) returns-4)

@@ -1,0 +1,2 @@
+-- What passes between functions, and no public contract reaches: Given (what the functions of a new start's rows ask).
+pub mod Given

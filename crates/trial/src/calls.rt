@@ -1,0 +1,114 @@
+// The four calls on the words of a trial, as the host in C lends them: the moment, the number of starts, the starts. The words are taken
+// apart into a trial, a method is called, and the trial's words are put back where it accepts.
+ghost use mathlib.Core.Path.{_≡_};
+ghost use mathlib.Core.List.{[], _∷_, _++_};
+ghost use Prim.Native.Nat.{_≤_};
+ghost use lib.ListN.{length, drop};
+ghost use Rattle.answers.specs.Rows.{refusal, firstRow};
+ghost use Rattle.answers.specs.Packed.{answerOf};
+ghost use Rattle.job.specs.Refusal.{jobRefusal};
+ghost use Rattle.theory.specs.Answers.{written};
+ghost use Rattle.moves.specs.Trials.{Start, On, fresh, moved};
+ghost use Rattle.moves.specs.Calls.{trialWords, trialIn, beginAnswer, moveAnswer, shownFacts, showAnswer, handedBack};
+ghost use Rattle.trial.specs.Stepped.{trialOf};
+ghost use Rattle.trial.specs.Code.Given.{Sized, Storable};
+use crate::Moved;
+use crate::Trial;
+use answers::Answer;
+use answers::Refusal;
+use answers::answer_of;
+use answers::first_refusal;
+use answers::refuse;
+use answers::row_of;
+use job::check_job;
+use words::copy_words;
+
+// The trial that words say.
+fn taken(words: &[u32]) -> Trial
+    requires { ⌜ 4098 ≤ length (now words) ⌝ }
+    ensures { λ r. ⌜ trialOf r ≡ trialIn (now (words .entry)) ⌝ }
+{
+    let moment = words[0] as usize;
+    let length = words[1] as usize;
+    let mut starts = [0u32; 4096];
+    copy_words(&words[2..4098], 0, &mut starts);
+    Trial {
+        moment,
+        length,
+        starts,
+    }
+}
+
+// Writes a trial's words in front of the lent ones.
+fn store(trial: Trial, words: &mut [u32])
+    requires { ⌜ Sized trial × (4098 ≤ length (now words)) ⌝ }
+    ensures { λ _. ⌜ now (words .exit) ≡ trialWords (trialOf trial) ++ drop (length (trialWords (trialOf trial))) (now (words .entry)) ⌝ }
+{
+    let length = trial.length;
+    let starts = trial.starts;
+    words[0] = trial.moment as u32;
+    words[1] = length as u32;
+    copy_words(&starts[..length], 2, words);
+}
+
+// Answers for what a method handed back, and writes the trial where it was accepted.
+fn put_back(moved: Moved, words: &mut [u32]) -> Answer
+    requires { ⌜ Storable moved × (4098 ≤ length (now words)) ⌝ }
+    ensures { λ r. ⌜ (r ≡ answerOf (moved .refusal) 0 0) × (now (words .exit) ≡ handedBack r (trialOf (moved .trial)) (now (words .entry))) ⌝ }
+{
+    let refusal = moved.refusal;
+    if refusal.number != 0 {
+        return answer_of(refusal, 0, 0);
+    }
+    store(moved.trial, words);
+    answer_of(refusal, 0, 0)
+}
+
+// Words that are too few for a trial: the job's refusal, or 14.
+fn short_refusal(job: &[u32]) -> Refusal
+    ensures { λ r. ⌜ r ≡ firstRow (jobRefusal (now (job .entry)) ∷ refusal 14 0 ∷ []) ⌝ }
+{
+    let checked = check_job(job);
+    first_refusal(checked.refusal, refuse(14, 0))
+}
+
+// Begins a trial.
+pub fn begin_words(job: &[u32], words: &mut [u32]) -> Answer
+    ensures { λ r. ⌜ (r ≡ beginAnswer (length (now (words .entry))) (now (job .entry))) × (now (words .exit) ≡ handedBack r fresh (now (words .entry))) ⌝ }
+{
+    if words.len() < 4098 {
+        return answer_of(short_refusal(job), 0, 0);
+    }
+    put_back(Trial::begin(job), words)
+}
+
+// Starts an action now.
+pub fn start_words(job: &[u32], words: &mut [u32], action: u32) -> Answer
+    ensures { λ r. ⌜ (r ≡ moveAnswer (now (job .entry)) (now (words .entry)) (Start action)) × (now (words .exit) ≡ handedBack r (moved (trialIn (now (words .entry))) (Start action)) (now (words .entry))) ⌝ }
+{
+    if words.len() < 4098 {
+        return answer_of(short_refusal(job), 0, 0);
+    }
+    put_back(taken(words).start(job, action), words)
+}
+
+// Goes on one moment.
+pub fn on_words(job: &[u32], words: &mut [u32]) -> Answer
+    ensures { λ r. ⌜ (r ≡ moveAnswer (now (job .entry)) (now (words .entry)) On) × (now (words .exit) ≡ handedBack r (moved (trialIn (now (words .entry))) On) (now (words .entry))) ⌝ }
+{
+    if words.len() < 4098 {
+        return answer_of(short_refusal(job), 0, 0);
+    }
+    put_back(taken(words).on(job), words)
+}
+
+// Writes the facts of moments 0 to the present one to the front of the buffer.
+pub fn show_words(job: &[u32], words: &[u32], buffer: &mut [u32]) -> Answer
+    ensures { λ r. ⌜ (r ≡ showAnswer (length (now (buffer .entry))) (now (job .entry)) (now (words .entry))) × (now (buffer .exit) ≡ written r (shownFacts (now (job .entry)) (trialIn (now (words .entry)))) (now (buffer .entry))) ⌝ }
+{
+    if words.len() < 4098 {
+        let short = row_of(buffer.len() < 4096, 12, 0);
+        return answer_of(first_refusal(short, short_refusal(job)), 0, 0);
+    }
+    taken(words).show(job, buffer)
+}

@@ -1,0 +1,2 @@
+-- What passes between functions, and no public contract reaches: Place (where a word is put in).
+pub mod Place
