@@ -258,6 +258,13 @@ static void bad_trials(void)
         goes_on("on, too many starts", 14);
         refuses_show("show, too many starts", 14);
     }
+    /* 4,097 words in a longer list, none of them late: 14 still, and not 6 */
+    take_trial(4, many, BUFFER);
+    trial[1] = BUFFER + 1;
+    trial[2 + BUFFER] = 0;
+    starts_len("start, 4,097 starts", 1, ROOM, 14, 0);
+    goes_on_len("on, 4,097 starts", ROOM, 14, 0);
+    shows_len("show, 4,097 starts", ROOM, BUFFER, 14, 0, 0);
     take_trial(4, NULL, 0);
     shows_as_fill("the last moment is a moment");
     goes_on("on at the last moment", 14);
