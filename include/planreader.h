@@ -112,8 +112,8 @@ uint64_t PLANREADER_CALL(trial_show)(const uint32_t *job, size_t job_len, const 
 
 #undef PLANREADER_CALL
 
-/* The parts of a trial: its moment, how many starts it has, and the starts, which check, fill and find take as they are. Of a trial that
- * the calls accept; of other words the count may be any number. */
+/* The parts of a trial: its moment, how many starts it has, and the starts, which check, fill and find take as they are. For a trial that
+ * the calls accept: what other words say of their number may go beyond their list. */
 static inline unsigned planreader_trial_moment(const uint32_t *trial) { return trial[0]; }
 static inline unsigned planreader_trial_count(const uint32_t *trial) { return trial[1]; }
 static inline const uint32_t *planreader_trial_starts(const uint32_t *trial) { return trial + 2; }
