@@ -33,7 +33,7 @@ static const char *read_list(const char *path, struct list *list)
 }
 
 /* Reads the files of two paths. 0 if one is bad, which it says. */
-static int read_lists(const char *program, char **paths, struct list *first, struct list *second)
+static inline int read_lists(const char *program, char **paths, struct list *first, struct list *second)
 {
     struct list *const lists[] = {first, second};
     for (int i = 0; i < 2; i++) {

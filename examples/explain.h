@@ -1,4 +1,4 @@
-/* What a planner wants to know of a refused job or start, beyond number, position and meaning. All of it goes to standard error, indented. */
+/* What a planner wants to know of a refused job or start, beyond number, position and meaning. All of it goes to the stream `to`, indented. */
 #ifndef EXPLAIN_H
 #define EXPLAIN_H
 
@@ -34,33 +34,33 @@ static unsigned made(const struct list *job, uint32_t start, unsigned fluent)
 }
 
 /* 6: what is wrong with the word. */
-static void explain_word(const struct list *job, const struct list *starts, unsigned position)
+static void explain_word(FILE *to, const struct list *job, const struct list *starts, unsigned position)
 {
     uint32_t word = starts->words[position];
     unsigned last = planreader_head_last(job->words[0]), actions = planreader_head_actions(job->words[0]);
-    if (planreader_kind(word) == PLANREADER_KIND_FACT) fprintf(stderr, "  it is a fact: give starts alone\n");
+    if (planreader_kind(word) == PLANREADER_KIND_FACT) fprintf(to, "  it is a fact: give starts alone\n");
     else if (word != planreader_start(planreader_start_moment(word), planreader_start_action(word)))
-        fprintf(stderr, "  it is no start: its kind or a spare bit is wrong\n");
-    else if (planreader_start_moment(word) > last) fprintf(stderr, "  the last moment is %u\n", last);
-    else if (planreader_start_action(word) >= actions) fprintf(stderr, "  the job's actions are 0 to %u\n", actions - 1);
+        fprintf(to, "  it is no start: its kind or a spare bit is wrong\n");
+    else if (planreader_start_moment(word) > last) fprintf(to, "  the last moment is %u\n", last);
+    else if (planreader_start_action(word) >= actions) fprintf(to, "  the job's actions are 0 to %u\n", actions - 1);
     else
-        fprintf(stderr, "  the start before it, %08lx, is not lower: list them sorted, by moment, then by action, each once\n",
+        fprintf(to, "  the start before it, %08lx, is not lower: list them sorted, by moment, then by action, each once\n",
                 (unsigned long)starts->words[position - 1]);
 }
 
 /* 8 and 9: the starts before it that are in hand at its moment, of the same action or with opposite effects. */
-static void explain_overlap(const struct list *job, const struct list *starts, unsigned number, unsigned position)
+static void explain_overlap(FILE *to, const struct list *job, const struct list *starts, unsigned number, unsigned position)
 {
     uint32_t start = starts->words[position];
     for (unsigned i = 0; i < position; i++) {
         uint32_t earlier = starts->words[i];
         if (planreader_start_moment(start) >= end_of(job, earlier)) continue;
         if (number == PLANREADER_START_IN_HAND && planreader_start_action(earlier) == planreader_start_action(start))
-            fprintf(stderr, "  start %u, moment %u, of the same action is in hand until %u\n", i, planreader_start_moment(earlier),
+            fprintf(to, "  start %u, moment %u, of the same action is in hand until %u\n", i, planreader_start_moment(earlier),
                     end_of(job, earlier));
         for (unsigned fluent = 0; number == PLANREADER_START_CLASHES && fluent < 64; fluent++)
             if (made(job, start, fluent) + made(job, earlier, fluent) == PLANREADER_MAKES_TRUE + PLANREADER_MAKES_FALSE)
-                fprintf(stderr, "  start %u, moment %u, action %u, is in hand until %u: one makes fluent %u true, the other false\n", i,
+                fprintf(to, "  start %u, moment %u, action %u, is in hand until %u: one makes fluent %u true, the other false\n", i,
                         planreader_start_moment(earlier), planreader_start_action(earlier), end_of(job, earlier), fluent);
     }
 }
@@ -75,19 +75,19 @@ static const char *value_at(const uint32_t *facts, size_t length, unsigned momen
 }
 
 /* Which of the first starts hide a fluent at a moment. */
-static void explain_hidden(const struct list *job, const struct list *starts, size_t length, unsigned moment, unsigned fluent)
+static void explain_hidden(FILE *to, const struct list *job, const struct list *starts, size_t length, unsigned moment, unsigned fluent)
 {
     for (size_t i = 0; i < length; i++) {
         uint32_t start = starts->words[i];
         if (planreader_start_moment(start) < moment && moment < end_of(job, start) && made(job, start, fluent) != 0)
-            fprintf(stderr, ", hidden by action %u, in hand from %u to %u", planreader_start_action(start), planreader_start_moment(start),
+            fprintf(to, ", hidden by action %u, in hand from %u to %u", planreader_start_action(start), planreader_start_moment(start),
                     end_of(job, start));
     }
 }
 
 /* 10: each need, and the value of its fluent then. The starts before it are lawful, and they alone decide what is known at its moment: one
  * of the same moment or later hides and makes nothing by then. */
-static void explain_needs(const struct list *job, const struct list *starts, unsigned position)
+static void explain_needs(FILE *to, const struct list *job, const struct list *starts, unsigned position)
 {
     static uint32_t facts[PLANREADER_BUFFER_WORDS];
     unsigned action = planreader_start_action(starts->words[position]), moment = planreader_start_moment(starts->words[position]);
@@ -96,34 +96,34 @@ static void explain_needs(const struct list *job, const struct list *starts, uns
         unsigned role = planreader_law_role(job->words[i]), fluent = planreader_law_fluent(job->words[i]);
         if (role >= PLANREADER_MAKES_TRUE) continue;
         const char *needed = role == PLANREADER_NEEDS_TRUE ? "true" : "false", *value = value_at(facts, known, moment, fluent);
-        fprintf(stderr, "  action %u needs fluent %u %s; at %u it is %s", action, fluent, needed, moment, value);
-        if (value[0] == 'o') explain_hidden(job, starts, position, moment, fluent);
-        fprintf(stderr, "%s\n", value[0] == needed[0] ? "" : ": not met");
+        fprintf(to, "  action %u needs fluent %u %s; at %u it is %s", action, fluent, needed, moment, value);
+        if (value[0] == 'o') explain_hidden(to, job, starts, position, moment, fluent);
+        fprintf(to, "%s\n", value[0] == needed[0] ? "" : ": not met");
     }
 }
 
 /* The start at a position that is refused by 6 to 10. */
-static void explain_start(const struct list *job, const struct list *starts, unsigned number, unsigned position)
+static inline void explain_start(FILE *to, const struct list *job, const struct list *starts, unsigned number, unsigned position)
 {
     uint32_t word = starts->words[position];
-    fprintf(stderr, "  start %u, word %08lx", position, (unsigned long)word);
+    fprintf(to, "  start %u, word %08lx", position, (unsigned long)word);
     if (planreader_kind(word) == PLANREADER_KIND_START)
-        fprintf(stderr, ": moment %u, action %u", planreader_start_moment(word), planreader_start_action(word));
+        fprintf(to, ": moment %u, action %u", planreader_start_moment(word), planreader_start_action(word));
     if (number == PLANREADER_START_ENDS_LATE)
-        fprintf(stderr, "; it ends at %u, and the last moment is %u", end_of(job, word), planreader_head_last(job->words[0]));
-    fprintf(stderr, "\n");
-    if (number == PLANREADER_START_WORD) explain_word(job, starts, position);
-    if (number == PLANREADER_START_IN_HAND || number == PLANREADER_START_CLASHES) explain_overlap(job, starts, number, position);
-    if (number == PLANREADER_START_NEEDS) explain_needs(job, starts, position);
+        fprintf(to, "; it ends at %u, and the last moment is %u", end_of(job, word), planreader_head_last(job->words[0]));
+    fprintf(to, "\n");
+    if (number == PLANREADER_START_WORD) explain_word(to, job, starts, position);
+    if (number == PLANREADER_START_IN_HAND || number == PLANREADER_START_CLASHES) explain_overlap(to, job, starts, number, position);
+    if (number == PLANREADER_START_NEEDS) explain_needs(to, job, starts, position);
 }
 
 /* The word or the node of a job that is refused by 2 to 5: the command that lists it. */
-static void explain_job(const struct list *job, const char *path, unsigned number, unsigned position)
+static void explain_job(FILE *to, const struct list *job, const char *path, unsigned number, unsigned position)
 {
     if (number == PLANREADER_JOB_NODES) {
-        if (has_node(job)) fprintf(stderr, "  node %u and what names it: w32 -l %s | grep -w 'node %u'\n", position, path, position);
+        if (has_node(job)) fprintf(to, "  node %u and what names it: w32 -l %s | grep -w 'node %u'\n", position, path, position);
     } else if (number != PLANREADER_JOB_LENGTH && position < job->length) {
-        fprintf(stderr, "  word %u, %08lx: w32 -l %s | sed -n %up\n", position, (unsigned long)job->words[position], path, position + 1);
+        fprintf(to, "  word %u, %08lx: w32 -l %s | sed -n %up\n", position, (unsigned long)job->words[position], path, position + 1);
     }
 }
 

@@ -17,8 +17,8 @@ static void say_refusal(const char *job_path, const char *starts_path, uint64_t 
     unsigned number = planreader_number(answer), position = planreader_position(answer);
     int of_start = number >= PLANREADER_START_WORD;
     fprintf(stderr, "makeplan: %s: refused %u at %u: %s\n", of_start ? starts_path : job_path, number, position, meaning(answer, &job));
-    if (of_start) explain_start(&job, &starts, number, position);
-    else explain_job(&job, job_path, number, position);
+    if (of_start) explain_start(stderr, &job, &starts, number, position);
+    else explain_job(stderr, &job, job_path, number, position);
 }
 
 /* Says that no plan was written, and that one that is there is of an earlier run. */

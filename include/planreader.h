@@ -12,6 +12,7 @@
  *    returns; job, starts and facts may be read-only. No registers of a device, and no mapped file that is cut meanwhile.
  *  - The buffer overlaps none of the other lists. job, starts and facts may overlap each other, and may be one list.
  *  - During the call nothing else (a thread, a signal handler, a device) writes to any of the lists, or reads the buffer.
+ *  - A trial is such a buffer for trial_begin, trial_start and trial_on, and for trial_show a list that is only read.
  *  - PLANREADER_STACK bytes of stack are free.
  *
  * What the caller may count on. A call returns, reads and writes nothing but its lists and its stack, keeps no pointer, allocates
@@ -20,8 +21,8 @@
  * again when it returns, and need not be cleared before it is lent a second time.
  *
  * Time, measured, not proved: find takes about 0.1 ms on an ordinary door, and about 0.15 s on the slowest single task set that a search of
- * an hour found. No job whose time the tests measure takes more than 0.25 s on the machine measured, and they fail above 1 s. check and fill
- * take a few ms. A call can't be stopped on its way; a host that must stay responsive calls find on a thread of its own.
+ * an hour found. No job whose time the tests measure takes more than 0.25 s on the machine measured, and they fail above 1 s. check, fill
+ * and the trial calls take a few ms. A call can't be stopped on its way; a host that must stay responsive calls find on a thread of its own.
  *
  * Each call returns one 64-bit number: refusal number, 0 for success, in bits 63..56; position, counted from 0 within the list
  * concerned, in 55..40; length in 39..24; count in 23..0.
@@ -31,8 +32,21 @@
  *     if (planreader_number(filled) == 0)
  *         passes = check(job, job_len, starts, starts_len, facts, planreader_length(filled)) == 0;
  *
- * A host that has a check, fill or find of its own defines PLANREADER_PREFIXED before this header and links libplanreader-prefixed.a, the
- * same code: the calls are then planreader_check, planreader_fill and planreader_find, and the three short names are free. */
+ * To step a plan by hand, begin a trial, start actions and move on, and look at what is known; examples/step.c is a whole program:
+ *
+ *     static planreader_trial trial;
+ *     static uint32_t known[PLANREADER_BUFFER_WORDS];
+ *     uint64_t answer = trial_begin(job, job_len, trial, PLANREADER_TRIAL_WORDS);
+ *     if (answer == 0) answer = trial_start(job, job_len, trial, PLANREADER_TRIAL_WORDS, 0);
+ *     if (answer == 0) answer = trial_on(job, job_len, trial, PLANREADER_TRIAL_WORDS);
+ *     if (answer == 0) answer = trial_show(job, job_len, trial, PLANREADER_TRIAL_WORDS, known, PLANREADER_BUFFER_WORDS);
+ *     for (unsigned i = 0; i < planreader_length(answer); i++)
+ *         if (planreader_fact_moment(known[i]) == planreader_trial_moment(trial))
+ *             printf("fluent %u is %s\n", planreader_fact_fluent(known[i]), planreader_fact_is_true(known[i]) ? "true" : "false");
+ *
+ * A host that has a function of its own with one of these names defines PLANREADER_PREFIXED before this header and links
+ * libplanreader-prefixed.a, the same code: the calls are then planreader_check, planreader_fill, planreader_find, planreader_trial_begin
+ * and so on, and the short names are free. */
 #ifndef PLANREADER_H
 #define PLANREADER_H
 
@@ -47,6 +61,7 @@ extern "C" {
 
 #define PLANREADER_BUFFER_WORDS 4096u /* a shorter buffer is refusal 12 */
 #define PLANREADER_JOB_WORDS 2048u /* a longer job is refusal 1 */
+#define PLANREADER_TRIAL_WORDS 4098u /* a shorter list is no trial: refusal 14 */
 #define PLANREADER_STACK 196608u /* bytes: what the tests measured, rounded up */
 
 #ifdef PLANREADER_PREFIXED
@@ -70,7 +85,38 @@ uint64_t PLANREADER_CALL(fill)(const uint32_t *job, size_t job_len, const uint32
 uint64_t PLANREADER_CALL(find)(const uint32_t *job, size_t job_len, const uint32_t *starts, size_t starts_len,
                                const uint32_t *facts, size_t facts_len, uint32_t *buffer, size_t buffer_len);
 
+/* A trial, a plan that is stepped by hand: the present moment, the number of its starts, and the starts, ascending; what the words after
+ * these are does not matter, but they are initialised. It is a value of the caller's: it may be copied, kept, stored and handed in again,
+ * with the job that it was begun with. */
+typedef uint32_t planreader_trial[PLANREADER_TRIAL_WORDS];
+
+/* Begins a trial: moment 0 and no starts. Refusals 1 to 5 with the job's position; then 14 if the list has fewer than
+ * PLANREADER_TRIAL_WORDS words. A refusal changes no word of the trial, and a success writes words 0 and 1 and no other. */
+uint64_t PLANREADER_CALL(trial_begin)(const uint32_t *job, size_t job_len, uint32_t *trial, size_t trial_len);
+
+/* Starts an action at the trial's moment. Any number may be given for the action. Refusals 1 to 5 with the job's position; then, all with
+ * position 0: 14 or 6 to 10 for a trial that no moves could give, see planreader_refusal; and 6 (no such action), 7, 8 (also for an
+ * action already started at this moment), 9 and 10 for the new start. A refusal changes no word of the trial; a success puts the start in its
+ * place among the starts, and changes no word after them. */
+uint64_t PLANREADER_CALL(trial_start)(const uint32_t *job, size_t job_len, uint32_t *trial, size_t trial_len, uint32_t action);
+
+/* Goes on one moment. Refusals as for trial_start, but in place of those for the new start 14 where the trial is at the last moment. A
+ * refusal changes no word of the trial, and a success only its moment. */
+uint64_t PLANREADER_CALL(trial_on)(const uint32_t *job, size_t job_len, uint32_t *trial, size_t trial_len);
+
+/* Writes the facts of moments 0 to the trial's, both included, to the buffer's first planreader_length words: those that fill writes for
+ * the trial's starts, up to that moment. Refusal 12, before all others; then 1 to 5 with the job's position, and 14 or 6 to 10 for the trial,
+ * with position 0. A refusal changes no word of the buffer, and a success none after the facts. */
+uint64_t PLANREADER_CALL(trial_show)(const uint32_t *job, size_t job_len, const uint32_t *trial, size_t trial_len,
+                                     uint32_t *buffer, size_t buffer_len);
+
 #undef PLANREADER_CALL
+
+/* The parts of a trial: its moment, how many starts it has, and the starts, which check, fill and find take as they are. For a trial that
+ * the calls accept: what other words say of their number may go beyond their list. */
+static inline unsigned planreader_trial_moment(const uint32_t *trial) { return trial[0]; }
+static inline unsigned planreader_trial_count(const uint32_t *trial) { return trial[1]; }
+static inline const uint32_t *planreader_trial_starts(const uint32_t *trial) { return trial + 2; }
 
 /* The version of the archive that is linked, to be held to PLANREADER_VERSION, that of this header. Of the archives of the package alone:
  * it is no part of the proved code, and stands in an object file of its own. */
@@ -82,7 +128,8 @@ static inline unsigned planreader_position(uint64_t answer) { return (unsigned)(
 static inline unsigned planreader_length(uint64_t answer) { return (unsigned)(answer >> 24 & 0xffff); }
 static inline unsigned planreader_count(uint64_t answer) { return (unsigned)(answer & 0xffffff); }
 
-/* Refusal numbers. The position is that of a word of the job (2, 3, 4), of a start (6 to 10) or of a fact (11), or as said here. */
+/* Refusal numbers. The position is that of a word of the job (2, 3, 4), of a start (6 to 10) or of a fact (11), or as said here. The trial
+ * calls give every number but 1 to 5 with position 0. */
 enum planreader_refusal {
     PLANREADER_ACCEPTED = 0,
     PLANREADER_JOB_LENGTH = 1, /* position 0 */
@@ -97,7 +144,10 @@ enum planreader_refusal {
     PLANREADER_START_NEEDS = 10,
     PLANREADER_FACTS_DIFFER = 11, /* the first difference; if one list begins the other, the shorter length */
     PLANREADER_BUFFER_SHORT = 12, /* position 0 */
-    PLANREADER_NO_READING = 13 /* position 0 */
+    PLANREADER_NO_READING = 13, /* position 0 */
+    /* Of the trial calls alone, position 0: fewer than PLANREADER_TRIAL_WORDS words, more than 4,096 starts, a moment after the last, a start
+     * whose moment (bits 11..6 of whatever word) is after the trial's; or trial_on at the last moment. */
+    PLANREADER_TRIAL_BOUNDS = 14
 };
 
 /* What a refusal number says of what stands at the position; a text for every number. */
@@ -119,6 +169,8 @@ static inline const char *planreader_refusal_text(unsigned number)
         "a fact that does not follow from the starts, or that is missing",
         "a buffer that is too short",
         "the procedure has no reading",
+        ("a trial that no moves could give: a list that is too short, too many starts, or a moment or a start that is too late; "
+         "or going on at the last moment"),
     };
     return number < sizeof texts / sizeof *texts ? texts[number] : "no number of a refusal";
 }

@@ -1,5 +1,6 @@
-/* The header's example, compiled as C11 and as C++. */
+/* The header's examples, compiled as C11 and as C++. */
 #include "planreader.h"
+#include <stdio.h>
 
 int passes_with_its_own_facts(const uint32_t *job, size_t job_len, const uint32_t *starts, size_t starts_len);
 int passes_with_its_own_facts(const uint32_t *job, size_t job_len, const uint32_t *starts, size_t starts_len)
@@ -10,4 +11,19 @@ int passes_with_its_own_facts(const uint32_t *job, size_t job_len, const uint32_
     if (planreader_number(filled) == 0)
         passes = check(job, job_len, starts, starts_len, facts, planreader_length(filled)) == 0;
     return passes;
+}
+
+uint64_t step_once(const uint32_t *job, size_t job_len);
+uint64_t step_once(const uint32_t *job, size_t job_len)
+{
+    static planreader_trial trial;
+    static uint32_t known[PLANREADER_BUFFER_WORDS];
+    uint64_t answer = trial_begin(job, job_len, trial, PLANREADER_TRIAL_WORDS);
+    if (answer == 0) answer = trial_start(job, job_len, trial, PLANREADER_TRIAL_WORDS, 0);
+    if (answer == 0) answer = trial_on(job, job_len, trial, PLANREADER_TRIAL_WORDS);
+    if (answer == 0) answer = trial_show(job, job_len, trial, PLANREADER_TRIAL_WORDS, known, PLANREADER_BUFFER_WORDS);
+    for (unsigned i = 0; i < planreader_length(answer); i++)
+        if (planreader_fact_moment(known[i]) == planreader_trial_moment(trial))
+            printf("fluent %u is %s\n", planreader_fact_fluent(known[i]), planreader_fact_is_true(known[i]) ? "true" : "false");
+    return answer;
 }

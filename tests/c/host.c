@@ -1,4 +1,4 @@
-/* A host in C: calls check, fill and find, holds what each leaves in its buffer, and measures the stack that they use.
+/* A host in C: calls check, fill and find, holds what each leaves in its buffer, and measures the stack that these and the trial calls use.
  * Prints each fault, and exits with 1 if there is one. */
 #define _POSIX_C_SOURCE 200809L
 #include "planreader.h"
@@ -106,19 +106,65 @@ static void deep(void)
     expect_count("find, deep", find(chain, n, NULL, 0, NULL, 0, reading, 4096), 0, 0, 64, 64);
 }
 
-static void *large(void *unused)
+/* The calls on the largest plan, one after the other: each goes on from what those before it have left. The trial is the whole plan but for
+ * its last start. */
+static planreader_trial trial;
+
+static void large_fill(void)
 {
-    (void)unused;
-    uint64_t filled = fill(large_job, JOB_WORDS, large_starts, STARTS, large_facts, 4096);
-    expect("fill, large", filled, 0, 0, 4096);
+    expect("fill, large", fill(large_job, JOB_WORDS, large_starts, STARTS, large_facts, 4096), 0, 0, 4096);
+}
+
+static void large_check(void)
+{
     expect("check, large", check(large_job, JOB_WORDS, large_starts, STARTS, large_facts, 4096), 0, 0, 0);
+}
+
+static void large_find(void)
+{
     expect_count("find, large", find(large_job, JOB_WORDS, large_starts, STARTS, large_facts, 4096, large_reading, 4096), 13, 0, 0, 64);
     deep();
+}
+
+static void large_begin(void)
+{
+    expect("trial_begin, large", trial_begin(large_job, JOB_WORDS, trial, PLANREADER_TRIAL_WORDS), 0, 0, 0);
+    trial[0] = 62;
+    trial[1] = STARTS - 1;
+    memcpy(trial + 2, large_starts, (STARTS - 1) * sizeof *trial);
+}
+
+static void large_start(void)
+{
+    expect("trial_start, large", trial_start(large_job, JOB_WORDS, trial, PLANREADER_TRIAL_WORDS, 63), 0, 0, 0);
+    same("trial_start left other starts", planreader_trial_starts(trial), large_starts, STARTS);
+}
+
+static void large_on(void)
+{
+    expect("trial_on, large", trial_on(large_job, JOB_WORDS, trial, PLANREADER_TRIAL_WORDS), 0, 0, 0);
+}
+
+static void large_show(void)
+{
+    expect("trial_show, large", trial_show(large_job, JOB_WORDS, trial, PLANREADER_TRIAL_WORDS, large_reading, 4096), 0, 0, 4096);
+    same("trial_show wrote other facts than fill", large_reading, large_facts, 4096);
+}
+
+static const struct measured {
+    const char *name;
+    void (*calls)(void);
+} measured[] = {{"fill", large_fill},         {"check", large_check},       {"find", large_find},      {"trial_begin", large_begin},
+                {"trial_start", large_start}, {"trial_on", large_on}, {"trial_show", large_show}};
+
+static void *on_thread(void *which)
+{
+    ((const struct measured *)which)->calls();
     return NULL;
 }
 
-/* Runs the large plan on a painted stack, and looks how far the paint is gone. */
-static void measure(void)
+/* Runs a call on a painted stack, and looks how far the paint is gone. */
+static size_t measure(const struct measured *which)
 {
     enum { SIZE = 1 << 20 };
     unsigned char *stack;
@@ -128,15 +174,25 @@ static void measure(void)
     if (posix_memalign((void **)&stack, 4096, SIZE)) exit(2);
     memset(stack, 0xa5, SIZE);
     pthread_attr_init(&attr);
-    if (pthread_attr_setstack(&attr, stack, SIZE) || pthread_create(&thread, &attr, large, NULL)) exit(2);
+    if (pthread_attr_setstack(&attr, stack, SIZE) || pthread_create(&thread, &attr, on_thread, (void *)(uintptr_t)which)) exit(2);
     pthread_join(thread, NULL);
     while (left < SIZE && stack[left] == 0xa5) left++;
-    printf("stack used: %zu bytes (of the header's %u, with the thread's own)\n", SIZE - left, PLANREADER_STACK);
-    if (SIZE - left > PLANREADER_STACK) {
-        printf("more than the header says\n");
+    free(stack);
+    return SIZE - left;
+}
+
+/* What each call uses; none more than the header says. */
+static void measure_all(void)
+{
+    printf("stack used, of the header's %u bytes, with the thread's own:", PLANREADER_STACK);
+    for (size_t i = 0; i < sizeof measured / sizeof *measured; i++) {
+        size_t used = measure(&measured[i]);
+        printf(" %s %zu", measured[i].name, used);
+        if (used <= PLANREADER_STACK) continue;
+        printf(" (more than the header says)");
         faults++;
     }
-    free(stack);
+    printf("\n");
 }
 
 int main(void)
@@ -144,7 +200,7 @@ int main(void)
     small();
     example3();
     make_plan(large_job, large_starts);
-    measure();
+    measure_all();
     printf("c host: %s\n", faults ? "FAILED" : "ok");
     return faults != 0;
 }

@@ -1,5 +1,5 @@
-/* A host that has a check, fill and find of its own, with the prefixed archive: jobs made by the header's makers, with every kind and form,
- * go through all three calls. Compiled with PLANREADER_PREFIXED defined, as C11 and as C++17. */
+/* A host that has functions of its own with the names of all calls, with the prefixed archive: jobs made by the header's makers, with every
+ * kind and form, go through all calls. Compiled with PLANREADER_PREFIXED defined, as C11 and as C++17. */
 #include "planreader.h"
 #include <stdio.h>
 #include <string.h>
@@ -10,6 +10,10 @@ extern "C" {
 int check(int own);
 int fill(int own);
 int find(int own);
+int trial_begin(int own);
+int trial_start(int own);
+int trial_on(int own);
+int trial_show(int own);
 #ifdef __cplusplus
 }
 #endif
@@ -17,6 +21,10 @@ int find(int own);
 int check(int own) { return own + 1; }
 int fill(int own) { return own + 2; }
 int find(int own) { return own + 3; }
+int trial_begin(int own) { return own + 4; }
+int trial_start(int own) { return own + 5; }
+int trial_on(int own) { return own + 6; }
+int trial_show(int own) { return own + 7; }
 
 static int faults;
 static uint32_t facts[PLANREADER_BUFFER_WORDS], reading[PLANREADER_BUFFER_WORDS];
@@ -99,11 +107,29 @@ static void try_forms(void)
     if (memcmp(reading, expected, sizeof expected) != 0) printf("forms: another reading\n"), faults++;
 }
 
+/* The scope's P1 by hand: its one action started at 0, then on to 1, where the fluent is true. */
+static void try_trial(void)
+{
+    static planreader_trial trial;
+    const uint32_t job[] = {planreader_head(1, 1, 1), planreader_known(0, 0), planreader_action(0, 1), planreader_makes(0, 1), planreader_act(0)};
+    const uint32_t known[] = {planreader_fact(0, 0, 0), planreader_fact(1, 0, 1)};
+    expect("trial, begin", planreader_trial_begin(job, 5, trial, PLANREADER_TRIAL_WORDS), 0, 0, 0, 0);
+    expect("trial, start", planreader_trial_start(job, 5, trial, PLANREADER_TRIAL_WORDS, 0), 0, 0, 0, 0);
+    expect("trial, on", planreader_trial_on(job, 5, trial, PLANREADER_TRIAL_WORDS), 0, 0, 0, 0);
+    expect("trial, on after the last moment", planreader_trial_on(job, 5, trial, PLANREADER_TRIAL_WORDS), 14, 0, 0, 0);
+    expect("trial, show", planreader_trial_show(job, 5, trial, PLANREADER_TRIAL_WORDS, facts, PLANREADER_BUFFER_WORDS), 0, 0, 2, 0);
+    if (memcmp(facts, known, sizeof known) != 0) printf("trial: other facts\n"), faults++;
+    if (planreader_trial_moment(trial) != 1 || planreader_trial_count(trial) != 1 || planreader_trial_starts(trial)[0] != planreader_start(0, 0))
+        printf("trial: other words\n"), faults++;
+}
+
 int main(void)
 {
     try_windows();
     try_forms();
-    if (check(0) != 1 || fill(0) != 2 || find(0) != 3) printf("the host's own calls are not its own\n"), faults++;
+    try_trial();
+    if (check(0) != 1 || fill(0) != 2 || find(0) != 3 || trial_begin(0) != 4 || trial_start(0) != 5 || trial_on(0) != 6 || trial_show(0) != 7)
+        printf("the host's own calls are not its own\n"), faults++;
     if (strcmp(planreader_version, PLANREADER_VERSION) != 0) printf("the archive's version is %s\n", planreader_version), faults++;
     printf("prefixed: %s\n", faults ? "FAILED" : "ok");
     return faults != 0;

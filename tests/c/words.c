@@ -207,25 +207,36 @@ static void try_numbers(void)
     const int refusals[] = {PLANREADER_ACCEPTED, PLANREADER_JOB_LENGTH, PLANREADER_JOB_SHAPE, PLANREADER_JOB_VALUE,
                             PLANREADER_JOB_FLUENT_TWICE, PLANREADER_JOB_NODES, PLANREADER_START_WORD, PLANREADER_START_ENDS_LATE,
                             PLANREADER_START_IN_HAND, PLANREADER_START_CLASHES, PLANREADER_START_NEEDS, PLANREADER_FACTS_DIFFER,
-                            PLANREADER_BUFFER_SHORT, PLANREADER_NO_READING};
+                            PLANREADER_BUFFER_SHORT, PLANREADER_NO_READING, PLANREADER_TRIAL_BOUNDS};
     for (int i = 0; i < 5; i++)
         if (formulas[i] != i || conditions[i] != i) fault("form", 5, i, 0);
     for (int i = 0; i < 9; i++)
         if (nodes[i] != i) fault("form", 6, i, 0);
-    for (int i = 0; i < 14; i++)
+    for (int i = 0; i < 15; i++)
         if (refusals[i] != i) fault("refusal", 0, i, 0);
 }
 
-/* A text for every number: for 0 to 13 each its own, beyond them one that is none of these. */
+/* A text for every number: for 0 to 14 each its own, beyond them one that is none of these. */
 static void try_texts(void)
 {
-    for (unsigned a = 0; a <= 14; a++) {
+    for (unsigned a = 0; a <= 15; a++) {
         if (strlen(planreader_refusal_text(a)) < 8) fault("no text", 0, (int)a, 0);
         for (unsigned b = 0; b < a; b++)
             if (strcmp(planreader_refusal_text(a), planreader_refusal_text(b)) == 0) fault("same text", 0, (int)a, 0);
     }
-    for (unsigned a = 15; a < 300; a++)
-        if (strcmp(planreader_refusal_text(a), planreader_refusal_text(14)) != 0) fault("text beyond 13", 0, (int)a, 0);
+    for (unsigned a = 16; a < 300; a++)
+        if (strcmp(planreader_refusal_text(a), planreader_refusal_text(15)) != 0) fault("text beyond 14", 0, (int)a, 0);
+}
+
+/* A trial's words: the moment, the number of its starts, the starts; 4,098 of them, so that 4,096 starts have room. */
+static void try_trial(void)
+{
+    static planreader_trial trial = {5, 2, 0x90000000u, 0x90000141u};
+    const uint32_t *words = trial;
+    if (PLANREADER_TRIAL_WORDS != 4098 || sizeof trial != 4 * 4098) fault("a trial of another size", 0, 0, 0);
+    if (planreader_trial_moment(words) != 5) fault("trial's moment", 0, 0, planreader_trial_moment(words));
+    if (planreader_trial_count(words) != 2) fault("trial's number of starts", 0, 1, planreader_trial_count(words));
+    if (planreader_trial_starts(words) != words + 2 || planreader_trial_starts(trial)[1] != 0x90000141u) fault("trial's starts", 0, 2, 0);
 }
 
 int main(void)
@@ -241,6 +252,7 @@ int main(void)
     try_short();
     try_numbers();
     try_texts();
+    try_trial();
     if (strcmp(PLANREADER_VERSION, VERSION_FILE) != 0) fault("PLANREADER_VERSION is not that of VERSION", 0, 0, 0);
     printf("words: %s\n", faults ? "FAILED" : "ok");
     return faults != 0;

@@ -175,6 +175,17 @@ void generate(struct input *in, struct dice *dice, unsigned size)
     for (; draft.formulas < formulas; draft.formulas++) add_job_word(in, some_formula(dice, draft.formulas, draft.fluents));
     add_tree(&draft, size);
     carry_out(in, dice);
+    change_trial(in, dice);
+}
+
+/* Mostly a moment of the plan and an action of the job, and a list as it should be. */
+void change_trial(struct input *in, struct dice *dice)
+{
+    uint32_t last = in->job_len ? field(in->job[0], 7, 0) : 0, actions = in->job_len ? field(in->job[0], 15, 8) : 0;
+    size_t starts = in->starts_len;
+    in->moment = (uint8_t)(starts && chance(dice, 2) ? field(in->starts[roll(dice, (uint32_t)starts)], 11, 6) : roll(dice, last + 2));
+    in->action = (uint8_t)(chance(dice, 8) ? roll(dice, 256) : roll(dice, actions + 1));
+    in->odd = (uint8_t)(chance(dice, 4) ? roll(dice, 256) : 0);
 }
 
 /* Carrying out a job's procedure: starts are added where its acts come to stand. */

@@ -17,6 +17,9 @@ void generate(struct input *in, struct dice *dice, unsigned size);
 /* New starts for the job, by carrying out its procedure from moment 0, and the last moment to fit. Only for a well-formed job. */
 void carry_out(struct input *in, struct dice *dice);
 
+/* Another moment, action and shape for the trial whose starts are those of the plan. */
+void change_trial(struct input *in, struct dice *dice);
+
 /* Is the job well formed? As fill says. */
 bool job_passes(const struct input *in);
 

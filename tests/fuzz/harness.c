@@ -1,27 +1,28 @@
 /* Runs check, fill and find on one input (input.h) and holds what they answer and leave behind to the scope, so far as that can be told
- * without computing the answer a second time. A violation prints a line that begins with `violation:` and aborts.
+ * without computing the answer a second time; trial.c does so with the trial calls. A violation prints a line that begins with `violation:`
+ * and aborts.
  *
  * The archive is not built with AddressSanitizer, so the lists are lent in memory between inaccessible pages (guard.h): one word read or
  * written beyond a list faults, or changes a guard word. The lists that a call may only read are locked against writing. The harness's own
  * copies are heap blocks of exactly their size, under AddressSanitizer. */
 #include "harness.h"
 #include "counters.h"
-#include "guard.h"
+#include "hold.h"
 #include "input.h"
 #include "planreader.h"
 #include "reading.h"
+#include "trial.h"
 #include <stdio.h>
 #include <stdlib.h>
 #include <string.h>
 
-enum { CHECK, FILL, FIND };
 enum { BUFFER_MOST = 5000, CONTENTS = 2, READING_MOST = 4032 };
-static const char *const call_names[] = {"check", "fill", "find"};
+static const char *const call_names[CALLS] = {"check", "fill", "find", "trial_begin", "trial_start", "trial_on", "trial_show"};
 
-unsigned long harness_seen[3][14], harness_calls;
+unsigned long harness_seen[CALLS][NUMBERS], harness_calls;
 
 /* Counters that libFuzzer reads beside the archive's own: answers, and what a reading is made of. */
-enum { ANSWERS = 3 * 14 * 16, PAIRS = 9 * 9, SIZES = 64 };
+enum { ANSWERS = CALLS * NUMBERS * 16, PAIRS = 9 * 9, SIZES = 64 };
 __attribute__((section("__libfuzzer_extra_counters"))) static uint8_t extra[ANSWERS + PAIRS + SIZES];
 
 /* The lists of one input, as lent to a call. */
@@ -39,7 +40,7 @@ static void violation(const char *call, const char *what, uint64_t answer)
     abort();
 }
 
-static void hold(bool met, int call, const char *what, uint64_t answer)
+void hold(bool met, int call, const char *what, uint64_t answer)
 {
     if (!met) violation(call_names[call], what, answer);
 }
@@ -58,8 +59,7 @@ static void make_rooms(void)
     lent.ready = true;
 }
 
-/* A copy in a block of exactly its size. */
-static struct list keep(const uint32_t *words, size_t len)
+struct list keep(const uint32_t *words, size_t len)
 {
     uint32_t *copy = malloc(len ? len * sizeof *copy : 1);
     struct list kept = {copy, len};
@@ -68,14 +68,13 @@ static struct list keep(const uint32_t *words, size_t len)
     return kept;
 }
 
-static void drop(struct list kept) { free((void *)(uintptr_t)kept.words); }
+void drop(struct list kept) { free((void *)(uintptr_t)kept.words); }
 
-static bool same_words(const uint32_t *a, const uint32_t *b, size_t len) { return len == 0 || memcmp(a, b, len * sizeof *a) == 0; }
+bool same_words(const uint32_t *a, const uint32_t *b, size_t len) { return len == 0 || memcmp(a, b, len * sizeof *a) == 0; }
 
 static bool same_list(struct list a, struct list b) { return a.len == b.len && same_words(a.words, b.words, a.len); }
 
-/* Lends a list in its room, locked. An empty one is NULL, or points where nothing may be read. */
-static struct list lend(struct guarded *room, struct list list, uint32_t choices)
+struct list lend(struct guarded *room, struct list list, uint32_t choices)
 {
     guard_unlock(room);
     guard_place(room, list.words, list.len, (choices & LISTS_BEGIN) != 0);
@@ -85,11 +84,11 @@ static struct list lend(struct guarded *room, struct list list, uint32_t choices
     return placed;
 }
 
-static void note(int call, uint64_t answer)
+void note(int call, uint64_t answer)
 {
     unsigned number = planreader_number(answer), position = planreader_position(answer);
     harness_seen[call][number]++;
-    extra[(call * 14 + (int)number) * 16 + (int)(position < 15 ? position : 15)]++;
+    extra[(call * NUMBERS + (int)number) * 16 + (int)(position < 15 ? position : 15)]++;
 }
 
 /* What any answer of a call owes: a lawful number, and nothing in the fields that it does not use. */
@@ -372,9 +371,9 @@ static void hold_one_list(struct list job)
     drop(three.facts);
 }
 
-static void hold_unchanged(struct list lists[3], const struct guarded *rooms[3])
+static void hold_unchanged(struct list *lists, const struct guarded **rooms, int number)
 {
-    for (int i = 0; i < 3; i++) {
+    for (int i = 0; i < number; i++) {
         hold(guard_intact(rooms[i]), CHECK, "a guard word of a list that is only read", 0);
         hold(same_words(rooms[i]->words, lists[i].words, lists[i].len), CHECK, "a list that is only read", 0);
     }
@@ -396,7 +395,7 @@ static void examine(struct list job, struct list starts, struct list facts, uint
     if (job.len > 2048) extra[ANSWERS + PAIRS + SIZES - 1]++;
     uint64_t found = hold_find(in, checked, choices);
     hold_other_buffer(in, right, filled, found, choices);
-    hold_unchanged((struct list[]){job, starts, given}, (const struct guarded *[]){&lent.job, &lent.starts, &lent.facts});
+    hold_unchanged((struct list[]){job, starts, given}, (const struct guarded *[]){&lent.job, &lent.starts, &lent.facts}, 3);
     hold_first(in, checked);
     if (choices & ONE_LIST) hold_one_list(in.job);
     if (accepted) {
@@ -415,6 +414,8 @@ int LLVMFuzzerTestOneInput(const uint8_t *data, size_t size)
     input_decode(&in, data, size);
     struct list job = keep(in.job, in.job_len), starts = keep(in.starts, in.starts_len), facts = keep(in.facts, in.facts_len);
     examine(job, starts, facts, in.choices);
+    examine_trials(lend(&lent.job, job, in.choices), starts, &in);
+    hold_unchanged((struct list[]){job}, (const struct guarded *[]){&lent.job}, 1);
     drop(job);
     drop(starts);
     drop(facts);

@@ -9,6 +9,7 @@ size_t LLVMFuzzerCustomMutator(uint8_t *data, size_t size, size_t most, unsigned
 size_t LLVMFuzzerCustomCrossOver(const uint8_t *one, size_t one_size, const uint8_t *other, size_t other_size, uint8_t *out, size_t most,
                                  unsigned int seed);
 
-/* How often each call (check, fill, find) gave each number, and the calls made. */
-extern unsigned long harness_seen[3][14], harness_calls;
+/* The calls, and how often each gave each number; how many were made. */
+enum { CHECK, FILL, FIND, TRIAL_BEGIN, TRIAL_START, TRIAL_ON, TRIAL_SHOW, CALLS, NUMBERS = 15 };
+extern unsigned long harness_seen[CALLS][NUMBERS], harness_calls;
 #endif

@@ -12,15 +12,28 @@ static size_t take(uint32_t *to, size_t wanted, size_t most, const uint8_t **dat
     return len;
 }
 
+/* The bytes after the words: those that are there, and others by the words. The moment is then the last start's or the one after it. */
+static void decode_trial(struct input *in, const uint8_t *bytes, size_t number)
+{
+    uint32_t sum = in->choices, last = in->starts_len ? field(in->starts[in->starts_len - 1], 11, 6) : 0;
+    for (size_t i = 0; i < in->job_len; i++) sum = (sum ^ in->job[i]) * 16777619u;
+    for (size_t i = 0; i < in->starts_len; i++) sum = (sum ^ in->starts[i]) * 16777619u;
+    in->moment = number > 0 ? bytes[0] : (uint8_t)(last + (sum >> 31));
+    in->action = number > 1 ? bytes[1] : (uint8_t)(sum >> 16 & 7u);
+    in->odd = number > 2 ? bytes[2] : (uint8_t)(sum >> 30 & 1u ? sum >> 8 : 0);
+}
+
 void input_decode(struct input *in, const uint8_t *data, size_t size)
 {
     uint32_t control = 0;
     size_t left = size / sizeof control;
+    const uint8_t *bytes = data + left * sizeof control;
     take(&control, 1, 1, &data, &left);
     in->choices = control & CHOICES;
     in->job_len = take(in->job, field(control, 19, 8), JOB_MOST, &data, &left);
     in->starts_len = take(in->starts, field(control, 31, 20), STARTS_MOST, &data, &left);
     in->facts_len = take(in->facts, left, FACTS_MOST, &data, &left);
+    decode_trial(in, bytes, size % sizeof control);
 }
 
 static size_t put(uint8_t *data, size_t at, size_t most, const uint32_t *from, size_t len)
@@ -36,11 +49,30 @@ size_t input_encode(const struct input *in, uint8_t *data, size_t most)
     size_t at = put(data, 0, most, &control, 1);
     at = put(data, at, most, in->job, in->job_len);
     at = put(data, at, most, in->starts, in->starts_len);
-    return put(data, at, most, in->facts, in->facts_len);
+    at = put(data, at, most, in->facts, in->facts_len);
+    const uint8_t bytes[] = {in->moment, in->action, in->odd};
+    for (size_t i = 0; i < sizeof bytes && at < most; i++) data[at++] = bytes[i];
+    return at;
 }
 
 size_t buffer_words(uint32_t choices)
 {
     static const uint16_t lengths[16] = {4096, 0, 1, 64, 2048, 4032, 4094, 4095, 4097, 4098, 4160, 4200, 4500, 4999, 5000, 4096};
     return lengths[choices & 15u];
+}
+
+size_t trial_words(uint8_t odd)
+{
+    static const uint16_t lengths[8] = {4098, 4098, 4098, 4098, 4099, 5000, 4097, 0};
+    return lengths[odd & 7u];
+}
+
+uint32_t trial_count(uint8_t odd, size_t starts)
+{
+    switch (odd >> 3 & 7u) {
+    case 5: return (uint32_t)starts + 1;
+    case 6: return 4096;
+    case 7: return starts % 2 ? 4097 : 0xffffffffu;
+    default: return (uint32_t)starts;
+    }
 }

@@ -1,4 +1,4 @@
-/* An input of the fuzzer: lists of 32-bit words, in the machine's byte order. Bytes after the last whole word are dropped.
+/* An input of the fuzzer: lists of 32-bit words, in the machine's byte order, and up to three bytes after the last whole word.
  *
  *   word 0, control:  3..0  length of the buffer: see buffer_words
  *                     4     facts: 0 the words given; 1 those that fill writes, or the words given where it refuses
@@ -7,6 +7,13 @@
  *                     7     also call with the job in the place of every list
  *                     19..8 number of job words J; 31..20 number of start words S
  *   then J job words, S start words, and fact words to the end. A list that is cut short has the words that are there.
+ *
+ *   The bytes after the words are of the trial whose starts are those given. Where there are fewer than three, as in the inputs stored before
+ *   there were trials, the others go by the words.
+ *   byte 0            the trial's moment
+ *   byte 1            the action to start
+ *   byte 2            2..0 length of the trial's list: see trial_words; 5..3 its number of starts: see trial_count;
+ *                     6    the action is higher by 2^16; 7 the moment is higher by 2^31
  */
 #ifndef INPUT_H
 #define INPUT_H
@@ -19,13 +26,21 @@ struct input {
     uint32_t choices; /* the control word's bits 7..0 */
     size_t job_len, starts_len, facts_len;
     uint32_t job[JOB_MOST], starts[STARTS_MOST], facts[FACTS_MOST];
+    uint8_t moment, action, odd; /* the bytes after the words */
 };
+enum { ODD_ACTION = 1u << 6, ODD_MOMENT = 1u << 7 };
 
 void input_decode(struct input *in, const uint8_t *data, size_t size);
 
-/* Writes at most `most` bytes, whole words, and hands back how many. Words that do not fit are left out. */
+/* Writes at most `most` bytes, whole words and then the three bytes, and hands back how many. What does not fit is left out. */
 size_t input_encode(const struct input *in, uint8_t *data, size_t most);
 
 /* The buffer's length by the control word: 4,096, or a length that is refused, or a greater one. */
 size_t buffer_words(uint32_t choices);
+
+/* The length of the trial's list by byte 2: mostly 4,098, or one that is refused, or a greater one. */
+size_t trial_words(uint8_t odd);
+
+/* What the trial says of its number of starts: mostly the right number, or one more, or about the most that there may be. */
+uint32_t trial_count(uint8_t odd, size_t starts);
 #endif

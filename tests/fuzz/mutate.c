@@ -301,7 +301,7 @@ static mutation *const mutations[] = {
     flip_bit,     change_field, change_field, change_field,  change_field, delete_word,    delete_word,     copy_word,
     swap_words,   add_declaration, add_law,   wrap_root,     wrap_root,    add_condition,  add_condition,   change_form,
     put_start,    put_start,    shift_starts, change_last,   write_facts,  facts_by_fill,  change_choices,  carry_out_again,
-    carry_out_again, repair_numbers, repair_plan, repair_job, lengthen_job,
+    carry_out_again, repair_numbers, repair_plan, repair_job, lengthen_job, change_trial, change_trial,
 };
 enum { MUTATIONS = sizeof mutations / sizeof *mutations };
 
@@ -352,6 +352,7 @@ size_t LLVMFuzzerCustomCrossOver(const uint8_t *one, size_t one_size, const uint
         in.facts_len = by.facts_len;
         memcpy(in.facts, by.facts, sizeof in.facts);
         in.choices = by.choices;
+        in.moment = by.moment, in.action = by.action, in.odd = by.odd;
         break;
     }
     put_right(&in, &dice);

@@ -53,7 +53,7 @@ static int show(const char *call, int which, unsigned has)
 {
     int never = 0;
     printf("%s:", call);
-    for (unsigned number = 0; number < 14; number++) {
+    for (unsigned number = 0; number < NUMBERS; number++) {
         if (!(has >> number & 1u)) continue;
         printf(" %u: %lu", number, harness_seen[which][number]);
         never += harness_seen[which][number] == 0;
@@ -65,9 +65,13 @@ static int show(const char *call, int which, unsigned has)
 static int report(unsigned long executions)
 {
     printf("%lu executions, %lu calls; answers by number:\n", executions, harness_calls);
-    int never = show("check", 0, 0x0fffu);
-    never += show("fill", 1, 0x17ffu);
-    return never + show("find", 2, 0x3fffu);
+    int never = show("check", CHECK, 0x0fffu);
+    never += show("fill", FILL, 0x17ffu);
+    never += show("find", FIND, 0x3fffu);
+    never += show("trial_begin", TRIAL_BEGIN, 0x403fu);
+    never += show("trial_start", TRIAL_START, 0x47ffu);
+    never += show("trial_on", TRIAL_ON, 0x47ffu);
+    return never + show("trial_show", TRIAL_SHOW, 0x57ffu);
 }
 
 static int run(uint64_t seed, unsigned long mutations, int files, char **names)

@@ -1,6 +1,7 @@
-/* Wrong hosts' libraries: the proved calls, under the names right_check, right_fill and right_find, with the fault that the environment's FAULT
+/* Wrong hosts' libraries: the proved calls, under the names right_check, right_fill and so on, with the fault that the environment's FAULT
  * numbers. The harness must catch each: tests/fuzz/gate tries all of them, from 1 to the number that FAULT=count prints. */
 #include "planreader.h"
+#include <stdbool.h>
 #include <stdio.h>
 #include <stdlib.h>
 
@@ -8,6 +9,10 @@ uint64_t right_check(const uint32_t *job, size_t job_len, const uint32_t *starts
 uint64_t right_fill(const uint32_t *job, size_t job_len, const uint32_t *starts, size_t starts_len, uint32_t *buffer, size_t buffer_len);
 uint64_t right_find(const uint32_t *job, size_t job_len, const uint32_t *starts, size_t starts_len, const uint32_t *facts, size_t facts_len,
                     uint32_t *buffer, size_t buffer_len);
+uint64_t right_trial_begin(const uint32_t *job, size_t job_len, uint32_t *trial, size_t trial_len);
+uint64_t right_trial_start(const uint32_t *job, size_t job_len, uint32_t *trial, size_t trial_len, uint32_t action);
+uint64_t right_trial_on(const uint32_t *job, size_t job_len, uint32_t *trial, size_t trial_len);
+uint64_t right_trial_show(const uint32_t *job, size_t job_len, const uint32_t *trial, size_t trial_len, uint32_t *buffer, size_t buffer_len);
 
 enum fault {
     CHECK_PASSES_ALL = 1,
@@ -43,7 +48,42 @@ enum fault {
     FIND_READS_AFTER_FACTS,
     FIND_WRITES_AFTER_READING,
     FIND_WRITES_AFTER_BUFFER,
-    FAULTS = FIND_WRITES_AFTER_BUFFER
+    BEGIN_KEEPS_MOMENT,
+    BEGIN_CLEARS_MORE,
+    BEGIN_REFUSAL_WRITES,
+    BEGIN_ACCEPTS_4097,
+    BEGIN_14_BEFORE_JOB,
+    START_APPENDS,
+    START_AGAIN_6,
+    START_AGAIN_ACCEPTED,
+    START_ACTION_OF_SIX_BITS,
+    START_CLASH_WITH_LOWER_ALONE,
+    START_OF_THE_NEXT_MOMENT,
+    START_10_BEFORE_9,
+    START_KEEPS_POSITION,
+    START_JOB_POSITION_0,
+    START_REFUSAL_COUNTS,
+    START_WRITES_AFTER_STARTS,
+    START_WRITES_BEFORE_TRIAL,
+    START_READS_AFTER_TRIAL,
+    ON_AFTER_LAST,
+    ON_BY_TWO,
+    ON_DROPS_STARTS,
+    ON_SKIPS_STARTS,
+    ON_14_BEFORE_STARTS,
+    ON_LATE_START_6,
+    ON_REFUSAL_MOVES,
+    SHOW_ALL,
+    SHOW_WITHOUT_PRESENT,
+    SHOW_PRESENT_ALONE,
+    SHOW_JOB_BEFORE_12,
+    SHOW_ACCEPTS_4095,
+    SHOW_KEEPS_POSITION,
+    SHOW_COUNTS,
+    SHOW_WRITES_AFTER_FACTS,
+    SHOW_WRITES_TO_TRIAL,
+    SHOW_REFUSAL_WRITES,
+    FAULTS = SHOW_REFUSAL_WRITES
 };
 
 static int fault(void)
@@ -169,5 +209,165 @@ uint64_t find(const uint32_t *job, size_t job_len, const uint32_t *starts, size_
     if (fault() == FIND_READS_AFTER_FACTS && facts_len) sink = facts[facts_len];
     if (fault() == FIND_SKIPS_CHECK && number == 11) return UINT64_C(13) << 56;
     if (fault() == FIND_COUNT_ONE_MORE && (number == 0 || number == 13)) return answer + 1;
+    return answer;
+}
+
+enum { TRIAL_LEAST = 4098 };
+static uint32_t copy[TRIAL_LEAST];
+
+/* The trial's first words in a copy, where they are as many as a trial has. */
+static bool copied(const uint32_t *trial, size_t trial_len)
+{
+    if (trial_len < TRIAL_LEAST) return false;
+    for (size_t i = 0; i < TRIAL_LEAST; i++) copy[i] = trial[i];
+    return true;
+}
+
+uint64_t trial_begin(const uint32_t *job, size_t job_len, uint32_t *trial, size_t trial_len)
+{
+    uint32_t moment = trial_len ? trial[0] : 0;
+    if (fault() == BEGIN_14_BEFORE_JOB && trial_len < TRIAL_LEAST) return UINT64_C(14) << 56;
+    if (fault() == BEGIN_ACCEPTS_4097 && trial_len == TRIAL_LEAST - 1) return right_trial_begin(job, job_len, copy, TRIAL_LEAST);
+    uint64_t answer = right_trial_begin(job, job_len, trial, trial_len);
+    if (fault() == BEGIN_REFUSAL_WRITES && answer && trial_len >= 2) trial[0] = trial[1] = 0;
+    if (answer) return answer;
+    if (fault() == BEGIN_KEEPS_MOMENT) trial[0] = moment;
+    if (fault() == BEGIN_CLEARS_MORE) trial[2] = 0;
+    return answer;
+}
+
+/* The start put into the trial whatever the calls say: in its place, or at the end. */
+static void put_start(uint32_t *trial, uint32_t word, bool in_place)
+{
+    uint32_t at = 2 + trial[1]++;
+    for (; in_place && at > 2 && trial[at - 1] > word; at--) trial[at] = trial[at - 1];
+    trial[at] = word;
+}
+
+/* The copy without this moment's starts of higher actions, as if they had not been started. */
+static void forget_higher(uint32_t action)
+{
+    uint32_t kept = 0;
+    for (uint32_t i = 0; i < copy[1]; i++)
+        if (copy[2 + i] < (9u << 28 | copy[0] << 6 | action)) copy[2 + kept++] = copy[2 + i];
+    copy[1] = kept;
+}
+
+/* A start that is refused, by a number from 6 on, with a trial that is sound: another answer. */
+static uint64_t spoil_refused_start(const uint32_t *job, size_t job_len, uint32_t *trial, uint32_t action, uint64_t answer)
+{
+    unsigned number = planreader_number(answer);
+    uint32_t word = 9u << 28 | trial[0] << 6 | (action & 63u);
+    bool there = false;
+    for (uint32_t i = 0; i < trial[1]; i++) there |= trial[2 + i] == word;
+    switch (fault()) {
+    case START_AGAIN_6: return number == 8 && there ? UINT64_C(6) << 56 : answer;
+    case START_AGAIN_ACCEPTED: return number == 8 && there ? 0 : answer;
+    case START_10_BEFORE_9: return number == 9 && action % 2 ? UINT64_C(10) << 56 : answer;
+    case START_ACTION_OF_SIX_BITS: return number == 6 ? right_trial_start(job, job_len, trial, TRIAL_LEAST, action & 63u) : answer;
+    case START_CLASH_WITH_LOWER_ALONE:
+        if (number != 9) return answer;
+        forget_higher(action);
+        if (right_trial_start(job, job_len, copy, TRIAL_LEAST, action) == 0) put_start(trial, word, true), answer = 0;
+        return answer;
+    case START_REFUSAL_COUNTS: trial[1]++; return answer;
+    default: return answer;
+    }
+}
+
+uint64_t trial_start(const uint32_t *job, size_t job_len, uint32_t *trial, size_t trial_len, uint32_t action)
+{
+    bool whole = copied(trial, trial_len);
+    if (fault() == START_READS_AFTER_TRIAL && trial_len) sink = trial[trial_len];
+    uint64_t answer = right_trial_start(job, job_len, trial, trial_len, action);
+    unsigned number = planreader_number(answer);
+    if (fault() == START_JOB_POSITION_0 && number >= 1 && number <= 5) return (uint64_t)number << 56;
+    if (number >= 6 && number <= 10) {
+        uint64_t checked = right_check(job, job_len, trial + 2, trial[1], NULL, 0);
+        bool sound = planreader_number(checked) == 0 || planreader_number(checked) == 11;
+        if (fault() == START_KEEPS_POSITION && !sound) return checked;
+        return sound ? spoil_refused_start(job, job_len, trial, action, answer) : answer;
+    }
+    if (number || !whole) return answer;
+    switch (fault()) {
+    case START_APPENDS:
+        for (size_t i = 0; i < TRIAL_LEAST; i++) trial[i] = copy[i];
+        put_start(trial, 9u << 28 | trial[0] << 6 | action, false);
+        return answer;
+    case START_OF_THE_NEXT_MOMENT:
+        trial[0]++;
+        return answer;
+    case START_WRITES_AFTER_STARTS: trial[2 + trial[1]] = 0; return answer;
+    case START_WRITES_BEFORE_TRIAL: trial[-1] = 0; return answer;
+    default: return answer;
+    }
+}
+
+/* on, refused with a sound list of words: another answer. */
+static uint64_t spoil_refused_on(const uint32_t *job, uint32_t *trial, uint64_t answer)
+{
+    unsigned number = planreader_number(answer);
+    bool at_last = trial[0] == (job[0] & 255u);
+    switch (fault()) {
+    case ON_AFTER_LAST:
+        if (number != 14 || !at_last) return answer;
+        trial[0]++;
+        return 0;
+    case ON_SKIPS_STARTS:
+        if (number < 6 || number > 10 || at_last) return answer;
+        trial[0]++;
+        return 0;
+    case ON_14_BEFORE_STARTS: return number >= 6 && number <= 10 && at_last ? UINT64_C(14) << 56 : answer;
+    case ON_LATE_START_6: return number == 14 && !at_last ? UINT64_C(6) << 56 : answer;
+    case ON_REFUSAL_MOVES: trial[0]++; return answer;
+    default: return answer;
+    }
+}
+
+uint64_t trial_on(const uint32_t *job, size_t job_len, uint32_t *trial, size_t trial_len)
+{
+    uint64_t answer = right_trial_on(job, job_len, trial, trial_len);
+    if (planreader_number(answer) > 5 && trial_len >= TRIAL_LEAST) return spoil_refused_on(job, trial, answer);
+    if (answer) return answer;
+    if (fault() == ON_BY_TWO) trial[0]++;
+    if (fault() == ON_DROPS_STARTS) trial[1] = 0;
+    return answer;
+}
+
+/* A fault in what a success of trial_show has written. */
+static uint64_t spoil_show(const uint32_t *job, size_t job_len, const uint32_t *trial, uint32_t *buffer, size_t buffer_len, uint64_t answer)
+{
+    size_t written = planreader_length(answer), from = 0;
+    switch (fault()) {
+    case SHOW_ALL: return right_fill(job, job_len, trial + 2, trial[1], buffer, buffer_len);
+    case SHOW_WITHOUT_PRESENT:
+        while (written && planreader_fact_moment(buffer[written - 1]) == trial[0]) written--;
+        return (uint64_t)written << 24;
+    case SHOW_PRESENT_ALONE:
+        while (from < written && planreader_fact_moment(buffer[from]) < trial[0]) from++;
+        for (size_t i = from; i < written; i++) buffer[i - from] = buffer[i];
+        return (uint64_t)(written - from) << 24;
+    case SHOW_COUNTS: return answer + written;
+    case SHOW_WRITES_AFTER_FACTS:
+        if (written < buffer_len) buffer[written] = 0;
+        return answer;
+    case SHOW_WRITES_TO_TRIAL: ((uint32_t *)(uintptr_t)trial)[TRIAL_LEAST - 1] ^= 1u; return answer;
+    default: return answer;
+    }
+}
+
+uint64_t trial_show(const uint32_t *job, size_t job_len, const uint32_t *trial, size_t trial_len, uint32_t *buffer, size_t buffer_len)
+{
+    static uint32_t room[4096];
+    uint64_t answer = right_trial_show(job, job_len, trial, trial_len, buffer, buffer_len);
+    unsigned number = planreader_number(answer);
+    if (number == 0) return spoil_show(job, job_len, trial, buffer, buffer_len, answer);
+    if (number == 12 && fault() == SHOW_JOB_BEFORE_12) {
+        uint64_t other = right_trial_show(job, job_len, trial, trial_len, room, 4096);
+        return planreader_number(other) >= 1 && planreader_number(other) <= 5 ? other : answer;
+    }
+    if (number == 12 && fault() == SHOW_ACCEPTS_4095 && buffer_len == 4095) return right_trial_show(job, job_len, trial, trial_len, room, 4096);
+    if (number >= 6 && number <= 10 && fault() == SHOW_KEEPS_POSITION) return right_check(job, job_len, trial + 2, trial[1], NULL, 0);
+    if (fault() == SHOW_REFUSAL_WRITES && buffer_len) buffer[buffer_len - 1] = 0;
     return answer;
 }
