@@ -9,3 +9,8 @@ pub mod plan_features;
 pub mod report;
 pub mod set_placements;
 pub mod sets;
+pub mod trial;
+pub mod trial_features;
+pub mod trial_moves;
+pub mod trial_order;
+pub mod trial_tiny;
