@@ -10,6 +10,7 @@ pub mod report;
 pub mod set_placements;
 pub mod sets;
 pub mod trial;
+pub mod trial_by_hand;
 pub mod trial_features;
 pub mod trial_moves;
 pub mod trial_order;
