@@ -29,8 +29,8 @@ fn generated_trials_get_the_checker_s_answers() {
 }
 
 #[test]
-fn lists_of_moves_keep_the_laws() {
-    let report = trial_moves::run(MOVES_SEED, 3_000, &CALLS);
+fn generated_lists_of_moves_keep_the_laws() {
+    let report = trial_moves::run(MOVES_SEED, 1_500, &CALLS);
     report.print(MOVES_SEED, "moves by their answer, and what the lists came to", &trial_moves::COLUMNS);
     assert!(report.cases >= 50_000);
     assert_eq!(report.differences, 0);
@@ -38,7 +38,7 @@ fn lists_of_moves_keep_the_laws() {
 }
 
 #[test]
-fn a_trial_passes_exactly_when_some_list_of_moves_gives_it() {
+fn tiny_trials_pass_exactly_when_some_list_of_moves_gives_them() {
     let report = trial_tiny::run(TINY_SEED, 48, &CALLS);
     report.print(TINY_SEED, "tiny jobs, all moves against all small trials", &trial_tiny::COLUMNS);
     assert_eq!(report.differences, 0);
@@ -51,21 +51,28 @@ fn hand_written_trials_get_the_paper_s_outcomes() {
     vectors::trial::vectors().iter().for_each(|vector| trial_by_hand::hold(vector, &CALLS));
 }
 
-/// Every action at every moment, the highest first: 4,032 starts, and no move gives more.
 #[test]
-fn moves_give_4032_starts_and_no_more() {
-    let plan = trials::largest();
+fn moves_give_all_starts_that_there_are_and_no_more() {
+    every_action_from(0, 15);
+    every_action_from(60, 63);
+}
+
+/// Every action at every moment from one on, the highest first: with n = 63 there are 4,032 starts at the end.
+fn every_action_from(moment: usize, last: usize) {
+    let plan = trials::all_starting(last);
     let job = plan.draft.words();
-    let mut slice = vec![7; 4_098];
+    let before = moment * 64;
+    let mut slice = [&[moment as u32, before as u32], &plan.starts[..before], &vec![7; 4_096 - before]].concat();
     let accepted = Answer::success(0, 0);
     let refused = |number| Answer::refused(Refusal { number, position: 0 });
-    assert_eq!(host::trial_begin(&job, &mut slice), accepted);
-    for _ in 0..63 {
+    for _ in moment..last {
         (0..64).rev().for_each(|action| assert_eq!(host::trial_start(&job, &mut slice, action), accepted));
-        assert_eq!(host::trial_start(&job, &mut slice, 63), refused(8));
+        (0..64).for_each(|action| assert_eq!(host::trial_start(&job, &mut slice, action), refused(8)));
         assert_eq!(host::trial_on(&job, &mut slice), accepted);
     }
     (0..64).for_each(|action| assert_eq!(host::trial_start(&job, &mut slice, action), refused(7)));
     assert_eq!(host::trial_on(&job, &mut slice), refused(14));
-    assert_eq!(slice, [&[63, 4_032], &plan.starts[..], &[7; 64]].concat());
+    let all = plan.starts.len();
+    assert_eq!(all, 64 * last);
+    assert_eq!(slice, [&[last as u32, all as u32], &plan.starts[..], &vec![7; 4_096 - all]].concat());
 }

@@ -10,6 +10,7 @@ use crate::generate::plans::{self, LawfulPlan};
 use crate::generate::trials::{self, Call, Trial};
 use crate::generate::{damage, limits, noise};
 use crate::random::Random;
+use crate::words::start;
 
 pub type Begin = dyn Fn(&[u32], &mut [u32]) -> Answer;
 pub type Start = dyn Fn(&[u32], &mut [u32], u32) -> Answer;
@@ -135,10 +136,10 @@ pub fn run(seed: u64, rounds: usize, calls: &Calls) -> Report {
 
 /// The job of the most starts, with one more than moves give, and with as many as the words hold, or one too many.
 fn largest(random: &mut Random, calls: &Calls, report: &mut Report) {
-    let plan = trials::largest();
+    let plan = trials::all_starting(63);
     let job = plan.draft.words();
     for how_many in [4_033, 4_095, 4_096, 4_097] {
-        let starts: Vec<u32> = (0..how_many).map(|index| 0x9000_0000 | index % 4_096).collect();
+        let starts: Vec<u32> = (0..how_many).map(|index| start(index / 64 % 64, index % 64)).collect();
         let mut trial = Trial::new(63, &starts);
         trial.length = 5_000;
         each_call(random, &plan, &job, &trial, calls, report);
@@ -234,7 +235,7 @@ mod tests {
     use crate::checker::trial::{trial_begin, trial_on, trial_show, trial_start};
     use crate::compare::plan::tests::right_fill;
     use crate::compare::trial_moves;
-    use crate::words::{field, start};
+    use crate::words::field;
 
     const SEED: u64 = 61;
 

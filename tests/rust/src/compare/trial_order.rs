@@ -184,9 +184,9 @@ pub fn fixed() -> Vec<(String, String)> {
     add(Call::On, &STARTS, &[AT_LAST]);
     add(start, &JOB[1..], &NEW[..1]);
     add(start, &[NO_TRIAL], &NEW);
-    for row in 0..5 {
+    for (row, first) in STARTS.into_iter().enumerate() {
         let others: Vec<Row> = (0..5).filter(|&new| new != row).map(|new| NEW[new]).collect();
-        add(start, &[STARTS[row]], &others);
+        add(start, &[first], &others);
     }
     // Not 8 before 9 of the new start: the earlier start of its action would clash too, and be refused before.
     add(start, &[NEW[1]], &NEW[2..]);

@@ -260,13 +260,13 @@ fn now(random: &mut Random, trial: &Trial, draft: &Draft) -> Trial {
     trial.with_starts(starts)
 }
 
-/// 64 actions of one moment, without laws, that start at each moment but the last: 4,032 starts.
-pub fn largest() -> LawfulPlan {
-    let mut draft = Draft { fluents: 64, last: 63, ..Draft::default() };
+/// 64 actions of one moment, without laws, that start at each moment but the last: with n = 63 these are 4,032 starts.
+pub fn all_starting(last: usize) -> LawfulPlan {
+    let mut draft = Draft { fluents: 64, last, ..Draft::default() };
     draft.initially = (0..64).map(|fluent| words::initially(fluent, fluent % 3 == 0)).collect();
     draft.actions = (0..64).map(|number| vec![words::action(number, 1)]).collect();
     draft.nodes = vec![vec![words::node(0, 0, 0, 0, 0)]];
-    let starts = (0..63).flat_map(|moment| (0..64).map(move |action| words::start(moment, action))).collect();
+    let starts = (0..last).flat_map(|moment| (0..64).map(move |action| words::start(moment, action))).collect();
     LawfulPlan { draft, starts }
 }
 

@@ -65,20 +65,16 @@ fn no(name: &'static str, moment: u32, starts: &[u32], action: usize, number: us
 fn beginnings() -> Vec<Vector> {
     let words = trial(77, &[5, 6, 7]);
     let fresh = || vector("a fresh trial over any words", words.clone(), Call::Begin, Outcome::Trial(0, vec![]));
-    let short = || Outcome::Refused { number: 14, position: 0 };
+    let bad = || vec![head(1, 1, 0), 0];
+    let at_1 = || Outcome::Refused { number: 2, position: 1 };
     vec![
         fresh(),
         Vector { name: "one word more", length: 4_099, ..fresh() },
         Vector { name: "100,000 words", length: 100_000, ..fresh() },
-        Vector { name: "one word too few", length: 4_097, outcome: short(), ..fresh() },
-        Vector { name: "no words", length: 0, outcome: short(), ..fresh() },
-        Vector {
-            name: "the job comes first, with its position",
-            length: 0,
-            job: vec![head(1, 1, 0), 0],
-            outcome: Outcome::Refused { number: 2, position: 1 },
-            ..fresh()
-        },
+        Vector { name: "one word too few", length: 4_097, outcome: refusal(14), ..fresh() },
+        Vector { name: "no words", length: 0, outcome: refusal(14), ..fresh() },
+        Vector { name: "the job comes first, with its position", length: 0, job: bad(), outcome: at_1(), ..fresh() },
+        Vector { name: "a refused job begins no trial in the words", job: bad(), outcome: at_1(), ..fresh() },
     ]
 }
 
@@ -267,7 +263,7 @@ fn order() -> Vec<Vector> {
 
 /// The most starts that moves give, and that the words hold.
 fn limits() -> Vec<Vector> {
-    let largest = trials::largest();
+    let largest = trials::all_starting(63);
     let all: Vec<u32> = (0..4_096).map(|index| 0x9000_0000 | index).collect();
     let facts: Vec<u32> = (0..64).flat_map(|t| (0..64).map(move |fluent| fact(t, fluent, fluent % 3 == 0))).collect();
     let of = |name, moment, starts: &[u32], call, outcome| Vector {
