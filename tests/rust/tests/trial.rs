@@ -67,7 +67,9 @@ fn every_action_from(moment: usize, last: usize) {
     let refused = |number| Answer::refused(Refusal { number, position: 0 });
     for _ in moment..last {
         (0..64).rev().for_each(|action| assert_eq!(host::trial_start(&job, &mut slice, action), accepted));
-        (0..64).for_each(|action| assert_eq!(host::trial_start(&job, &mut slice, action), refused(8)));
+        for action in [0, 31, 63] {
+            assert_eq!(host::trial_start(&job, &mut slice, action), refused(8));
+        }
         assert_eq!(host::trial_on(&job, &mut slice), accepted);
     }
     (0..64).for_each(|action| assert_eq!(host::trial_start(&job, &mut slice, action), refused(7)));
