@@ -251,6 +251,7 @@ fn order() -> Vec<Vector> {
         refused("12 before 14", 9, &[], Call::Show(4_095), 12),
         refused("12 before 6", 0, &[0], Call::Show(4_095), 12),
         refused("14 before an earlier 6", 1, &[0, start(2, LIFT)], Call::Show(4_096), 14),
+        refused("14 of a first word before 6 of the last", 1, &[start(2, DROP), lift], Call::On, 14),
         refused("14 before an earlier 10", 0, &[fold, start(1, LIFT)], Call::On, 14),
         refused("14 before 6 of the new start", 6, &[], Call::Start(4), 14),
         refused("10 of the trial before 6 of the new start", 0, &[fold], Call::Start(4), 10),
