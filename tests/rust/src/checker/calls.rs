@@ -35,7 +35,7 @@ pub fn read_whole_plan(job: &[u32], starts: &[u32], facts: &[u32]) -> Result<Pla
     Ok(plan)
 }
 
-fn lent_buffer(length: usize) -> Result<(), Refusal> {
+pub fn lent_buffer(length: usize) -> Result<(), Refusal> {
     match length < LEAST_BUFFER {
         true => refuse(12, 0),
         false => Ok(()),

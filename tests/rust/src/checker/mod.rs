@@ -1,4 +1,4 @@
-//! The checker written apart: document 01's headings, one file each, in the plainest Rust.
+//! The checker written apart: document 01's headings and document 02's requests, one file each, in the plainest Rust.
 
 pub mod answer;
 pub mod calls;
@@ -8,3 +8,4 @@ pub mod job;
 pub mod program;
 pub mod readings;
 pub mod starts;
+pub mod trial;

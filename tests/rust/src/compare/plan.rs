@@ -145,12 +145,12 @@ pub fn possible() -> Vec<(String, String)> {
 }
 
 #[cfg(test)]
-mod tests {
+pub mod tests {
     use super::*;
 
     const SEED: u64 = 11;
 
-    fn right_fill(job: &[u32], starts: &[u32], buffer: &mut [u32]) -> Answer {
+    pub fn right_fill(job: &[u32], starts: &[u32], buffer: &mut [u32]) -> Answer {
         let (answer, facts) = calls::fill(job, starts, buffer.len());
         buffer[..facts.len()].copy_from_slice(&facts);
         answer

@@ -1,4 +1,4 @@
-//! Generators of jobs and plans. They know how words are built, and nothing of what the product answers.
+//! Generators of jobs, plans and trials. They know how words are built, and nothing of what the product answers.
 
 pub mod damage;
 pub mod draft;
@@ -12,3 +12,4 @@ pub mod plans;
 pub mod programs;
 pub mod set_draws;
 pub mod sets;
+pub mod trials;

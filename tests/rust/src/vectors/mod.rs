@@ -1,6 +1,7 @@
-//! Cases written by hand from document 01, with the answers that its sentences give.
+//! Cases written by hand from documents 01 and 02, with the answers that their sentences give.
 
 pub mod find;
 pub mod job;
 pub mod plan;
 pub mod proved;
+pub mod trial;

@@ -18,14 +18,14 @@ pub fn vectors() -> Vec<Vector> {
     groups.into_iter().flatten().collect()
 }
 
-const LIFT: usize = 0;
-const DROP: usize = 1;
-const FOLD: usize = 2;
-const PRESS: usize = 3;
+pub const LIFT: usize = 0;
+pub const DROP: usize = 1;
+pub const FOLD: usize = 2;
+pub const PRESS: usize = 3;
 
 /// n = 5; fluent 0 known false. Lift, 2 long, makes it true; drop, 1 long, makes it false; fold, 1 long, needs it
 /// true and makes fluent 1 true; press, 3 long, makes it true.
-fn job() -> Vec<u32> {
+pub fn job() -> Vec<u32> {
     vec![
         head(2, 4, 5),
         initially(0, false),

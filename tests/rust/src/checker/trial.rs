@@ -1,0 +1,156 @@
+//! Request L1, "Stepping a plan by hand": the four calls, and what each leaves in the words lent to it. A trial crosses to
+//! C as words: its moment, the number of its starts, then the starts.
+
+use crate::checker::answer::{refuse, Answer, Refusal};
+use crate::checker::calls::{lent_buffer, read_plan, Plan};
+use crate::checker::job::{read_job, Job};
+use crate::checker::starts::{clash, Start};
+use crate::words::{self, field};
+
+/// "a trial with more than 4,096 starts"
+pub const MOST_STARTS: usize = 4096;
+
+/// "the slice has at least 4,098 words"
+pub const TRIAL_WORDS: usize = 2 + MOST_STARTS;
+
+/// "it is its moment and its starts, ascending", beside what the rules make of the starts.
+struct Trial {
+    moment: usize,
+    words: Vec<u32>,
+    plan: Plan,
+}
+
+/// "A trial begins at moment 0 of a job with no starts"
+pub fn trial_begin(job: &[u32], trial: &mut [u32]) -> Answer {
+    let begun = read_job(job).and_then(|_| long_enough(trial));
+    hand_back(trial, begun.map(|()| (0, vec![])))
+}
+
+/// "one move starts an action now"
+pub fn trial_start(job: &[u32], trial: &mut [u32], action: u32) -> Answer {
+    let moved = read_trial(job, trial).and_then(|old| started(old, action as usize));
+    hand_back(trial, moved)
+}
+
+/// "the other goes on one moment"
+pub fn trial_on(job: &[u32], trial: &mut [u32]) -> Answer {
+    let moved = read_trial(job, trial).and_then(gone_on);
+    hand_back(trial, moved)
+}
+
+/// "Showing writes the fact words for moments 0 to the present one to a buffer of the filler's least length, refused and
+/// answered like the filler's"
+pub fn trial_show(job: &[u32], trial: &[u32], buffer: &mut [u32]) -> Answer {
+    match lent_buffer(buffer.len()).and_then(|()| read_trial(job, trial)) {
+        Ok(trial) => {
+            let facts = shown(&trial);
+            buffer[..facts.len()].copy_from_slice(&facts);
+            Answer::success(facts.len(), 0)
+        }
+        Err(refusal) => Answer::refused(refusal),
+    }
+}
+
+/// "beginning and moves answer as check does": a success has length 0. It writes the moment, the number of starts and the
+/// starts, and no word after them. "A refused move changes nothing".
+fn hand_back(trial: &mut [u32], moved: Result<(usize, Vec<u32>), Refusal>) -> Answer {
+    match moved {
+        Ok((moment, starts)) => {
+            trial[0] = moment as u32;
+            trial[1] = starts.len() as u32;
+            trial[2..2 + starts.len()].copy_from_slice(&starts);
+            Answer::success(0, 0)
+        }
+        Err(refusal) => Answer::refused(refusal),
+    }
+}
+
+/// "Each call takes the job again and refuses a bad one, then a trial that no moves could give: 14, or the number that the
+/// check gives its starts"; "a refusal of the job keeps its position, any other refusal here has position 0".
+fn read_trial(job: &[u32], trial: &[u32]) -> Result<Trial, Refusal> {
+    let last = read_job(job)?.last;
+    let (moment, words) = taken_apart(trial, last)?;
+    let plan = read_plan(job, &words).map_err(|of_starts| Refusal { position: 0, ..of_starts })?;
+    Ok(Trial { moment, words, plan })
+}
+
+/// 14 on the whole list: "more than 4,096 starts, a moment above n or a word of its starts whose bits 11..6 exceed the
+/// trial's moment".
+fn taken_apart(trial: &[u32], last: usize) -> Result<(usize, Vec<u32>), Refusal> {
+    long_enough(trial)?;
+    let moment = trial[0] as usize;
+    let how_many = trial[1] as usize;
+    if how_many > MOST_STARTS || moment > last {
+        return refuse(14, 0);
+    }
+    let words = trial[2..2 + how_many].to_vec();
+    match words.iter().any(|&word| field(word, 11, 6) > moment) {
+        true => refuse(14, 0),
+        false => Ok((moment, words)),
+    }
+}
+
+/// A shorter slice is a trial that no moves could give.
+fn long_enough(trial: &[u32]) -> Result<(), Refusal> {
+    match trial.len() < TRIAL_WORDS {
+        true => refuse(14, 0),
+        false => Ok(()),
+    }
+}
+
+/// The trial with one more start, at its moment.
+fn started(trial: Trial, action: usize) -> Result<(usize, Vec<u32>), Refusal> {
+    new_start(&trial, action)?;
+    let mut words = trial.words;
+    words.push(words::start(trial.moment, action));
+    words.sort();
+    Ok((trial.moment, words))
+}
+
+/// "A start is tested for 6 (no such action), 7, 8, 9, 10 in that order"
+fn new_start(trial: &Trial, action: usize) -> Result<(), Refusal> {
+    let job = &trial.plan.job;
+    if action >= job.actions.len() {
+        return refuse(6, 0);
+    }
+    let new = Start { moment: trial.moment, action, duration: job.actions[action].duration };
+    if new.moment + new.duration > job.last {
+        return refuse(7, 0);
+    }
+    if trial.plan.starts.iter().any(|old| again(old, &new)) {
+        return refuse(8, 0);
+    }
+    if trial.plan.starts.iter().any(|old| clash_in_hand(job, old, &new)) {
+        return refuse(9, 0);
+    }
+    let state = &trial.plan.states[new.moment];
+    match job.actions[action].needs.iter().any(|need| state[need.fluent] != Some(need.value)) {
+        true => refuse(10, 0),
+        false => Ok(()),
+    }
+}
+
+/// Row 8, and "an action already started at this moment gives 8".
+fn again(old: &Start, new: &Start) -> bool {
+    old.action == new.action && old.moment <= new.moment && new.moment < old.moment + old.duration
+}
+
+/// "9 looks at all the trial's starts, also those of this moment with a higher action number"
+fn clash_in_hand(job: &Job, old: &Start, new: &Start) -> bool {
+    let both_in_hand = (0..=job.last).any(|t| old.in_hand(t) && new.in_hand(t));
+    both_in_hand && clash(&job.actions[old.action], &job.actions[new.action])
+}
+
+/// "moving on at moment n, last"
+fn gone_on(trial: Trial) -> Result<(usize, Vec<u32>), Refusal> {
+    match trial.moment == trial.plan.job.last {
+        true => refuse(14, 0),
+        false => Ok((trial.moment + 1, trial.words)),
+    }
+}
+
+/// "the facts shown equal the filler's for the accepted starts, up to the present moment"
+fn shown(trial: &Trial) -> Vec<u32> {
+    let facts = trial.plan.facts.iter().copied();
+    facts.filter(|&word| field(word, 12, 7) <= trial.moment).collect()
+}
