@@ -148,15 +148,18 @@ impl Trial {
         let length = self.length;
         let starts = self.starts;
         let a = action as usize;
-        let refusal = start_refusal(job, plan, &starts[..length], moment, a);
-        if refusal.number != 0 {
+        let own = start_refusal(job, plan, &starts[..length], moment, a);
+        if own.number != 0 {
             return Moved {
-                refusal,
+                refusal: own,
                 trial: self,
             };
         }
         let trial = self.with_word(start_word(moment, a));
-        Moved { refusal, trial }
+        Moved {
+            refusal: own,
+            trial,
+        }
     }
 
     // Goes on one moment.
