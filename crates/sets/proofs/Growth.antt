@@ -28,7 +28,7 @@ kept-in {k = k} l d t = in-without (d .rest _ l) k .0 t .0
 
 module _ {cs allow ends : List ℕ} {count b : ℕ} where
   pub grown-none : {f : Found} → Grown cs allow ends count b f f
-  grown-none = record { upto = refl; kept = λ e t. t; reads = λ e t. inl t; begins = λ h. h; small = λ h. h; moments = λ h. h }
+  grown-none = record { upto = refl; kept = λ e t. t; reads = λ e t. inl t; begins = λ h. h; within = λ h. h; moments = λ h. h }
 
   pub grown-more : {f g h : Found} → Grown cs allow ends count b f g → Grown cs allow ends count b g h → Grown cs allow ends count b f h
   grown-more m n = record {
@@ -36,7 +36,7 @@ module _ {cs allow ends : List ℕ} {count b : ℕ} where
     kept = λ e t. n .kept e (m .kept e t);
     reads = λ e t. ⊎-elim (m .reads e) inr (n .reads e t);
     begins = λ k. n .begins (m .begins k);
-    small = λ k. n .small (m .small k);
+    within = λ k. n .within (m .within k);
     moments = λ k. n .moments (m .moments k);
   }
 

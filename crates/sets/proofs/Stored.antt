@@ -78,10 +78,10 @@ module _ {s : TaskSet} {R : ℕ → ℕ → ℕ → Type 0} {a z b : ℕ} {allow
 
 -- and no other end is
 pub row-reads : {s : TaskSet} {R : ℕ → ℕ → ℕ → Type 0} {a z b : ℕ} {allow ends goes later : List ℕ} {f r : Found} → Tables s R a z allow ends goes later → a ≤ b
-    → f .ends ≡ 0 → Grown (s .conditions) allow ends (memberCount s) b f r → (e : ℕ) → In (r .ends) e → SetRule s R b e
-row-reads {b = b} t from none g e u = ⊎-elim
+    → f .ends ≡ 0 → f .upto ≡ z → Grown (s .conditions) allow ends (memberCount s) b f r → (e : ℕ) → In (r .ends) e → SetRule s R b e
+row-reads {b = b} t from none last g e u = ⊎-elim
     (λ v. in-zero none v)
-    (λ v. let p = t .reads b e (v .bs) (v .es) from (g .small (λ d v. in-zero none v) e u) (v .masked) .1 in record { begins = v .bs; ends = v .es; reads = p .reads; placing = p .placing })
+    (λ v. let p = t .reads b e (v .bs) (v .es) from (omega (arith, last, g .upto, g .within (λ d v. in-zero none v) e u)) (v .masked) in record { begins = v .bs; ends = v .es; reads = p .reads; placing = p .placing })
     (g .reads e u)
 
 -- what a row has to do with the rule: each end of `goal` to which the set reads is found, and the set reads to what is found
@@ -90,15 +90,15 @@ pub record RowFound (s : TaskSet) (R : ℕ → ℕ → ℕ → Type 0) (b z goal
   pub reads : (e : ℕ) → In (r .ends) e → SetRule s R b e
 
 pub row-found : {s : TaskSet} {R : ℕ → ℕ → ℕ → Type 0} {a z b : ℕ} {allow ends goes later : List ℕ} (bounds : List ℕ) (f r : Found) (goal count : ℕ) → memberCount s ≡ count
-    → Tables s R a z allow ends goes later → a ≤ b → f .ends ≡ 0
+    → Tables s R a z allow ends goes later → a ≤ b → f .ends ≡ 0 → f .upto ≡ z
     → ((bs es : ℕ → ℕ) → Within count a z bs es → EndsHave count ends bs es → BoundsHave count bounds bs es) → Grown (s .conditions) allow ends count b f r
     → ((e : ℕ) (bs es : ℕ → ℕ) → Masked (s .conditions) allow ends count b e bs es → InTables ends goes later count b bs es → BoundsHave count bounds bs es → e ≤ z → In goal e → In (r .ends) e)
     → RowFound s R b z goal r
-row-found {s} {R} {a} {z} {b} {allow} {ends} {goes} {later} bounds f r goal count q t from none = subst
+row-found {s} {R} {a} {z} {b} {allow} {ends} {goes} {later} bounds f r goal count q t from none last = subst
     (λ (k : ℕ). ((bs es : ℕ → ℕ) → Within k a z bs es → EndsHave k ends bs es → BoundsHave k bounds bs es) → Grown (s .conditions) allow ends k b f r
     → ((e : ℕ) (bs es : ℕ → ℕ) → Masked (s .conditions) allow ends k b e bs es → InTables ends goes later k b bs es → BoundsHave k bounds bs es → e ≤ z → In goal e → In (r .ends) e)
     → RowFound s R b z goal r)
-    q (λ filled g all. record { finds = row-finds bounds r goal t filled from all; reads = row-reads t from none g })
+    q (λ filled g all. record { finds = row-finds bounds r goal t filled from all; reads = row-reads t from none last g })
 
 -- an array of one word, every entry of which has all moments
 pub every-entry : (k v i : ℕ) → i < k → getD (replicate k v) i 0 ≡ v

@@ -11,7 +11,7 @@ ghost use Rattle.sets.specs.Set.{memberCount};
 ghost use Rattle.sets.specs.Code.Set.{member, Formed};
 ghost use Rattle.sets.specs.Code.Rows.{taskSetOf};
 ghost use Rattle.model.specs.Code.Table.{InTable};
-ghost use Rattle.sets.specs.Code.Search.{pairAt, MetAtMask, MetByMask, EndsHave, GoesHave, Have, Fewer, Cut, Within, Full, Tables};
+ghost use Rattle.sets.specs.Code.Search.{pairAt, MetAtMask, MetByMask, Have, Fewer, Cut, Within, Full, OwnRow, OwnRows, Tables};
 use crate::conditions;
 use words::MOMENTS;
 
@@ -79,12 +79,9 @@ fn own_row(
     ends: &[u64; 1024],
     goes: &[u64; 1024],
 ) -> u64
-    requires { ⌜ (m * 64 + 64 ≤ length (now table)) × (i < 4) × (x < 64) × (z < 64) ⌝ }
+    requires { ⌜ (m * 64 + 64 ≤ length (now table)) × (i < 4) × (x ≤ z) × (z < 64) ⌝ }
     ensures { λ r. ⌜ ((e : ℕ) → In r e ↔ (InTable (now (table .entry)) m x e × (x ≤ e) × (e ≤ z) × In (pairAt (now (ends .entry)) i i x) e × In (pairAt (now (goes .entry)) i i x) x)) ⌝ }
 {
-    if z < x {
-        return 0;
-    }
     let p = (i * 4 + i) * MOMENTS + x as usize;
     if !bitset::has(goes[p], x) {
         return 0;
@@ -93,17 +90,43 @@ fn own_row(
     bitset::inter(row, ends[p])
 }
 
-// Puts the own rows of all members on the diagonal of `ends`.
-fn fill_own(members: &[u32], table: &[u64], z: u32, goes: &[u64; 1024], ends: &mut [u64; 1024])
-    requires { ⌜ (length (now members) ≤ 4) × ((i : ℕ) → i < length (now members) → memberNode (getD (now members) i 0) * 64 + 64 ≤ length (now table)) × (z < 64) ⌝ }
-    ensures { λ _. ⌜ ((i x e : ℕ) → i < length (now (members .entry)) → x < 64 → In (pairAt (now (ends .exit)) i i x) e → InTable (now (table .entry)) (memberNode (getD (now (members .entry)) i 0)) x e × (x ≤ e) × (e ≤ z)) × ((bs es : ℕ → ℕ) → Within (length (now (members .entry))) 0 z bs es → ((i : ℕ) → i < length (now (members .entry)) → InTable (now (table .entry)) (memberNode (getD (now (members .entry)) i 0)) (bs i) (es i)) → GoesHave (length (now (members .entry))) (now (goes .entry)) bs → EndsHave (length (now (members .entry))) (now (ends .entry)) bs es → EndsHave (length (now (members .entry))) (now (ends .exit)) bs es) ⌝ }
+// Puts the row of member i, of node m, on the diagonal of `ends`, for its begins from a to z.
+fn fill_own_row(
+    table: &[u64],
+    m: usize,
+    i: usize,
+    a: u32,
+    z: u32,
+    goes: &[u64; 1024],
+    ends: &mut [u64; 1024],
+)
+    requires { ⌜ (m * 64 + 64 ≤ length (now table)) × (i < 4) × (a ≤ z) × (z < 64) ⌝ }
+    ensures { λ _. ⌜ OwnRow (InTable (now (table .entry)) m) (now (goes .entry)) i a z (now (ends .entry)) (now (ends .exit)) (z + 1) ⌝ }
 {
-    let mut p = 0;
-    while p < members.len() * MOMENTS {
-        let x = (p % 64) as u32;
-        let m = words::member_node(members[p / 64]);
-        ends[(p / 64) * 320 + p % 64] = own_row(table, m, p / 64, x, z, ends, goes);
-        p += 1;
+    let mut x = a;
+    while x <= z {
+        let row = own_row(table, m, i, x, z, ends, goes);
+        ends[(i * 4 + i) * MOMENTS + x as usize] = row;
+        x += 1;
+    }
+}
+
+// Does so for each member.
+fn fill_own(
+    members: &[u32],
+    table: &[u64],
+    a: u32,
+    z: u32,
+    goes: &[u64; 1024],
+    ends: &mut [u64; 1024],
+)
+    requires { ⌜ (length (now members) ≤ 4) × ((i : ℕ) → i < length (now members) → memberNode (getD (now members) i 0) * 64 + 64 ≤ length (now table)) × (a ≤ z) × (z < 64) ⌝ }
+    ensures { λ _. ⌜ OwnRows (now (members .entry)) (now (table .entry)) (now (goes .entry)) a z (now (ends .entry)) (now (ends .exit)) (length (now (members .entry))) ⌝ }
+{
+    let mut i = 0;
+    while i < members.len() {
+        fill_own_row(table, words::member_node(members[i]), i, a, z, goes, ends);
+        i += 1;
     }
 }
 
@@ -296,7 +319,7 @@ pub fn fill(
 {
     conditions::fill_allowed(values, conds, a, z, n, allow);
     cut_all(conds, allow, a, z, ends, goes);
-    fill_own(members, table, z, goes, ends);
+    fill_own(members, table, a, z, goes, ends);
     cut_pairs(conds, members.len(), a, z, ends, goes);
     fill_later(ends, members.len(), a, z, later);
 }

@@ -6,14 +6,23 @@ use mathlib.Core.List.{List}
 use lib.ListN.{length, getD}
 use Rattle.bitset.specs.Code.Members.{In}
 use Rattle.words.specs.Fields.{holds, conditionI, conditionJ}
-use Rattle.model.specs.Forms.{ConditionForm}
+use Rattle.model.specs.Forms.{ConditionForm, BeginAfterBegin, BeginAfterEnd, HoldsBefore, HoldsAfter, HoldsBetween, ReservedCondition}
 use Rattle.sets.specs.Set.{MetAs}
 use Rattle.sets.specs.Code.Rows.{entryAt}
 use Rattle.sets.specs.Code.Search.{MetByMask}
 
--- the moments up to n at which formula k does not hold
-abbrev pub Failing : (ℕ → ℕ → ℕ) → ℕ → ℕ → ℕ → Type 0
-Failing value k n r = (t : ℕ) → In r t ↔ ((t ≤ n) × (value k t ≡ holds → ⊥))
+-- the moments at which a condition of form f, with N, can ask for its formula, where it asks of moments of a..z
+abbrev pub Seen : ConditionForm → ℕ → ℕ → ℕ → ℕ → ℕ → Type 0
+Seen BeginAfterBegin n N a z t = ⊥
+Seen BeginAfterEnd n N a z t = ⊥
+Seen HoldsBefore n N a z t = (a ≤ t + N) × (t ≤ z)
+Seen HoldsAfter n N a z t = (a ≤ t) × (t ≤ z + N) × (t ≤ n)
+Seen HoldsBetween n N a z t = (a ≤ t) × (t ≤ z)
+Seen ReservedCondition n N a z t = ⊥
+
+-- of these moments, r has those at which formula k does not hold
+abbrev pub Failing : ConditionForm → (ℕ → ℕ → ℕ) → ℕ → ℕ → ℕ → ℕ → ℕ → ℕ → Type 0
+Failing f value n k N a z r = (t : ℕ) → Seen f n N a z t → In r t ↔ (value k t ≡ holds → ⊥)
 
 -- the moments y of a..z at which a condition of form f, on formula k with M and N, is met, where member j begins at x
 abbrev pub MaskOf : ConditionForm → (ℕ → ℕ → ℕ) → ℕ → ℕ → ℕ → ℕ → ℕ → ℕ → ℕ → ℕ → Type 0

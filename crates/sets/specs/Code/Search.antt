@@ -6,8 +6,9 @@ use mathlib.Core.Logic.{_↔_, _⊎_}
 use mathlib.Core.List.{List}
 use lib.ListN.{length, getD}
 use Rattle.bitset.specs.Code.Members.{In}
-use Rattle.words.specs.Fields.{conditionI, conditionJ}
+use Rattle.words.specs.Fields.{memberNode, conditionI, conditionJ}
 use Rattle.model.specs.Forms.{ConditionForm, BeginAfterBegin, BeginAfterEnd, HoldsBefore, HoldsAfter, HoldsBetween, ReservedCondition, conditionForm}
+use Rattle.model.specs.Code.Table.{InTable}
 use Rattle.sets.specs.Set.{TaskSet, memberCount, MetAt, Covers}
 use Rattle.sets.specs.Code.Rows.{entryAt, Placed}
 use Rattle.sets.specs.declared.search.Open.{Open}
@@ -100,6 +101,19 @@ Within count a z bs es = (i : ℕ) → i < count → (a ≤ bs i) × (bs i ≤ e
 abbrev pub Full : List ℕ → Type 0
 Full t = (p e : ℕ) → p < 1024 → e < 64 → In (getD t p 0) e
 
+-- the own row of member i, from a to before x, has ends that R has, not before the begin nor after z; the rows of members before i are as they
+-- were, and what a placement has is in the table
+pub record OwnRow (R : ℕ → ℕ → Type 0) (goes : List ℕ) (i a z : ℕ) (old new : List ℕ) (x : ℕ) : Type 0 where
+  pub own : (y e : ℕ) → a ≤ y → y < x → In (pairAt new i i y) e → R y e × (y ≤ e) × (e ≤ z)
+  pub others : (q : ℕ) → q < i * 320 → getD new q 0 ≡ getD old q 0
+  pub kept : (count : ℕ) (bs es : ℕ → ℕ) → i < count → count ≤ 4 → Within count a z bs es → R (bs i) (es i) → GoesHave count goes bs → EndsHave count old bs es → EndsHave count new bs es
+
+-- the same for the first k members
+pub record OwnRows (members table goes : List ℕ) (a z : ℕ) (old new : List ℕ) (k : ℕ) : Type 0 where
+  pub own : (i x e : ℕ) → i < k → a ≤ x → x ≤ z → In (pairAt new i i x) e → InTable table (memberNode (getD members i 0)) x e × (x ≤ e) × (e ≤ z)
+  pub kept : (bs es : ℕ → ℕ) → Within (length members) a z bs es → ((i : ℕ) → i < length members → InTable table (memberNode (getD members i 0)) (bs i) (es i))
+      → GoesHave (length members) goes bs → EndsHave (length members) old bs es → EndsHave (length members) new bs es
+
 -- the tables have these begins and ends: ends of i where j begins, begins of j where i begins, ends of i begun at x or later
 pub record InTables (E G L : List ℕ) (count lo : ℕ) (bs es : ℕ → ℕ) : Type 0 where
   pub ends : EndsHave count E bs es
@@ -146,7 +160,7 @@ pub record Grown (cs allow ends : List ℕ) (count b : ℕ) (old new : Found) : 
   pub kept : (e : ℕ) → In (old .ends) e → In (new .ends) e
   pub reads : (e : ℕ) → In (new .ends) e → In (old .ends) e ⊎ ReadsTo cs allow ends count b e
   pub begins : BeginsKept cs allow ends count b old → BeginsKept cs allow ends count b new
-  pub small : ((e : ℕ) → In (old .ends) e → e < 64) → (e : ℕ) → In (new .ends) e → e < 64
+  pub within : ((e : ℕ) → In (old .ends) e → e ≤ old .upto) → (e : ℕ) → In (new .ends) e → e ≤ new .upto
   pub moments : ((i : ℕ) → entryAt (old .begins) i < 64) → (i : ℕ) → entryAt (new .begins) i < 64
 
 -- a placement to e that an open set still has
@@ -165,6 +179,6 @@ FindsAll cs allow ends goes later bounds count o r = (e : ℕ) (bs es : ℕ → 
 -- ends of each placement
 pub record Tables (s : TaskSet) (R : ℕ → ℕ → ℕ → Type 0) (a z : ℕ) (allow ends goes later : List ℕ) : Type 0 where
   pub ready : SearchReady (s .conditions) ends (memberCount s) a z
-  pub reads : (b e : ℕ) (bs es : ℕ → ℕ) → a ≤ b → e < 64 → Masked (s .conditions) allow ends (memberCount s) b e bs es → (e ≤ z) × Placed s R b e bs es
+  pub reads : (b e : ℕ) (bs es : ℕ → ℕ) → a ≤ b → e ≤ z → Masked (s .conditions) allow ends (memberCount s) b e bs es → Placed s R b e bs es
   pub masked : (b e : ℕ) (bs es : ℕ → ℕ) → a ≤ b → e ≤ z → Placed s R b e bs es → Masked (s .conditions) allow ends (memberCount s) b e bs es
   pub kept : (b e : ℕ) (bs es : ℕ → ℕ) → a ≤ b → e ≤ z → Placed s R b e bs es → InTables ends goes later (memberCount s) a bs es

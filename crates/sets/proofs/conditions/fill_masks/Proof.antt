@@ -32,12 +32,13 @@ new c =
     let a = entry c .args in
     let own = c .before .before .before in
     let k = own .before .before .condition-formula in
-    let fails = own .before .failing .ensures in
+    let fails = own .before .failing-for .ensures in
     let x = c .before .before .loop .x in
     let value = valueIn (a .values .now) in
     mask-met value (a .n) (a .w) (a .a) (a .z) x (own .before .before .before .before .before .form-of .ensures .0) (k .ensures .0)
     (own .before .before .before .before .condition-m .ensures .0) (own .before .before .before .condition-n .ensures .0)
-    (c .mask-at .ensures value (k .result) fails (λ q. own .own-mask .ensures .0 q value (k .result) x fails) (λ q. own .own-mask .ensures .1 q value (k .result) x fails))
+    (c .mask-at .ensures value (a .n) (k .result) fails (λ q. own .own-mask .ensures .0 q value (k .result) x (rw q at fails))
+    (λ q. own .own-mask .ensures .1 q value (k .result) x (rw q at fails)))
 
 loop-again : tie.Need-loop-again Inv-loop μ-loop
 loop-again c =

@@ -19,8 +19,8 @@ use Rattle.sets.proofs.conditions.own_moments.Tie as tie
 abbrev Inv-loop : tie.InvT-loop
 Inv-loop form fails first last a z n mask₀ y₀ mask y =
     (a ≤ y) × (y ≤ z + 1)
-    × (form ≡ 2 → (value : ℕ → ℕ → ℕ) (k x : ℕ) → Failing value k n fails → Before (λ v. MetAs HoldsBefore value n k first last v v x) a y mask)
-    × (form ≡ 3 → (value : ℕ → ℕ → ℕ) (k x : ℕ) → Failing value k n fails → Before (λ v. MetAs HoldsAfter value n k first last v v x) a y mask)
+    × (form ≡ 2 → (value : ℕ → ℕ → ℕ) (k x : ℕ) → Failing HoldsBefore value n k last a z fails → Before (λ v. MetAs HoldsBefore value n k first last v v x) a y mask)
+    × (form ≡ 3 → (value : ℕ → ℕ → ℕ) (k x : ℕ) → Failing HoldsAfter value n k last a z fails → Before (λ v. MetAs HoldsAfter value n k first last v v x) a y mask)
 
 abbrev μ-loop : tie.MeasureT-loop
 μ-loop form fails first last a z n mask₀ y₀ mask y = z + 1 - y
@@ -46,8 +46,8 @@ loop-again : tie.Need-loop-again Inv-loop μ-loop
 loop-again c = let l = head c in let came = c .before .if1 .came in (
   omega arith,
   omega arith,
-  λ q value k x f. step c _ (⊎-elim (λ w. told (w .2) (w .1 .ensures value k (l .before .args .n) x (omega arith) f)) (λ w. absurd (w .0 .left q)) came) (l .loop .inv .2 q value k x f),
-  λ q value k x f. step c _ (⊎-elim (λ w. let g = w .0 .taken in absurd (omega arith)) (λ w. told (w .2) (w .1 .ensures value k x f)) came) (l .loop .inv .3 q value k x f),
+  λ q value k x f. step c _ (⊎-elim (λ w. told (w .2) (w .1 .ensures value k (l .before .args .n) (l .before .args .a) (l .before .args .z) x (omega arith) (omega arith) f)) (λ w. absurd (w .0 .left q)) came) (l .loop .inv .2 q value k x f),
+  λ q value k x f. step c _ (⊎-elim (λ w. let g = w .0 .taken in absurd (omega arith)) (λ w. told (w .2) (w .1 .ensures value k (l .before .args .a) (l .before .args .z) x (omega arith) (omega arith) f)) came) (l .loop .inv .3 q value k x f),
 )
 
 -- at the end they are those of a..z

@@ -44,7 +44,7 @@ begins c =
     let a = s .args in
     let g = c .row .ensures .0 in
     let f = row-found (c .before .before .before .before .before .before .before .fill2 .last .1 .1 .1 .1 .1 .0) _ (c .row .result) _ _ (length-map (a .members .now) memberNode) (t .fill .ensures)
-    (le-refl (a .b)) refl (c .before .before .before .before .before .before .before .fill2 .ensures) g (c .row .ensures .1) in
+    (le-refl (a .b)) refl refl (c .before .before .before .before .before .before .before .fill2 .ensures) g (c .row .ensures .1) in
     let found = f .finds (a .e) (le-refl (a .e)) (in-single (c .before .before .before .before .before .before .single .ensures) (a .e) .1 refl) (s .pre .rule) in
     subst (λ (x : ℕ). ReadsWith (a .conds .now) (t .fill .last .1 .1 .1 .1 .1 .1 .1 .0) (t .fill .last .1 .1 .1 .1 .1 .1 .1 .1 .0) (length (a .members .now)) (a .b) x (entryAt (c .row .result .begins)))
     (g .upto) (g .begins (λ z. in-zero refl z) (subst (λ (x : ℕ). In (c .row .result .ends) x) (sym (g .upto)) found))
@@ -79,9 +79,9 @@ returns c =
     let s = entry t in
     let a = s .args in
     let top = top-ends (ready t) (m .ends-at .ensures) (begins k .masked) (c .greatest-ends .ensures) in
-    t .fill .ensures .reads (a .b) (a .e) (entryAt (k .row .result .begins)) (entryAt (c .greatest-ends .result)) (le-refl (a .b)) (omega (arith, moments s))
+    t .fill .ensures .reads (a .b) (a .e) (entryAt (k .row .result .begins)) (entryAt (c .greatest-ends .result)) (le-refl (a .b)) (le-refl (a .e))
     (subst (λ (x : ℕ). Masked (a .conds .now) (t .fill .last .1 .1 .1 .1 .1 .1 .1 .0) (t .fill .last .1 .1 .1 .1 .1 .1 .1 .1 .0) x (a .b) (a .e) (entryAt (k .row .result .begins))
-    (entryAt (c .greatest-ends .result))) (sym (length-map (a .members .now) memberNode)) top) .1
+    (entryAt (c .greatest-ends .result))) (sym (length-map (a .members .now) memberNode)) top)
 
 pub place-spec : {M : Type 1} → statement M
 place-spec =

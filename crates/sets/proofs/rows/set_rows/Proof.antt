@@ -62,7 +62,7 @@ found : (c : tie.After-row Inv-loop μ-loop) (e : ℕ) → let l = loop c in let
 found c e =
     let l = loop c in
     let t = tables l in
-    let r = row-found (l .before .fill2 .last .1 .1 .1 .1 .1 .0) _ (c .row .result) _ _ (length-map (entry t .args .members .now) memberNode) (t .fill .ensures) (omega arith) refl (l .before .fill2 .ensures) (c .row .ensures .0)
+    let r = row-found (l .before .fill2 .last .1 .1 .1 .1 .1 .0) _ (c .row .result) _ _ (length-map (entry t .args .members .now) memberNode) (t .fill .ensures) (omega arith) refl refl (l .before .fill2 .ensures) (c .row .ensures .0)
     (c .row .ensures .1) in
     (r .reads e, λ h. let p = h .placing in r .finds e (p .within) (in-between (c .before .before .before .before .before .before .between .ensures) e .1 (p .onward, p .within)) h)
 

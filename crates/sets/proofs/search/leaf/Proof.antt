@@ -34,13 +34,12 @@ finds c goes later bounds e bs es u h =
     sym (h .fits .fixed i _ l (λ t. in-zero (s .pre .1) t) (f .first-begins .ensures .2 i (bs i) l (h .fits .begins i l) (o .0) (omega (arith, o, u)))) in
     c .covered .ensures e .1 (covers-all (s .pre .0) (c .before .ends-at .ensures) (f .first-begins .ensures .0) same (h .masked))
 
--- which is a moment
-small : (c : tie.After-covered) (e : ℕ) → In (c .covered .result) e → e < 64
-small c e t =
+-- which is not after the last moment
+within : (c : tie.After-covered) (e : ℕ) → In (c .covered .result) e → e ≤ entry (c .before .before) .args .found .upto
+within c e t =
     let f = c .before .before in
-    let r = entry f .pre .0 in
     let k = c .covered .ensures e .0 t .last in
-    omega (arith, onward r (c .before .ends-at .ensures) (f .first-begins .ensures .0) (k .at) e (k .below) (k .is), r .moments)
+    onward (entry f .pre .0) (c .before .ends-at .ensures) (f .first-begins .ensures .0) (k .at) e (k .below) (k .is) .1
 
 covered-requires : tie.Need-covered-requires
 covered-requires c κs = let f = c .before in let r = entry f .pre .0 in
@@ -62,7 +61,7 @@ grown u kept begins moments = let all = in-union (u .union .ensures) in record {
   kept = λ e t. all e .1 (inl t);
   reads = λ e t. ⊎-elim inl (λ v. let r = reads (u .before) e v in inr (record { bs = _; es = r .es; masked = r .masked })) (all e .0 t);
   begins = begins;
-  small = λ h e t. ⊎-elim (h e) (small (u .before) e) (all e .0 t);
+  within = λ h e t. ⊎-elim (h e) (within (u .before) e) (all e .0 t);
   moments = moments;
 }
 

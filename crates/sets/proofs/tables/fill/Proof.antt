@@ -20,7 +20,7 @@ cut-all-requires c κs = let s = entry (c .before .before .before) in let f = s 
 
 fill-own-requires : tie.Need-fill-own-requires
 fill-own-requires c κs = let s = entry (c .before .before .before .before .before .before) in let ms = s .args .members .now in
-    (omega (arith, s .pre .0 .few, length-map ms memberNode), node-rows ms (s .pre .1), omega (arith, s .pre .0 .moments, s .pre .3))
+    (omega (arith, s .pre .0 .few, length-map ms memberNode), node-rows ms (s .pre .1), s .pre .2, omega (arith, s .pre .0 .moments, s .pre .3))
 
 cut-pairs-requires : tie.Need-cut-pairs-requires
 cut-pairs-requires c κs = let s = entry (c .before .before .before .before .before .before .before .before .before) in
@@ -45,7 +45,7 @@ returns c =
     let a = s .args in
     filled (a .members .now) (a .conds .now) (a .values .now) (a .table .now) (a .n) (a .a) (a .z) (s .pre .0) (s .pre .2) (s .pre .3) (s .pre .4)
     (s .pre .5)
-    (allowed .fill-allowed .ensures) (cut .cut-all .ensures) (own .fill-own .ensures .0) (own .fill-own .ensures .1) (pairs .cut-pairs .ensures .0)
+    (allowed .fill-allowed .ensures) (cut .cut-all .ensures) (own .fill-own .ensures) (pairs .cut-pairs .ensures .0)
     (pairs .cut-pairs .ensures .1) (c .fill-later .ensures)
 
 pub fill-spec : {M : Type 1} → statement M
