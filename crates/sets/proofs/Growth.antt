@@ -11,7 +11,7 @@ use Rattle.bitset.specs.Code.Members.{has, In, IsSetOf, popCount, Lowest, Dropp
 use Rattle.bitset.proofs.Counts.{count-but}
 use Rattle.bitset.proofs.In.{in-without, in-zero}
 use Rattle.sets.specs.Code.Rows.{entryAt}
-use Rattle.sets.specs.Code.Search.{Masked, InTables, BoundsHave, SearchReady, Grown, Fits, Sought, FindsAll}
+use Rattle.sets.specs.Code.Search.{Masked, InTables, BoundsHave, SearchReady, Grown, InDomains, Sought, FindsAll}
 use Rattle.sets.specs.declared.search.Open.{Open}
 use Rattle.sets.specs.declared.search.Found.{Found}
 
@@ -60,7 +60,7 @@ Over rest g h bs es = (i : ℕ) × In rest i × (bs i ≤ g) × (h ≤ es i)
 module _ {cs allow ends goes later bounds : List ℕ} {count : ℕ} where
   -- the same placement in a set from the same moment with the same last member
   pub sought-as : {o o′ : Open} {e : ℕ} {bs es : ℕ → ℕ} → o′ .from ≡ o .from → o′ .last ≡ o .last → Sought cs allow ends goes later bounds count o e bs es
-      → Fits count o′ bs es → Sought cs allow ends goes later bounds count o′ e bs es
+      → InDomains count o′ bs es → Sought cs allow ends goes later bounds count o′ e bs es
   sought-as {e = e} {bs = bs} {es = es} p q h f = record {
     masked = subst (λ (b : ℕ). Masked cs allow ends count b e bs es) (sym p) (h .masked);
     tables = subst (λ (b : ℕ). InTables ends goes later count b bs es) (sym p) (h .tables);
@@ -71,7 +71,7 @@ module _ {cs allow ends goes later bounds : List ℕ} {count : ℕ} where
 
   -- a begin of member i is tried
   pub tried : {o next : Open} {r r′ : Found} {i x rest rest′ : ℕ} → next .from ≡ o .from → next .last ≡ o .last → Lowest rest x → Dropped rest rest′
-      → ((bs es : ℕ → ℕ) → InTables ends goes later count (o .from) bs es → BoundsHave count bounds bs es → Fits count o bs es → bs i ≡ x → In (r .ends) (es (o .last)) ⊎ Fits count next bs es)
+      → ((bs es : ℕ → ℕ) → InTables ends goes later count (o .from) bs es → BoundsHave count bounds bs es → InDomains count o bs es → bs i ≡ x → In (r .ends) (es (o .last)) ⊎ InDomains count next bs es)
       → Grown cs allow ends count (o .from) r r′ → FindsAll cs allow ends goes later bounds count next r′
       → Untried cs allow ends goes later bounds count o r (Begin rest i) → Untried cs allow ends goes later bounds count o r′ (Begin rest′ i)
   tried {o} {r = r} {r′ = r′} {i = i} {x = x} p q low drop place grown all h = record {
@@ -85,7 +85,7 @@ module _ {cs allow ends goes later bounds : List ℕ} {count : ℕ} where
 
   -- a begin with which nothing fits is left out
   pub skipped : {o : Open} {r : Found} {i x rest rest′ : ℕ} → Lowest rest x → Dropped rest rest′
-      → ((bs es : ℕ → ℕ) → InTables ends goes later count (o .from) bs es → Fits count o bs es → bs i ≡ x → ⊥)
+      → ((bs es : ℕ → ℕ) → InTables ends goes later count (o .from) bs es → InDomains count o bs es → bs i ≡ x → ⊥)
       → Untried cs allow ends goes later bounds count o r (Begin rest i) → Untried cs allow ends goes later bounds count o r (Begin rest′ i)
   skipped {i = i} {x = x} low drop none h = record {
     each = λ e bs es l s. ⊎-elim inl
@@ -95,7 +95,7 @@ module _ {cs allow ends goes later bounds : List ℕ} {count : ℕ} where
 
   -- member i is tried so
   pub tried-over : {o next : Open} {r r′ : Found} {i g late rest rest′ : ℕ} → next .from ≡ o .from → next .last ≡ o .last → Lowest rest i → Dropped rest rest′
-      → ((bs es : ℕ → ℕ) → Fits count o bs es → bs i ≤ g → late ≤ es i → Fits count next bs es)
+      → ((bs es : ℕ → ℕ) → InDomains count o bs es → bs i ≤ g → late ≤ es i → InDomains count next bs es)
       → Grown cs allow ends count (o .from) r r′ → FindsAll cs allow ends goes later bounds count next r′
       → Untried cs allow ends goes later bounds count o r (Over rest g late) → Untried cs allow ends goes later bounds count o r′ (Over rest′ g late)
   tried-over {i = i} {g = g} {late = late} p q low drop over grown all h = record {

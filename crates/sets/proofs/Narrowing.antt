@@ -9,7 +9,7 @@ use lib.ListN.{length, getD, set}
 use lib.Seq.{getD-set-same, getD-set-other}
 use Rattle.bitset.specs.Code.Members.{In}
 use Rattle.sets.specs.Code.Rows.{entryAt}
-use Rattle.sets.specs.Code.Search.{Fits}
+use Rattle.sets.specs.Code.Search.{InDomains}
 use Rattle.sets.proofs.Moves.{set-kept, set-fewer}
 
 -- the words of begins and ends have bs and es, those of a member that is not left no other begin, and `sought` has the last end
@@ -52,6 +52,6 @@ has-next {begins = begins} {ends = ends} j b e s long long′ new new′ fewer f
 -- all members have been narrowed
 pub has-end : {count a last left : ℕ} {begins ends : List ℕ} {sought : ℕ} (e : ℕ) {bs es : ℕ → ℕ} → last < length ends → In e (es last)
     → Ordered count a last bs es → Has count begins ends left last sought bs es
-    → Fits count (record { from = a; last = last; left = left; begins = begins; ends = set ends last e }) bs es
+    → InDomains count (record { from = a; last = last; left = left; begins = begins; ends = set ends last e }) bs es
 has-end {last = last} {ends = ends} e long new inside h =
     record { inside = inside; begins = h .begin; ends = set-kept ends last e long (λ l. new) (h .end); fixed = h .fixed }

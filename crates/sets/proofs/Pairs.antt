@@ -16,7 +16,7 @@ use Rattle.model.specs.Code.Table.{InTable}
 use Rattle.sets.specs.Set.{TaskSet, memberCount, MetAs, MetAt}
 use Rattle.sets.specs.Code.Set.{member, Formed}
 use Rattle.sets.specs.Code.Rows.{taskSetOf, Placed}
-use Rattle.sets.specs.Code.Search.{asked, partner, partnerOf, Allowed, MetAtMask, MetByMask, pairAt, Masked, EndsHave, GoesHave, Have, Fewer, Cut, Within, Full, OwnRow, OwnRows, InTables, Tables}
+use Rattle.sets.specs.Code.Search.{asked, partner, partnerOf, Allowed, MetAtMask, MetByMask, pairAt, Masked, EndsHave, GoesHave, Have, Fewer, Cut, InSpan, Unpruned, OwnRow, OwnRows, InTables, Tables}
 use Rattle.sets.proofs.Masks.{partner-less}
 
 -- ---- one mask of an array more
@@ -66,7 +66,7 @@ partner-is w p q s h = rw (p, q, s) at h
 
 module _ {value : ℕ → ℕ → ℕ} {cs allow : List ℕ} {n a z count : ℕ} (allowed : Allowed value cs n a z (length cs) allow)
     (named : (c : ℕ) → c < length cs → (conditionI (getD cs c 0) < count) × (conditionJ (getD cs c 0) < count))
-    {bs es : ℕ → ℕ} (within : Within count a z bs es) where
+    {bs es : ℕ → ℕ} (within : InSpan count a z bs es) where
   -- condition c is met by its mask where it is met
   pub mask-met : (c : ℕ) → c < length cs → let w = getD cs c 0 in let i = conditionI w in
       MetByMask cs allow bs c (es i) ↔ MetAt value n w (bs i) (es i) (bs (conditionJ w))
@@ -97,7 +97,7 @@ cut-kept X W allow T T′ c k l count a z few small kb lb within met cut i j ib 
     (subst (λ (j : ℕ). In (getD allow (c * 64 + X i j) 0) (W i j)) r (subst (λ (i : ℕ). In (getD allow (c * 64 + X i l) 0) (W i l)) p met)))
 
 module _ {E G : List ℕ} {count : ℕ} {bs es : ℕ → ℕ} (allow : List ℕ) (w i j c a z : ℕ) (few : count ≤ 4) (small : z < 64) (is : i ≡ conditionI w)
-    (js : j ≡ partnerOf w) (first : conditionI w < count) (second : conditionJ w < count) (within : Within count a z bs es)
+    (js : j ≡ partnerOf w) (first : conditionI w < count) (second : conditionJ w < count) (within : InSpan count a z bs es)
     (met : MetAtMask w allow bs c (es (conditionI w))) (have : Have E G count bs es) where
   pub cut-goes : {G′ : List ℕ} → ((x e : ℕ) → asked (conditionForm w) x e ≡ x) → Cut G (j * 4 + i) allow c a z G′ → Have E G′ count bs es
   cut-goes {G′} begin cut =
@@ -122,7 +122,7 @@ module _ {E G : List ℕ} {count : ℕ} {bs es : ℕ → ℕ} (allow : List ℕ)
 -- the own row of member i with one begin more, x
 module _ {R : ℕ → ℕ → Type 0} {goes old ends : List ℕ} (i x a z v : ℕ) (named : i < 4) (from : a ≤ x) (moment : x ≤ z) (upto : z < 64)
     (row : (e : ℕ) → In v e ↔ (R x e × (x ≤ e) × (e ≤ z) × In (pairAt ends i i x) e × In (pairAt goes i i x) x)) (h : OwnRow R goes i a z old ends x) where
-  own-kept : {count : ℕ} {bs es : ℕ → ℕ} → i < count → count ≤ 4 → Within count a z bs es → R (bs i) (es i) → GoesHave count goes bs
+  own-kept : {count : ℕ} {bs es : ℕ → ℕ} → i < count → count ≤ 4 → InSpan count a z bs es → R (bs i) (es i) → GoesHave count goes bs
       → EndsHave count ends bs es → EndsHave count (set ends ((i * 4 + i) * 64 + x) v) bs es
   own-kept {bs = bs} {es = es} one few within reads begins have j k g m = in-kept ends ((i * 4 + i) * 64 + x) v (have j k g m) (λ q.
       let o = within k m in
@@ -172,7 +172,7 @@ Partners E G i j r x =
     → In (pairAt G j i y) x → In r y
 
 module _ {E G : List ℕ} {count : ℕ} {bs es : ℕ → ℕ} (i j x a z r s v : ℕ) (few : count ≤ 4) (small : z < 64) (moment : x ≤ z) (first : i < count)
-    (second : j < count) (within : Within count a z bs es) (partners : Partners E G i j r x)
+    (second : j < count) (within : InSpan count a z bs es) (partners : Partners E G i j r x)
     (some : (y e : ℕ) → In r y → In (pairAt E i j y) e → In s e)
     (both : (e : ℕ) → In v e ↔ (In (pairAt E i i x) e × In s e)) (have : Have E G count bs es) where
   begins : bs i ≡ x → In r (bs j)
@@ -214,7 +214,7 @@ pub record Filled (s : TaskSet) (R : ℕ → ℕ → ℕ → Type 0) (a z : ℕ)
   pub upto : z ≤ s .last
   pub allowed : Allowed (s .value) (s .conditions) (s .last) a z (length (s .conditions)) allow
   pub own : (i x e : ℕ) → i < memberCount s → a ≤ x → x ≤ z → In (pairAt ends i i x) e → R (member s i) x e × (x ≤ e) × (e ≤ z)
-  pub have : (bs es : ℕ → ℕ) → Within (memberCount s) a z bs es
+  pub have : (bs es : ℕ → ℕ) → InSpan (memberCount s) a z bs es
       → ((c : ℕ) → c < length (s .conditions) → MetByMask (s .conditions) allow bs c (es (conditionI (getD (s .conditions) c 0))))
       → ((i : ℕ) → i < memberCount s → R (member s i) (bs i) (es i)) → Have ends goes (memberCount s) bs es
   pub after : (i x y e : ℕ) → i < memberCount s → a ≤ x → x ≤ y → y ≤ z → In (pairAt ends i i y) e → In (getD later (i * 64 + x) 0) e
@@ -223,7 +223,7 @@ module _ {s : TaskSet} {R : ℕ → ℕ → ℕ → Type 0} {a z : ℕ} {allow e
   reads : (b e : ℕ) (bs es : ℕ → ℕ) → a ≤ b → e ≤ z → Masked (s .conditions) allow ends (memberCount s) b e bs es → Placed s R b e bs es
   reads b e bs es l m h =
       let first = h .inside 0 (f .formed .some) in
-      let inside : Within (memberCount s) a z bs es = λ i g. let k = h .inside i g in (omega arith, k .1, omega arith) in
+      let inside : InSpan (memberCount s) a z bs es = λ i g. let k = h .inside i g in (omega arith, k .1, omega arith) in
       record {
         reads = λ i g. let o = inside i g in f .own i (bs i) (es i) g (o .0) (omega arith) (h .lawful i g .reads) .0;
         placing = record {
@@ -236,7 +236,7 @@ module _ {s : TaskSet} {R : ℕ → ℕ → ℕ → Type 0} {a z : ℕ} {allow e
         };
       }
 
-  placed-within : {b e : ℕ} {bs es : ℕ → ℕ} → a ≤ b → e ≤ z → Placed s R b e bs es → Within (memberCount s) a z bs es
+  placed-within : {b e : ℕ} {bs es : ℕ → ℕ} → a ≤ b → e ≤ z → Placed s R b e bs es → InSpan (memberCount s) a z bs es
   placed-within l g h i m = let o = h .placing .inside i m in (omega arith, o .1, omega arith)
 
   placed-have : {b e : ℕ} {bs es : ℕ → ℕ} → a ≤ b → e ≤ z → Placed s R b e bs es → Have ends goes (memberCount s) bs es
@@ -291,21 +291,21 @@ node-rows ms h i l = omega (arith, node-at ms i, h i (omega (arith, counted ms))
 -- the tables as they are filled: E and G at the start, E₁ and G₁ once the conditions have cut them, E₂ with the own rows, E₃ and G₃ once the
 -- pairs are cut
 module _ (ms cs vs table : List ℕ) {allow E G E₁ G₁ E₂ E₃ G₃ : List ℕ} (n a z : ℕ) (formed : Formed (taskSetOf ms cs vs n)) (forward : a ≤ z)
-    (upto : z ≤ n) (full-ends : Full E) (full-goes : Full G) (allowed : Allowed (valueIn vs) cs n a z (length cs) allow)
-    (conditions : (count : ℕ) (bs es : ℕ → ℕ) → Within count a z bs es → count ≤ 4
+    (upto : z ≤ n) (unpruned-ends : Unpruned E) (unpruned-goes : Unpruned G) (allowed : Allowed (valueIn vs) cs n a z (length cs) allow)
+    (conditions : (count : ℕ) (bs es : ℕ → ℕ) → InSpan count a z bs es → count ≤ 4
     → ((c : ℕ) → c < length cs → (conditionI (getD cs c 0) < count) × (conditionJ (getD cs c 0) < count)
     × MetByMask cs allow bs c (es (conditionI (getD cs c 0)))) → Have E G count bs es → Have E₁ G₁ count bs es)
     (own : OwnRows ms table G₁ a z E₁ E₂ (length ms))
-    (fewer : Fewer E₂ E₃) (pairs : (bs es : ℕ → ℕ) → Within (length ms) a z bs es → Have E₂ G₁ (length ms) bs es
+    (fewer : Fewer E₂ E₃) (pairs : (bs es : ℕ → ℕ) → InSpan (length ms) a z bs es → Have E₂ G₁ (length ms) bs es
     → Have E₃ G₃ (length ms) bs es) where
-  have-all : (bs es : ℕ → ℕ) → Within (length ms) a z bs es → ((c : ℕ) → c < length cs → MetByMask cs allow bs c (es (conditionI (getD cs c 0))))
+  have-all : (bs es : ℕ → ℕ) → InSpan (length ms) a z bs es → ((c : ℕ) → c < length cs → MetByMask cs allow bs c (es (conditionI (getD cs c 0))))
       → ((i : ℕ) → i < length ms → InTable table (memberNode (getD ms i 0)) (bs i) (es i)) → Have E₃ G₃ (length ms) bs es
   have-all bs es within met reads =
       let few : length ms ≤ 4 = omega (arith, formed .few, counted ms) in
       let small : z < 64 = omega (arith, formed .moments) in
       let start : Have E G (length ms) bs es = record {
-        ends = λ i j g h. let o = within i g in let p = within j h in full-ends ((i * 4 + j) * 64 + bs j) (es i) (omega arith) (omega arith);
-        goes = λ i j g h. let o = within i g in let p = within j h in full-goes ((i * 4 + j) * 64 + bs i) (bs j) (omega arith) (omega arith);
+        ends = λ i j g h. let o = within i g in let p = within j h in unpruned-ends ((i * 4 + j) * 64 + bs j) (es i) (omega arith) (omega arith);
+        goes = λ i j g h. let o = within i g in let p = within j h in unpruned-goes ((i * 4 + j) * 64 + bs i) (bs j) (omega arith) (omega arith);
       } in
       let cut = conditions (length ms) bs es within few (λ c l. let m = formed .named c l in
       (omega (arith, counted ms), omega (arith, counted ms), met c l)) start in

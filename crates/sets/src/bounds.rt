@@ -5,7 +5,7 @@ ghost use Prim.Native.Nat.{ℕ, _+_, _*_, _<_, _≤_};
 ghost use lib.ListN.{length, getD};
 ghost use Rattle.bitset.specs.Code.Members.{In, Highest};
 ghost use Rattle.sets.specs.Code.Rows.{entryAt};
-ghost use Rattle.sets.specs.Code.Search.{EndsHave, Within, BoundsHave, Fits};
+ghost use Rattle.sets.specs.Code.Search.{EndsHave, InSpan, BoundsHave, InDomains};
 ghost use Rattle.sets.specs.Code.Bounds.{Grows, Marked, Bounded};
 use crate::search;
 use words::MOMENTS;
@@ -106,7 +106,7 @@ fn fill_tied(
     bounds: &mut [u64; 2052],
 )
     requires { ⌜ (count ≤ 4) × (w < count) × (a ≤ z) × (z < 64) × (length (now bounds) ≡ 2052) ⌝ }
-    ensures { λ _. ⌜ (length (now (bounds .exit)) ≡ 2052) × ((bs es : ℕ → ℕ) → Within count a z bs es → EndsHave count (now (ends .entry)) bs es → BoundsHave count (now (bounds .entry)) bs es → BoundsHave count (now (bounds .exit)) bs es) ⌝ }
+    ensures { λ _. ⌜ (length (now (bounds .exit)) ≡ 2052) × ((bs es : ℕ → ℕ) → InSpan count a z bs es → EndsHave count (now (ends .entry)) bs es → BoundsHave count (now (bounds .entry)) bs es → BoundsHave count (now (bounds .exit)) bs es) ⌝ }
 {
     if count <= j {
         return;
@@ -130,7 +130,7 @@ pub fn fill(
     bounds: &mut [u64; 2052],
 )
     requires { ⌜ (count ≤ 4) × (a ≤ z) × (z < 64) × (length (now bounds) ≡ 2052) × ((q : ℕ) → getD (now bounds) q 0 ≡ 0) ⌝ }
-    ensures { λ _. ⌜ ((bs es : ℕ → ℕ) → Within count a z bs es → EndsHave count (now (ends .entry)) bs es → BoundsHave count (now (bounds .exit)) bs es) ⌝ }
+    ensures { λ _. ⌜ ((bs es : ℕ → ℕ) → InSpan count a z bs es → EndsHave count (now (ends .entry)) bs es → BoundsHave count (now (bounds .exit)) bs es) ⌝ }
 {
     let mut p = 0;
     while p < count * 4 {
@@ -170,7 +170,7 @@ fn bounded(bounds: &[u64; 2052], count: usize, j: usize, begins: u64, ends: [u64
 // The set with the begins that the bounds leave. It has no ends where they leave none.
 pub fn tighten(bounds: &[u64; 2052], count: usize, state: search::Open) -> search::Open
     requires { ⌜ (count ≤ 4) × (state .last < count) ⌝ }
-    ensures { λ r. ⌜ (r .from ≡ state .from) × (r .last ≡ state .last) × (r .left ≡ state .left) × ((bs es : ℕ → ℕ) → BoundsHave count (now (bounds .entry)) bs es → Fits count state bs es → Fits count r bs es) ⌝ }
+    ensures { λ r. ⌜ (r .from ≡ state .from) × (r .last ≡ state .last) × (r .left ≡ state .left) × ((bs es : ℕ → ℕ) → BoundsHave count (now (bounds .entry)) bs es → InDomains count state bs es → InDomains count r bs es) ⌝ }
 {
     let from = state.from;
     let last = state.last;

@@ -11,7 +11,7 @@ ghost use Rattle.sets.specs.Set.{memberCount};
 ghost use Rattle.sets.specs.Code.Set.{member, Formed};
 ghost use Rattle.sets.specs.Code.Rows.{taskSetOf};
 ghost use Rattle.model.specs.Code.Table.{InTable};
-ghost use Rattle.sets.specs.Code.Search.{pairAt, MetAtMask, MetByMask, Have, Fewer, Cut, Within, Full, OwnRow, OwnRows, Tables};
+ghost use Rattle.sets.specs.Code.Search.{pairAt, MetAtMask, MetByMask, Have, Fewer, Cut, InSpan, Unpruned, OwnRow, OwnRows, Tables};
 use crate::conditions;
 use words::MOMENTS;
 
@@ -38,7 +38,7 @@ fn cut_for(
     goes: &mut [u64; 1024],
 )
     requires { ⌜ (c < 8) × (conditionI w < 4) × (conditionJ w < 4) × (a ≤ z) × (z < 64) ⌝ }
-    ensures { λ _. ⌜ ((count : ℕ) (bs es : ℕ → ℕ) → Within count a z bs es → count ≤ 4 → conditionI w < count → conditionJ w < count → MetAtMask w (now (allow .entry)) bs c (es (conditionI w)) → Have (now (ends .entry)) (now (goes .entry)) count bs es → Have (now (ends .exit)) (now (goes .exit)) count bs es) ⌝ }
+    ensures { λ _. ⌜ ((count : ℕ) (bs es : ℕ → ℕ) → InSpan count a z bs es → count ≤ 4 → conditionI w < count → conditionJ w < count → MetAtMask w (now (allow .entry)) bs c (es (conditionI w)) → Have (now (ends .entry)) (now (goes .entry)) count bs es → Have (now (ends .exit)) (now (goes .exit)) count bs es) ⌝ }
 {
     let form = words::form_of(w);
     let i = words::condition_i(w);
@@ -60,7 +60,7 @@ fn cut_all(
     goes: &mut [u64; 1024],
 )
     requires { ⌜ (length (now conds) ≤ 8) × ((c : ℕ) → c < length (now conds) → (conditionI (getD (now conds) c 0) < 4) × (conditionJ (getD (now conds) c 0) < 4)) × (a ≤ z) × (z < 64) ⌝ }
-    ensures { λ _. ⌜ ((count : ℕ) (bs es : ℕ → ℕ) → Within count a z bs es → count ≤ 4 → ((c : ℕ) → c < length (now (conds .entry)) → (conditionI (getD (now (conds .entry)) c 0) < count) × (conditionJ (getD (now (conds .entry)) c 0) < count) × MetByMask (now (conds .entry)) (now (allow .entry)) bs c (es (conditionI (getD (now (conds .entry)) c 0)))) → Have (now (ends .entry)) (now (goes .entry)) count bs es → Have (now (ends .exit)) (now (goes .exit)) count bs es) ⌝ }
+    ensures { λ _. ⌜ ((count : ℕ) (bs es : ℕ → ℕ) → InSpan count a z bs es → count ≤ 4 → ((c : ℕ) → c < length (now (conds .entry)) → (conditionI (getD (now (conds .entry)) c 0) < count) × (conditionJ (getD (now (conds .entry)) c 0) < count) × MetByMask (now (conds .entry)) (now (allow .entry)) bs c (es (conditionI (getD (now (conds .entry)) c 0)))) → Have (now (ends .entry)) (now (goes .entry)) count bs es → Have (now (ends .exit)) (now (goes .exit)) count bs es) ⌝ }
 {
     let mut c = 0;
     while c < conds.len() {
@@ -197,7 +197,7 @@ fn some_ends(ends: &[u64; 1024], i: usize, j: usize, begins: u64) -> u64
 // is left.
 fn cut_pair(i: usize, j: usize, a: u32, z: u32, ends: &mut [u64; 1024], goes: &mut [u64; 1024])
     requires { ⌜ (i < 4) × (j < 4) × (a ≤ z) × (z < 64) ⌝ }
-    ensures { λ _. ⌜ Fewer (now (ends .entry)) (now (ends .exit)) × ((count : ℕ) (bs es : ℕ → ℕ) → i < count → j < count → count ≤ 4 → Within count a z bs es → Have (now (ends .entry)) (now (goes .entry)) count bs es → Have (now (ends .exit)) (now (goes .exit)) count bs es) ⌝ }
+    ensures { λ _. ⌜ Fewer (now (ends .entry)) (now (ends .exit)) × ((count : ℕ) (bs es : ℕ → ℕ) → i < count → j < count → count ≤ 4 → InSpan count a z bs es → Have (now (ends .entry)) (now (goes .entry)) count bs es → Have (now (ends .exit)) (now (goes .exit)) count bs es) ⌝ }
 {
     let mut x = a;
     while x <= z {
@@ -210,7 +210,7 @@ fn cut_pair(i: usize, j: usize, a: u32, z: u32, ends: &mut [u64; 1024], goes: &m
 }
 
 // Whether some condition is on members i and j.
-fn tied(conds: &[u32], i: usize, j: usize) -> bool {
+fn constrained(conds: &[u32], i: usize, j: usize) -> bool {
     let mut c = 0;
     while c < conds.len() {
         let w = conds[c];
@@ -232,7 +232,7 @@ fn tied(conds: &[u32], i: usize, j: usize) -> bool {
 }
 
 // Does so for a pair of different members of the set that a condition is on.
-fn cut_tied(
+fn cut_constrained(
     conds: &[u32],
     count: usize,
     i: usize,
@@ -243,7 +243,7 @@ fn cut_tied(
     goes: &mut [u64; 1024],
 )
     requires { ⌜ (count ≤ 4) × (i < count) × (a ≤ z) × (z < 64) ⌝ }
-    ensures { λ _. ⌜ Fewer (now (ends .entry)) (now (ends .exit)) × ((bs es : ℕ → ℕ) → Within count a z bs es → Have (now (ends .entry)) (now (goes .entry)) count bs es → Have (now (ends .exit)) (now (goes .exit)) count bs es) ⌝ }
+    ensures { λ _. ⌜ Fewer (now (ends .entry)) (now (ends .exit)) × ((bs es : ℕ → ℕ) → InSpan count a z bs es → Have (now (ends .entry)) (now (goes .entry)) count bs es → Have (now (ends .exit)) (now (goes .exit)) count bs es) ⌝ }
 {
     if count <= j {
         return;
@@ -251,7 +251,7 @@ fn cut_tied(
     if i == j {
         return;
     }
-    if tied(conds, i, j) {
+    if constrained(conds, i, j) {
         cut_pair(i, j, a, z, ends, goes);
     }
 }
@@ -266,11 +266,11 @@ fn cut_pairs(
     goes: &mut [u64; 1024],
 )
     requires { ⌜ (count ≤ 4) × (a ≤ z) × (z < 64) ⌝ }
-    ensures { λ _. ⌜ Fewer (now (ends .entry)) (now (ends .exit)) × ((bs es : ℕ → ℕ) → Within count a z bs es → Have (now (ends .entry)) (now (goes .entry)) count bs es → Have (now (ends .exit)) (now (goes .exit)) count bs es) ⌝ }
+    ensures { λ _. ⌜ Fewer (now (ends .entry)) (now (ends .exit)) × ((bs es : ℕ → ℕ) → InSpan count a z bs es → Have (now (ends .entry)) (now (goes .entry)) count bs es → Have (now (ends .exit)) (now (goes .exit)) count bs es) ⌝ }
 {
     let mut p = 0;
     while p < count * 4 {
-        cut_tied(conds, count, p / 4, p % 4, a, z, ends, goes);
+        cut_constrained(conds, count, p / 4, p % 4, a, z, ends, goes);
         p += 1;
     }
 }
@@ -314,7 +314,7 @@ pub fn fill(
     goes: &mut [u64; 1024],
     later: &mut [u64; 256],
 )
-    requires { ⌜ Formed (taskSetOf (now members) (now conds) (now values) n) × ((i : ℕ) → i < memberCount (taskSetOf (now members) (now conds) (now values) n) → member (taskSetOf (now members) (now conds) (now values) n) i * 64 + 64 ≤ length (now table)) × (a ≤ z) × (z ≤ n) × Full (now ends) × Full (now goes) × (length (now allow) ≡ 512) × (length (now later) ≡ 256) ⌝ }
+    requires { ⌜ Formed (taskSetOf (now members) (now conds) (now values) n) × ((i : ℕ) → i < memberCount (taskSetOf (now members) (now conds) (now values) n) → member (taskSetOf (now members) (now conds) (now values) n) i * 64 + 64 ≤ length (now table)) × (a ≤ z) × (z ≤ n) × Unpruned (now ends) × Unpruned (now goes) × (length (now allow) ≡ 512) × (length (now later) ≡ 256) ⌝ }
     ensures { λ _. ⌜ Tables (taskSetOf (now (members .entry)) (now (conds .entry)) (now (values .entry)) n) (InTable (now (table .entry))) a z (now (allow .exit)) (now (ends .exit)) (now (goes .exit)) (now (later .exit)) ⌝ }
 {
     conditions::fill_allowed(values, conds, a, z, n, allow);

@@ -94,24 +94,24 @@ Cut old p allow c a z new =
     (q e : ℕ) → In (getD old q 0) e → ((y : ℕ) → q ≡ p * 64 + y → a ≤ y → y ≤ z → In (getD allow (c * 64 + y) 0) e) → In (getD new q 0) e
 
 -- begins and ends within a..z
-abbrev pub Within : ℕ → ℕ → ℕ → (ℕ → ℕ) → (ℕ → ℕ) → Type 0
-Within count a z bs es = (i : ℕ) → i < count → (a ≤ bs i) × (bs i ≤ es i) × (es i ≤ z)
+abbrev pub InSpan : ℕ → ℕ → ℕ → (ℕ → ℕ) → (ℕ → ℕ) → Type 0
+InSpan count a z bs es = (i : ℕ) → i < count → (a ≤ bs i) × (bs i ≤ es i) × (es i ≤ z)
 
 -- a table before anything is left out of it
-abbrev pub Full : List ℕ → Type 0
-Full t = (p e : ℕ) → p < 1024 → e < 64 → In (getD t p 0) e
+abbrev pub Unpruned : List ℕ → Type 0
+Unpruned t = (p e : ℕ) → p < 1024 → e < 64 → In (getD t p 0) e
 
 -- the own row of member i, from a to before x, has ends that R has, not before the begin nor after z; the rows of members before i are as they
 -- were, and what a placement has is in the table
 pub record OwnRow (R : ℕ → ℕ → Type 0) (goes : List ℕ) (i a z : ℕ) (old new : List ℕ) (x : ℕ) : Type 0 where
   pub own : (y e : ℕ) → a ≤ y → y < x → In (pairAt new i i y) e → R y e × (y ≤ e) × (e ≤ z)
   pub others : (q : ℕ) → q < i * 320 → getD new q 0 ≡ getD old q 0
-  pub kept : (count : ℕ) (bs es : ℕ → ℕ) → i < count → count ≤ 4 → Within count a z bs es → R (bs i) (es i) → GoesHave count goes bs → EndsHave count old bs es → EndsHave count new bs es
+  pub kept : (count : ℕ) (bs es : ℕ → ℕ) → i < count → count ≤ 4 → InSpan count a z bs es → R (bs i) (es i) → GoesHave count goes bs → EndsHave count old bs es → EndsHave count new bs es
 
 -- the same for the first k members
 pub record OwnRows (members table goes : List ℕ) (a z : ℕ) (old new : List ℕ) (k : ℕ) : Type 0 where
   pub own : (i x e : ℕ) → i < k → a ≤ x → x ≤ z → In (pairAt new i i x) e → InTable table (memberNode (getD members i 0)) x e × (x ≤ e) × (e ≤ z)
-  pub kept : (bs es : ℕ → ℕ) → Within (length members) a z bs es → ((i : ℕ) → i < length members → InTable table (memberNode (getD members i 0)) (bs i) (es i))
+  pub kept : (bs es : ℕ → ℕ) → InSpan (length members) a z bs es → ((i : ℕ) → i < length members → InTable table (memberNode (getD members i 0)) (bs i) (es i))
       → GoesHave (length members) goes bs → EndsHave (length members) old bs es → EndsHave (length members) new bs es
 
 -- the tables have these begins and ends: ends of i where j begins, begins of j where i begins, ends of i begun at x or later
@@ -133,7 +133,7 @@ pub record SearchReady (cs ends : List ℕ) (count lo hi : ℕ) : Type 0 where
   pub onward : (i x e : ℕ) → i < count → lo ≤ x → x ≤ hi → In (pairAt ends i i x) e → (x ≤ e) × (e ≤ hi)
 
 -- begins and ends that an open set still has: members that are not left have one begin, and none ends after the one that ends last
-pub record Fits (count : ℕ) (o : Open) (bs es : ℕ → ℕ) : Type 0 where
+pub record InDomains (count : ℕ) (o : Open) (bs es : ℕ → ℕ) : Type 0 where
   pub inside : (i : ℕ) → i < count → (o .from ≤ bs i) × (bs i ≤ es i) × (es i ≤ es (o .last))
   pub begins : (i : ℕ) → i < count → In (entryAt (o .begins) i) (bs i)
   pub ends : (i : ℕ) → i < count → In (entryAt (o .ends) i) (es i)
@@ -168,7 +168,7 @@ pub record Sought (cs allow ends goes later bounds : List ℕ) (count : ℕ) (o 
   pub masked : Masked cs allow ends count (o .from) e bs es
   pub tables : InTables ends goes later count (o .from) bs es
   pub bounded : BoundsHave count bounds bs es
-  pub fits : Fits count o bs es
+  pub fits : InDomains count o bs es
   pub final : es (o .last) ≡ e
 
 -- and what a search must find: each end of such a placement

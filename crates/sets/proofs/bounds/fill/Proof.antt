@@ -4,7 +4,7 @@ use mathlib.Core.Path.{_≡_}
 use native.Mathlib.Omega.{arith}
 use lib.ListN.{length}
 use Rattle.bitset.proofs.In.{in-zero}
-use Rattle.sets.specs.Code.Search.{EndsHave, Within, BoundsHave}
+use Rattle.sets.specs.Code.Search.{EndsHave, InSpan, BoundsHave}
 use borrow.Author.Needs.{needs}
 use Rattle.sets.proofs.bounds.fill.Statement.{statement}
 use Rattle.sets.proofs.bounds.fill.Tie as tie
@@ -12,7 +12,7 @@ use Rattle.sets.proofs.bounds.fill.Tie as tie
 abbrev Inv-loop : tie.InvT-loop
 Inv-loop conds ends count a z bounds₀ p₀ bounds p =
     (p ≤ count * 4) × (length bounds ≡ 2052)
-    × ((bs es : ℕ → ℕ) → Within count a z bs es → EndsHave count ends bs es → BoundsHave count bounds bs es)
+    × ((bs es : ℕ → ℕ) → InSpan count a z bs es → EndsHave count ends bs es → BoundsHave count bounds bs es)
 
 abbrev μ-loop : tie.MeasureT-loop
 μ-loop conds ends count a z bounds₀ p₀ bounds p = count * 4 - p

@@ -11,7 +11,7 @@ use Rattle.bitset.proofs.In.{in-from, in-single, in-zero, empty-entry}
 use Rattle.sets.specs.Code.Rows.{entryAt}
 use Rattle.sets.specs.Code.Search.{SearchReady, Masked, ReadsWith}
 use Rattle.sets.proofs.Leaves.{top-ends}
-use Rattle.sets.proofs.Stored.{row-found, every-full, no-begins}
+use Rattle.sets.proofs.Stored.{row-found, every-unpruned, no-begins}
 use borrow.Author.Needs.{needs}
 use Rattle.sets.proofs.placing.place.Statement.{statement}
 use Rattle.sets.proofs.placing.place.Tie as tie
@@ -55,7 +55,7 @@ fill-requires c κs =
     let g = s .pre in
     let all : (e : ℕ) → e < 64 → In (c .before .before .before .before .from .result) e
     = λ e l. in-from (c .before .before .before .before .from .ensures) e .1 (omega arith, l) in
-    (g .formed, g .rows, moments s .0, moments s .1, every-full all, every-full all, refl, refl)
+    (g .formed, g .rows, moments s .0, moments s .1, every-unpruned all, every-unpruned all, refl, refl)
 
 ends-at-requires : tie.Need-ends-at-requires
 ends-at-requires c κs =

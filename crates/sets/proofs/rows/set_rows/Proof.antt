@@ -11,7 +11,7 @@ use Rattle.model.specs.Code.Table.{InTable}
 use Rattle.sets.specs.Code.Set.{SetRule}
 use Rattle.sets.specs.Code.Rows.{taskSetOf}
 use Rattle.sets.specs.Code.Search.{SearchReady}
-use Rattle.sets.proofs.Stored.{RowsTo, rows-none, rows-more, rows-done, ready-from, row-found, every-full}
+use Rattle.sets.proofs.Stored.{RowsTo, rows-none, rows-more, rows-done, ready-from, row-found, every-unpruned}
 use borrow.Author.Needs.{needs}
 use Rattle.sets.proofs.rows.set_rows.Statement.{statement}
 use Rattle.sets.proofs.rows.set_rows.Tie as tie
@@ -44,7 +44,7 @@ fill-requires c κs =
     let g = s .pre in
     let all : (e : ℕ) → e < 64 → In (c .before .before .before .before .before .from .result) e
     = λ e l. in-from (c .before .before .before .before .before .from .ensures) e .1 (omega arith, l) in
-    (g .formed, λ i l. omega (arith, g .lower i l, g .room), omega arith, omega arith, every-full all, every-full all, refl, refl)
+    (g .formed, λ i l. omega (arith, g .lower i l, g .room), omega arith, omega arith, every-unpruned all, every-unpruned all, refl, refl)
 
 fill-requires-2 : tie.Need-fill-requires-2 Inv-loop μ-loop
 fill-requires-2 c κs = let s = entry (c .before .before) in (few s, omega arith, s .pre .formed .moments, refl, λ q. empty-entry 2052 q)

@@ -8,7 +8,7 @@ use lib.ListN.{length, getD, set, length-set}
 use Rattle.bitset.specs.Code.Members.{In}
 use Rattle.bitset.proofs.In.{in-both, in-from, in-below, in-single, in-without, in-zero}
 use Rattle.sets.specs.Code.Rows.{entryAt}
-use Rattle.sets.specs.Code.Search.{pairAt, InTables, Fits}
+use Rattle.sets.specs.Code.Search.{pairAt, InTables, InDomains}
 use Rattle.sets.proofs.Narrowing.{Has, Ordered, has-start, has-next, has-end}
 use borrow.Author.Needs.{needs}
 use Rattle.sets.proofs.search.put.Statement.{statement}
@@ -72,7 +72,7 @@ next c bs es tab ord q final h =
     )) h
 
 -- what the set has before the first turn
-start : (l : tie.At-loop Inv-loop μ-loop) (bs es : ℕ → ℕ) → let s = entry l in let a = s .args in Fits (a .count) (a .state) bs es → bs (a .i) ≡ a .x
+start : (l : tie.At-loop Inv-loop μ-loop) (bs es : ℕ → ℕ) → let s = entry l in let a = s .args in InDomains (a .count) (a .state) bs es → bs (a .i) ≡ a .x
     → Has (a .count) (set (a .state .begins) (a .i) (l .before .before .before .before .single .result)) (a .state .ends)
     (l .before .before .before .before .before .before .before .without .result) (a .state .last) (entryAt (a .state .ends) (a .state .last)) bs es
 start l bs es f q =

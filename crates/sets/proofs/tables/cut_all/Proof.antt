@@ -3,14 +3,14 @@ use Prim.Native.Nat.{ℕ, _-_, _≤_, _<_}
 use native.Mathlib.Omega.{arith}
 use lib.ListN.{length, getD}
 use Rattle.words.specs.Fields.{conditionI, conditionJ}
-use Rattle.sets.specs.Code.Search.{MetByMask, Have, Within}
+use Rattle.sets.specs.Code.Search.{MetByMask, Have, InSpan}
 use borrow.Author.Needs.{needs}
 use Rattle.sets.proofs.tables.cut_all.Statement.{statement}
 use Rattle.sets.proofs.tables.cut_all.Tie as tie
 
 abbrev Inv-loop : tie.InvT-loop
 Inv-loop conds allow a z ends₀ goes₀ c₀ ends goes c =
-    (c ≤ length conds) × ((count : ℕ) (bs es : ℕ → ℕ) → Within count a z bs es → count ≤ 4
+    (c ≤ length conds) × ((count : ℕ) (bs es : ℕ → ℕ) → InSpan count a z bs es → count ≤ 4
     → ((d : ℕ) → d < c → (conditionI (getD conds d 0) < count) × (conditionJ (getD conds d 0) < count) × MetByMask conds allow bs d
     (es (conditionI (getD conds d 0))))
     → Have ends₀ goes₀ count bs es → Have ends goes count bs es)

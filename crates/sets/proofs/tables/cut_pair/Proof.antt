@@ -2,7 +2,7 @@
 use Prim.Native.Nat.{ℕ, _+_, _-_, _*_, _≤_, _<_}
 use native.Mathlib.Omega.{arith}
 use Rattle.bitset.proofs.In.{in-both}
-use Rattle.sets.specs.Code.Search.{Have, Fewer, Within}
+use Rattle.sets.specs.Code.Search.{Have, Fewer, InSpan}
 use Rattle.sets.proofs.Pairs.{pair-more, fewer-more}
 use borrow.Author.Needs.{needs}
 use Rattle.sets.proofs.tables.cut_pair.Statement.{statement}
@@ -11,7 +11,7 @@ use Rattle.sets.proofs.tables.cut_pair.Tie as tie
 abbrev Inv-loop : tie.InvT-loop
 Inv-loop i j a z ends₀ goes₀ x₀ ends goes x =
     (a ≤ x) × (x ≤ z + 1) × Fewer ends₀ ends
-    × ((count : ℕ) (bs es : ℕ → ℕ) → i < count → j < count → count ≤ 4 → Within count a z bs es → Have ends₀ goes₀ count bs es
+    × ((count : ℕ) (bs es : ℕ → ℕ) → i < count → j < count → count ≤ 4 → InSpan count a z bs es → Have ends₀ goes₀ count bs es
     → Have ends goes count bs es)
 
 abbrev μ-loop : tie.MeasureT-loop

@@ -2,7 +2,7 @@
 -- nothing.
 use Prim.Native.Nat.{ℕ, _-_, _*_, _≤_}
 use native.Mathlib.Omega.{arith}
-use Rattle.sets.specs.Code.Search.{Have, Fewer, Within}
+use Rattle.sets.specs.Code.Search.{Have, Fewer, InSpan}
 use borrow.Author.Needs.{needs}
 use Rattle.sets.proofs.tables.cut_pairs.Statement.{statement}
 use Rattle.sets.proofs.tables.cut_pairs.Tie as tie
@@ -10,7 +10,7 @@ use Rattle.sets.proofs.tables.cut_pairs.Tie as tie
 abbrev Inv-loop : tie.InvT-loop
 Inv-loop conds count a z ends₀ goes₀ p₀ ends goes p =
     (p ≤ count * 4) × Fewer ends₀ ends
-    × ((bs es : ℕ → ℕ) → Within count a z bs es → Have ends₀ goes₀ count bs es → Have ends goes count bs es)
+    × ((bs es : ℕ → ℕ) → InSpan count a z bs es → Have ends₀ goes₀ count bs es → Have ends goes count bs es)
 
 abbrev μ-loop : tie.MeasureT-loop
 μ-loop conds count a z ends₀ goes₀ p₀ ends goes p = count * 4 - p
@@ -18,7 +18,7 @@ abbrev μ-loop : tie.MeasureT-loop
 loop-again : tie.Need-loop-again Inv-loop μ-loop
 loop-again c =
     let l = c .before .before .before .before .loop in
-    let o = c .cut-tied .ensures in
+    let o = c .cut-constrained .ensures in
     (omega arith, λ p e t. l .inv .1 p e (o .0 p e t), λ bs es w h. o .1 bs es w (l .inv .2 bs es w h))
 
 pub cut-pairs-spec : {M : Type 1} → statement M
