@@ -10,6 +10,10 @@ ghost use Rattle.sets.specs.Code.Bounds.{Grows, Marked, Bounded};
 use crate::search;
 use words::MOMENTS;
 
+// The bounds have 1024 words of later ends, 1024 of sooner ones, and for each member j a word of the members w for which they are filled.
+const SOONER: usize = 1024;
+const FILLED: usize = 2048;
+
 // Marks begin y in row p at the last and at the first of its ends.
 fn mark(p: usize, y: u32, mask: u64, bounds: &mut [u64; 2052])
     requires { ⌜ (p < 16) × (y < 64) × (length (now bounds) ≡ 2052) ⌝ }
@@ -21,7 +25,7 @@ fn mark(p: usize, y: u32, mask: u64, bounds: &mut [u64; 2052])
     let begin = bitset::single(y);
     let late = p * MOMENTS + bitset::highest(mask) as usize;
     bounds[late] = bitset::union(bounds[late], begin);
-    let soon = 1024 + p * MOMENTS + bitset::lowest(mask) as usize;
+    let soon = SOONER + p * MOMENTS + bitset::lowest(mask) as usize;
     bounds[soon] = bitset::union(bounds[soon], begin);
 }
 
@@ -72,7 +76,7 @@ fn fill_pair(ends: &[u64; 1024], p: usize, a: u32, z: u32, bounds: &mut [u64; 20
 {
     mark_pair(ends, p, a, z, bounds);
     join_down(p * MOMENTS, bounds);
-    join_up(1024 + p * MOMENTS, bounds);
+    join_up(SOONER + p * MOMENTS, bounds);
 }
 
 // Whether some condition ties the end of member w to the begin of member j.
@@ -116,7 +120,7 @@ fn fill_tied(
     }
     if tied(conds, w, j) {
         fill_pair(ends, w * 4 + j, a, z, bounds);
-        bounds[2048 + j] = bitset::union(bounds[2048 + j], bitset::single(w as u32));
+        bounds[FILLED + j] = bitset::union(bounds[FILLED + j], bitset::single(w as u32));
     }
 }
 
@@ -148,7 +152,7 @@ fn beside(bounds: &[u64; 2052], p: usize, ends: u64) -> u64
         return 0;
     }
     let late = bounds[p * MOMENTS + bitset::lowest(ends) as usize];
-    let soon = bounds[1024 + p * MOMENTS + bitset::highest(ends) as usize];
+    let soon = bounds[SOONER + p * MOMENTS + bitset::highest(ends) as usize];
     bitset::inter(late, soon)
 }
 
@@ -158,7 +162,7 @@ fn bounded(bounds: &[u64; 2052], count: usize, j: usize, begins: u64, ends: [u64
     ensures { λ r. ⌜ ((bs es : ℕ → ℕ) → BoundsHave count (now (bounds .entry)) bs es → In begins (bs j) → ((i : ℕ) → i < count → In (entryAt ends i) (es i)) → In r (bs j)) × ((x : ℕ) → In r x → In begins x) ⌝ }
 {
     let mut r = begins;
-    let mut rest = bitset::inter(bounds[2048 + j], bitset::upto(count as u32 - 1));
+    let mut rest = bitset::inter(bounds[FILLED + j], bitset::upto(count as u32 - 1));
     while rest != 0 {
         let w = bitset::lowest(rest) as usize;
         r = bitset::inter(r, beside(bounds, w * 4 + j, ends[w]));
@@ -179,7 +183,7 @@ pub fn tighten(bounds: &[u64; 2052], count: usize, state: search::Open) -> searc
     let ends = state.ends;
     let mut j = 0;
     while j < count {
-        if bounds[2048 + j] != 0 {
+        if bounds[FILLED + j] != 0 {
             let kept = bounded(bounds, count, j, begins[j], ends);
             if kept == 0 {
                 return search::Open {

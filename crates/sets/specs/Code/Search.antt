@@ -105,7 +105,7 @@ Unpruned t = (p e : ℕ) → p < 1024 → e < 64 → In (getD t p 0) e
 -- were, and what a placement has is in the table
 pub record OwnRow (R : ℕ → ℕ → Type 0) (goes : List ℕ) (i a z : ℕ) (old new : List ℕ) (x : ℕ) : Type 0 where
   pub own : (y e : ℕ) → a ≤ y → y < x → In (pairAt new i i y) e → R y e × (y ≤ e) × (e ≤ z)
-  pub others : (q : ℕ) → q < i * 320 → getD new q 0 ≡ getD old q 0
+  pub others : (q : ℕ) → q < (i * 4 + i) * 64 → getD new q 0 ≡ getD old q 0
   pub kept : (count : ℕ) (bs es : ℕ → ℕ) → i < count → count ≤ 4 → InSpan count a z bs es → R (bs i) (es i) → GoesHave count goes bs → EndsHave count old bs es → EndsHave count new bs es
 
 -- the same for the first k members
