@@ -12,6 +12,7 @@ use words::MOMENTS;
 
 // The bounds have 1024 words of later ends, 1024 of sooner ones, and for each member j a word of the members w for which they are filled.
 const SOONER: usize = 1024;
+
 const FILLED: usize = 2048;
 
 // Marks begin y in row p at the last and at the first of its ends.

@@ -17,6 +17,9 @@ Inv-loop conds ends count a z bounds₀ p₀ bounds p =
 abbrev μ-loop : tie.MeasureT-loop
 μ-loop conds ends count a z bounds₀ p₀ bounds p = count * 4 - p
 
+abbrev entry : tie.After-fill-tied-arg Inv-loop μ-loop → tie.Start Inv-loop μ-loop
+entry c = c .before .before .before .before
+
 loop-again : tie.Need-loop-again Inv-loop μ-loop
 loop-again c =
     let l = c .before .before .before .loop in
@@ -25,7 +28,7 @@ loop-again c =
 
 fill-tied-requires : tie.Need-fill-tied-requires Inv-loop μ-loop
 fill-tied-requires c κs =
-    let s = c .before .before .before .before in
+    let s = entry c in
     (s .pre .0, omega (arith, c .before .loop-test .taken), s .pre .1, s .pre .2, c .before .before .loop .inv .1)
 
 pub fill-spec : {M : Type 1} → statement M

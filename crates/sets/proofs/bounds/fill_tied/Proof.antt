@@ -9,10 +9,16 @@ use borrow.Author.Needs.{needs}
 use Rattle.sets.proofs.bounds.fill_tied.Statement.{statement}
 use Rattle.sets.proofs.bounds.fill_tied.Tie as tie
 
+abbrev entry : tie.Else3 → tie.Start
+entry c = c .before .before .before .before .before
+
+abbrev other : tie.After-fill-pair → tie.Else1
+other c = c .before .before .before .before .before
+
 returns-3 : tie.Need-returns-3
 returns-3 c =
     let f = c .before .before .before in
-    let k = f .before .before .before .before .before in
+    let k = other f in
     let s = k .before .before in
     let a = s .args in
     let o = f .fill-pair .ensures in
@@ -32,4 +38,4 @@ fill-tied-spec =
     (tie.spec (λ c. (c .before .before .pre .4, λ bs es within ends have. have)) (λ c. (c .before .before .before .pre .4, λ bs es within ends have. have))
     (λ c κs. search needs) (λ c. search needs) (λ c. search needs) (λ c κs. search needs) (λ c. search needs) (λ c. search needs) (λ c. search needs)
     (λ c. search needs) (λ c κs. search needs) (λ c κs. search needs) (λ c. search needs) (λ c. search needs) (λ c. search needs) returns-3
-    (λ c. (c .before .before .before .before .before .pre .4, λ bs es within ends have. have)))
+    (λ c. (entry c .pre .4, λ bs es within ends have. have)))

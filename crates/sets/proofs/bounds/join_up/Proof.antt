@@ -20,6 +20,12 @@ Inv-loop base bounds₀ e₀ bounds e =
 abbrev μ-loop : tie.MeasureT-loop
 μ-loop base bounds₀ e₀ bounds e = 63 - e
 
+abbrev entry : tie.After-union Inv-loop μ-loop → tie.Start Inv-loop μ-loop
+entry c = c .before .before .before .before .before
+
+abbrev head : tie.After-union Inv-loop μ-loop → tie.At-loop Inv-loop μ-loop
+head c = c .before .before .before .before
+
 loop-holds : tie.Need-loop-holds Inv-loop μ-loop
 loop-holds c = (
   omega arith,
@@ -29,8 +35,8 @@ loop-holds c = (
 
 loop-again : tie.Need-loop-again Inv-loop μ-loop
 loop-again c =
-    let l = c .before .before .before .before .loop in
-    let s = c .before .before .before .before .before in
+    let l = head c .loop in
+    let s = entry c in
     let base = s .args .base in
     let e = l .e + 1 in
     let new = in-union (c .union .ensures) in

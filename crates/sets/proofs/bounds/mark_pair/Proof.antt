@@ -21,9 +21,12 @@ Inv-loop ends p a z bounds₀ window y₀ bounds y =
 abbrev μ-loop : tie.MeasureT-loop
 μ-loop ends p a z bounds₀ window y₀ bounds y = z + 1 - y
 
+abbrev head : tie.After-mark Inv-loop μ-loop → tie.At-loop Inv-loop μ-loop
+head c = c .before .before .before .before .before
+
 loop-again : tie.Need-loop-again Inv-loop μ-loop
 loop-again c =
-    let k = c .before .before .before .before .before in
+    let k = head c in
     let l = k .loop in
     let w = k .before in
     let a = w .before .args in

@@ -16,8 +16,11 @@ Inv-loop values conds a z n allow₀ c₀ allow c = (c ≤ length conds) × (len
 abbrev μ-loop : tie.MeasureT-loop
 μ-loop values conds a z n allow₀ c₀ allow c = length conds - c
 
+abbrev head : tie.After-fill-masks Inv-loop μ-loop → tie.At-loop Inv-loop μ-loop
+head c = c .before .before .before .before
+
 loop-again : tie.Need-loop-again Inv-loop μ-loop
-loop-again c = let l = c .before .before .before .before .loop in
+loop-again c = let l = head c .loop in
     (omega arith, c .fill-masks .ensures .2, allowed-more (l .c) (omega arith) (l .inv .2) (c .fill-masks .ensures .0) (c .fill-masks .ensures .1))
 
 returns : tie.Need-returns Inv-loop μ-loop

@@ -12,6 +12,12 @@ use borrow.Author.Needs.{needs}
 use Rattle.sets.proofs.conditions.holds_until.Statement.{statement}
 use Rattle.sets.proofs.conditions.holds_until.Tie as tie
 
+abbrev after-between : tie.After-highest-upto → tie.After-between
+after-between c = c .before .before
+
+abbrev after-g : tie.After-minus → tie.After-g
+after-g c = c .before .before .before .before
+
 abbrev entry : tie.After-g → tie.Start
 entry c = c .before .before .before .before .before
 
@@ -30,7 +36,7 @@ returns c = λ value n k y f. let w = window (c .before) y in
 returns-2 : tie.Need-returns-2
 returns-2 c = λ value n k y f.
     let g = c .before .before in
-    let w = window (g .before .before .before .before) y in (
+    let w = window (after-between (g .before .before)) y in (
       λ t.
           let o = w .0 t in
           let h = until value k _ f (top g) (y + entry g .args .first) (λ t l u. (omega arith, omega arith)) in
@@ -40,9 +46,9 @@ returns-2 c = λ value n k y f.
 
 returns-3 : tie.Need-returns-3
 returns-3 c = λ value n k y f.
-    let g = c .before .before .before .before in
+    let g = after-g c in
     let d = in-minus (c .minus .ensures) y in
-    let w = window (g .before .before .before .before) y in
+    let w = window (after-between (g .before .before)) y in
     let v = in-upto (c .before .upto .ensures) y in (
       λ t.
           let o = d .0 t in
@@ -57,7 +63,7 @@ returns-3 c = λ value n k y f.
 
 returns-4 : tie.Need-returns-4
 returns-4 c = λ value n k y f.
-    let s = c .before .before .before .before in
+    let s = after-between (c .before .before) in
     let a = s .before .args in
     let none : (t : ℕ) → t ≤ a .x - a .last → has (a .fails) t ≡ false
     = subst (HighestUpto _ _) (c .enum-told .given .1) (c .before .before .highest-upto .ensures) in

@@ -18,6 +18,12 @@ Inv-loop conds allow begins next₀ c₀ next c = (c ≤ length conds) × (lengt
 abbrev μ-loop : tie.MeasureT-loop
 μ-loop conds allow begins next₀ c₀ next c = length conds - c
 
+abbrev head : tie.After-partner Inv-loop μ-loop → tie.At-loop Inv-loop μ-loop
+head c = c .before .before .before .before .before .before
+
+abbrev turn : tie.After-partner Inv-loop μ-loop → tie.In-loop Inv-loop μ-loop
+turn c = c .before .before .before .before .before
+
 abbrev entry : tie.After-partner Inv-loop μ-loop → tie.Start Inv-loop μ-loop
 entry c = c .before .before .before .before .before .before .before .before
 
@@ -26,7 +32,7 @@ facts : (c : tie.After-partner Inv-loop μ-loop) → let i = c .before .before .
     (i < 4) × (j < 4) × (entryAt (entry c .args .t3) i < 64) × (entryAt (entry c .args .t3) j < 64) × (length (entry c .args .conds .now) ≤ 8)
 facts c =
     let s = entry c in
-    let l = c .before .before .before .before .before in
+    let l = turn c in
     let n = s .pre .named (l .before .loop .c) (l .loop-test .taken) in
     let i : c .before .before .condition-i .result < 4 = omega (arith, n .0, c .before .before .condition-i .ensures .0) in
     let k : c .before .condition-j .result < 4 = omega (arith, n .1, c .before .condition-j .ensures .0) in (
@@ -40,7 +46,7 @@ facts c =
 loop-again : tie.Need-loop-again Inv-loop μ-loop
 loop-again c =
     let p = c .before .before .before in
-    let k = p .before .before .before .before .before .before .loop in
+    let k = head p .loop in
     let a = entry p .args in
     let qi = p .before .before .condition-i .ensures .0 in (
       omega arith,

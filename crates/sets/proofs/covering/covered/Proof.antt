@@ -19,12 +19,21 @@ Inv-loop begins ends count b least₀ i₀ least i =
 abbrev μ-loop : tie.MeasureT-loop
 μ-loop begins ends count b least₀ i₀ least i = count - i
 
+abbrev entry : tie.In-loop Inv-loop μ-loop → tie.Start Inv-loop μ-loop
+entry c = c .before .before .before .before
+
+abbrev head : tie.Joined3 Inv-loop μ-loop → tie.At-loop Inv-loop μ-loop
+head c = c .before .before .before .before
+
+abbrev ended : tie.After-inter Inv-loop μ-loop → tie.At-loop Inv-loop μ-loop
+ended c = c .before .before .before .before
+
 returns-2 : tie.Need-returns-2 Inv-loop μ-loop
-returns-2 c = let s = c .before .before .before .before .before .before in
+returns-2 c = let s = entry (c .before .before) in
     in-none (λ e h. let k = h .last in let l = c .before .need .ensures e (s .pre .2 (k .at) e (k .below) (k .is)) .1 (h .needs (c .before .before .before .loop .i) (omega arith)) in omega (arith, s .pre .2 (k .at) e (k .below) (k .is), c .if2 .taken))
 
 loop-again : tie.Need-loop-again Inv-loop μ-loop
-loop-again c = let k = c .before .before .before .before .loop in let n = c .before .before .need in (
+loop-again c = let k = head c .loop in let n = c .before .before .need in (
   omega arith,
   ⊎-elim (λ w. omega arith) (λ w. omega arith) (c .if3 .came),
   λ e l. all-more (k .inv .2 e l) (n .ensures e l) (⊎-elim (λ w. (λ h. (omega arith, omega arith), λ h. let u = h .1 in omega arith)) (λ w. (λ h. (omega arith, omega arith), λ h. let u = h .0 in omega arith)) (c .if3 .came)),
@@ -32,7 +41,7 @@ loop-again c = let k = c .before .before .before .before .loop in let n = c .bef
 
 returns-3 : tie.Need-returns-3 Inv-loop μ-loop
 returns-3 c = λ e.
-    let k = c .before .before .before .before in
+    let k = ended c in
     let s = k .before .before .before in
     let both = in-both (c .inter .ensures) e in
     let late = in-from (c .before .from .ensures) e in
@@ -52,5 +61,5 @@ covered-spec =
     (tie.spec Inv-loop μ-loop (λ c κs. search needs)
     (λ c. in-none (λ e h. not-both (c .before .begins-at .ensures .1 (h .first)) (not-true _ (c .if1 .taken))))
     (λ c. (omega arith, omega arith, λ e l. (λ h j k. absurd (omega arith), λ h. omega arith)))
-    (λ c κs. omega (arith, c .before .before .before .before .pre .1 (c .before .loop .i))) returns-2 (λ c. search needs) (λ c. search needs)
+    (λ c κs. omega (arith, entry c .pre .1 (c .before .loop .i))) returns-2 (λ c. search needs) (λ c. search needs)
     loop-again (λ c κs. search needs) (λ c κs. search needs) (λ c κs. search needs) returns-3)

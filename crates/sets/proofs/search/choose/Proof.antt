@@ -14,9 +14,12 @@ Inv-loop count state last begins best₀ i₀ best i = (i ≤ count) × (best < 
 abbrev μ-loop : tie.MeasureT-loop
 μ-loop count state last begins best₀ i₀ best i = count - i
 
+abbrev entry : tie.After-lowest Inv-loop μ-loop → tie.Start Inv-loop μ-loop
+entry c = c .before .before .before .before
+
 loop-holds : tie.Need-loop-holds Inv-loop μ-loop
 loop-holds c =
-    let s = c .before .before .before .before in
+    let s = entry c in
     let m : In (s .args .state .left) (c .lowest .result) = record { yes = c .lowest .ensures .member } in
     (omega arith, omega (arith, s .pre .3 _ m), m)
 

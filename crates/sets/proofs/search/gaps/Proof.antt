@@ -30,13 +30,16 @@ Inv-loop count state last begins ends r₀ i₀ r i = (i ≤ count) × ((g : ℕ
 abbrev μ-loop : tie.MeasureT-loop
 μ-loop count state last begins ends r₀ i₀ r i = count - i
 
+abbrev entry : tie.After-lowest Inv-loop μ-loop → tie.Start Inv-loop μ-loop
+entry c = c .before .before .before .before .before .before
+
 loop-holds : tie.Need-loop-holds Inv-loop μ-loop
 loop-holds c = (
   omega arith,
   λ g bs es t f.
       let w = in-between (c .between .ensures) g .0 t in
       let l = c .before in
-      let s = l .before .before .before .before .before .before in
+      let s = entry l in
       let e = lowest-le (l .lowest .ensures) (f .ends (s .args .state .last) (s .pre .1) .yes) in
       record { after = w .0; upto = omega (arith, w .1, e); left = λ j l. absurd (omega arith) },
 )

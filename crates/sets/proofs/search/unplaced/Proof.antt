@@ -20,10 +20,16 @@ Inv-loop later count a z last goal every ends₀ i₀ ends i =
 abbrev μ-loop : tie.MeasureT-loop
 μ-loop later count a z last goal every ends₀ i₀ ends i = count - i
 
+abbrev entry : tie.After-ends Inv-loop μ-loop → tie.Start Inv-loop μ-loop
+entry c = c .before .before .before .before
+
+abbrev after-between : tie.After-upto Inv-loop μ-loop → tie.After-between Inv-loop μ-loop
+after-between c = c .before .before .before .before
+
 loop-again : tie.Need-loop-again Inv-loop μ-loop
 loop-again c =
     let k = c .before .before .loop in
-    let s = c .before .before .before .before in
+    let s = entry c in
     let L = s .args .later .now in
     let a = s .args .a in
     let v = getD L (k .i * 64 + a) 0 in (
@@ -37,7 +43,7 @@ loop-again c =
 returns : tie.Need-returns Inv-loop μ-loop
 returns c =
     let k = c .before .before .before .loop in
-    let e = c .before .before .before .before in
+    let e = after-between c in
     let s = e .before in
     let left = in-upto (c .upto .ensures) in (
       refl,

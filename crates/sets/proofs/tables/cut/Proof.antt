@@ -18,10 +18,16 @@ Inv-loop table₀ p allow c a z y₀ table y =
 abbrev μ-loop : tie.MeasureT-loop
 μ-loop table₀ p allow c a z y₀ table y = z + 1 - y
 
+abbrev entry : tie.After-inter Inv-loop μ-loop → tie.Start Inv-loop μ-loop
+entry c = c .before .before .before .before .before
+
+abbrev head : tie.After-inter Inv-loop μ-loop → tie.At-loop Inv-loop μ-loop
+head c = c .before .before .before .before
+
 loop-again : tie.Need-loop-again Inv-loop μ-loop
 loop-again c =
-    let l = c .before .before .before .before .loop in
-    let s = c .before .before .before .before .before in (
+    let l = head c .loop in
+    let s = entry c in (
       omega arith,
       omega arith,
       λ q e t h. in-kept (l .table) (s .args .p * 64 + l .y) (c .inter .result) (l .inv .2 q e t h)

@@ -18,6 +18,9 @@ Inv-loop conds allow a z ends₀ goes₀ c₀ ends goes c =
 abbrev μ-loop : tie.MeasureT-loop
 μ-loop conds allow a z ends₀ goes₀ c₀ ends goes c = length conds - c
 
+abbrev head : tie.After-cut-for Inv-loop μ-loop → tie.At-loop Inv-loop μ-loop
+head c = c .before .before .before .before .before
+
 cut-for-requires : tie.Need-cut-for-requires Inv-loop μ-loop
 cut-for-requires c κs =
     let t = c .before .before .before in
@@ -26,7 +29,7 @@ cut-for-requires c κs =
     (omega (arith, s .pre .0, t .loop-test .taken), m .0, m .1, s .pre .2, s .pre .3)
 
 loop-again : tie.Need-loop-again Inv-loop μ-loop
-loop-again c = let l = c .before .before .before .before .before .loop in (
+loop-again c = let l = head c .loop in (
   omega arith,
   λ count bs es w few met have.
       let m = met (l .c) (omega arith) in

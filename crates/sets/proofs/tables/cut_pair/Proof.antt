@@ -17,14 +17,20 @@ Inv-loop i j a z ends₀ goes₀ x₀ ends goes x =
 abbrev μ-loop : tie.MeasureT-loop
 μ-loop i j a z ends₀ goes₀ x₀ ends goes x = z + 1 - x
 
+abbrev turn : tie.After-inter Inv-loop μ-loop → tie.In-loop Inv-loop μ-loop
+turn c = c .before .before .before .before .before .before .before
+
+abbrev after-partners : tie.After-inter Inv-loop μ-loop → tie.After-partners Inv-loop μ-loop
+after-partners c = c .before .before .before .before
+
 loop-again : tie.Need-loop-again Inv-loop μ-loop
 loop-again c =
-    let t = c .before .before .before .before .before .before .before in
+    let t = turn c in
     let l = t .before .loop in
     let s = t .before .before in
     let i = s .args .i in
     let j = s .args .j in
-    let r = c .before .before .before .before .partners in
+    let r = after-partners c .partners in
     let k = (i * 4 + i) * 64 + l .x in
     let both = in-both (c .inter .ensures) in (
       omega arith,

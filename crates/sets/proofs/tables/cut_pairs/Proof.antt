@@ -15,9 +15,15 @@ Inv-loop conds count a z ends₀ goes₀ p₀ ends goes p =
 abbrev μ-loop : tie.MeasureT-loop
 μ-loop conds count a z ends₀ goes₀ p₀ ends goes p = count * 4 - p
 
+abbrev entry : tie.After-cut-constrained-arg2 Inv-loop μ-loop → tie.Start Inv-loop μ-loop
+entry c = c .before .before .before .before .before
+
+abbrev head : tie.After-cut-constrained Inv-loop μ-loop → tie.At-loop Inv-loop μ-loop
+head c = c .before .before .before .before
+
 loop-again : tie.Need-loop-again Inv-loop μ-loop
 loop-again c =
-    let l = c .before .before .before .before .loop in
+    let l = head c .loop in
     let o = c .cut-constrained .ensures in
     (omega arith, λ p e t. l .inv .1 p e (o .0 p e t), λ bs es w h. o .1 bs es w (l .inv .2 bs es w h))
 
@@ -25,5 +31,5 @@ pub cut-pairs-spec : {M : Type 1} → statement M
 cut-pairs-spec =
     tie.close
     (tie.spec Inv-loop μ-loop (λ c. (omega arith, λ p e t. t, λ bs es w h. h)) (λ c. search needs)
-    (λ c κs. let s = c .before .before .before .before .before in (s .pre .0, omega arith, s .pre .1, s .pre .2))
+    (λ c κs. let s = entry c in (s .pre .0, omega arith, s .pre .1, s .pre .2))
     (λ c. search needs) (λ c. search needs) loop-again (λ c. (c .before .loop .inv .1, c .before .loop .inv .2)))

@@ -19,10 +19,13 @@ Inv-loop ends count a z later₀ i₀ later i =
 abbrev μ-loop : tie.MeasureT-loop
 μ-loop ends count a z later₀ i₀ later i = count - i
 
+abbrev entry : tie.After-fill-later-row Inv-loop μ-loop → tie.Start Inv-loop μ-loop
+entry c = c .before .before .before .before
+
 loop-again : tie.Need-loop-again Inv-loop μ-loop
 loop-again c =
     let l = c .before .before .before .loop in
-    let s = c .before .before .before .before in
+    let s = entry c in
     let E = s .args .ends .now in
     let new = c .fill-later-row .last .1 .1 .1 .1 .0 in
     let o = c .fill-later-row .ensures in (

@@ -24,10 +24,13 @@ Inv-loop ends i a z later₀ all₀ x₀ later all x =
 abbrev μ-loop : tie.MeasureT-loop
 μ-loop ends i a z later₀ all₀ x₀ later all x = x
 
+abbrev entry : tie.After-union Inv-loop μ-loop → tie.Start Inv-loop μ-loop
+entry c = c .before .before .before .before
+
 loop-again : tie.Need-loop-again Inv-loop μ-loop
 loop-again c =
     let l = c .before .before .before .loop in
-    let s = c .before .before .before .before in
+    let s = entry c in
     let g = c .before .before .loop-test .taken in
     let x = l .x - 1 in
     let i = s .args .i in

@@ -8,12 +8,15 @@ use borrow.Author.Needs.{needs}
 use Rattle.sets.proofs.tables.own_row.Statement.{statement}
 use Rattle.sets.proofs.tables.own_row.Tie as tie
 
+abbrev begun : tie.After-inter2 → tie.Else1
+begun c = c .before .before .before .before .before
+
 returns-2 : tie.Need-returns-2
 returns-2 c = λ e.
     let row = in-both (c .before .before .inter .ensures) e in
     let upto = in-between (c .before .before .before .between .ensures) e in
     let both = in-both (c .inter2 .ensures) e in
-    let h = c .before .before .before .before .before in (
+    let h = begun c in (
       λ t. let u = both .0 t in let v = row .0 (u .0) in let w = upto .0 (v .1) in
           (v .0, w .0, w .1, u .1, record { yes = sym (h .before .has .ensures) ∙ not-false _ (h .if1 .left) }),
       λ t. both .1 (row .1 (t .0, upto .1 (t .1, t .2)), t .3),
