@@ -7,11 +7,9 @@ ghost use Prim.Native.Nat.{ℕ, _+_, _*_, _<_, _≤_};
 ghost use lib.ListN.{length, getD};
 ghost use Rattle.bitset.specs.Code.Members.{In};
 ghost use Rattle.words.specs.Fields.{memberNode, conditionI, conditionJ};
-ghost use Rattle.sets.specs.Set.{memberCount};
-ghost use Rattle.sets.specs.Code.Set.{member, Formed};
 ghost use Rattle.sets.specs.Code.Rows.{taskSetOf};
 ghost use Rattle.model.specs.Code.Table.{InTable};
-ghost use Rattle.sets.specs.Code.Search.{pairAt, MetAtMask, MetByMask, Have, Fewer, Cut, InSpan, Unpruned, OwnRow, OwnRows, Tables};
+ghost use Rattle.sets.specs.Code.Search.{pairAt, MetAtMask, MetByMask, Have, Fewer, Cut, InSpan, OwnRow, OwnRows, Fillable, Tables};
 use crate::conditions;
 use words::MOMENTS;
 
@@ -314,7 +312,7 @@ pub fn fill(
     goes: &mut [u64; 1024],
     later: &mut [u64; 256],
 )
-    requires { ⌜ Formed (taskSetOf (now members) (now conds) (now values) n) × ((i : ℕ) → i < memberCount (taskSetOf (now members) (now conds) (now values) n) → member (taskSetOf (now members) (now conds) (now values) n) i * 64 + 64 ≤ length (now table)) × (a ≤ z) × (z ≤ n) × Unpruned (now ends) × Unpruned (now goes) × (length (now allow) ≡ 512) × (length (now later) ≡ 256) ⌝ }
+    requires { ⌜ Fillable (taskSetOf (now members) (now conds) (now values) n) (now table) a z (now allow) (now ends) (now goes) (now later) ⌝ }
     ensures { λ _. ⌜ Tables (taskSetOf (now (members .entry)) (now (conds .entry)) (now (values .entry)) n) (InTable (now (table .entry))) a z (now (allow .exit)) (now (ends .exit)) (now (goes .exit)) (now (later .exit)) ⌝ }
 {
     conditions::fill_allowed(values, conds, a, z, n, allow);

@@ -10,6 +10,7 @@ use Rattle.words.specs.Fields.{memberNode, conditionI, conditionJ}
 use Rattle.model.specs.Forms.{ConditionForm, BeginAfterBegin, BeginAfterEnd, HoldsBefore, HoldsAfter, HoldsBetween, ReservedCondition, conditionForm}
 use Rattle.model.specs.Code.Table.{InTable}
 use Rattle.sets.specs.Set.{TaskSet, memberCount, MetAt, Covers}
+use Rattle.sets.specs.Code.Set.{member, Formed}
 use Rattle.sets.specs.Code.Rows.{entryAt, Placed}
 use Rattle.sets.specs.declared.search.Open.{Open}
 use Rattle.sets.specs.declared.search.Found.{Found}
@@ -113,6 +114,17 @@ pub record OwnRows (members table goes : List ℕ) (a z : ℕ) (old new : List �
   pub own : (i x e : ℕ) → i < k → a ≤ x → x ≤ z → In (pairAt new i i x) e → InTable table (memberNode (getD members i 0)) x e × (x ≤ e) × (e ≤ z)
   pub kept : (bs es : ℕ → ℕ) → InSpan (length members) a z bs es → ((i : ℕ) → i < length members → InTable table (memberNode (getD members i 0)) (bs i) (es i))
       → GoesHave (length members) goes bs → EndsHave (length members) old bs es → EndsHave (length members) new bs es
+
+-- what filling the tables of a set for the moments a..z needs: tables that nothing is left out of, and arrays of their length
+pub record Fillable (s : TaskSet) (table : List ℕ) (a z : ℕ) (allow ends goes later : List ℕ) : Type 0 where
+  pub formed : Formed s
+  pub rows : (i : ℕ) → i < memberCount s → member s i * 64 + 64 ≤ length table
+  pub forward : a ≤ z
+  pub upto : z ≤ s .last
+  pub unpruned-ends : Unpruned ends
+  pub unpruned-goes : Unpruned goes
+  pub allow-long : length allow ≡ 512
+  pub later-long : length later ≡ 256
 
 -- the tables have these begins and ends: ends of i where j begins, begins of j where i begins, ends of i begun at x or later
 pub record InTables (E G L : List ℕ) (count lo : ℕ) (bs es : ℕ → ℕ) : Type 0 where
