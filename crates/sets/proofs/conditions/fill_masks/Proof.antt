@@ -2,6 +2,7 @@
 use Prim.Native.Nat.{ℕ, _+_, _-_, _*_, _≤_, _<_}
 use mathlib.Core.Path.{_≡_, refl, _∙_}
 use mathlib.Core.Logic.{_↔_}
+use mathlib.Core.List.{List}
 use native.Mathlib.Omega.{arith}
 use lib.ListN.{length, getD, length-set}
 use lib.Seq.{getD-set-other}
@@ -13,11 +14,16 @@ use borrow.Author.Needs.{needs}
 use Rattle.sets.proofs.conditions.fill_masks.Statement.{statement}
 use Rattle.sets.proofs.conditions.fill_masks.Tie as tie
 
+-- the masks of condition c for the begins before x
+record Masks (values : List ℕ) (w c a z n : ℕ) (old allow : List ℕ) (x : ℕ) : Type 0 where
+  from : a ≤ x
+  upto : x ≤ z + 1
+  long : length allow ≡ 512
+  masks : (u y : ℕ) → a ≤ u → u < x → In (getD allow (c * 64 + u) 0) y ↔ ((a ≤ y) × (y ≤ z) × MetAt (valueIn values) n w y y u)
+  others : (p : ℕ) → p < c * 64 → getD allow p 0 ≡ getD old p 0
+
 abbrev Inv-loop : tie.InvT-loop
-Inv-loop values w c a z n allow₀ form first last fails own x₀ allow x =
-    (a ≤ x) × (x ≤ z + 1) × (length allow ≡ 512)
-    × ((u y : ℕ) → a ≤ u → u < x → In (getD allow (c * 64 + u) 0) y ↔ ((a ≤ y) × (y ≤ z) × MetAt (valueIn values) n w y y u))
-    × ((p : ℕ) → p < c * 64 → getD allow p 0 ≡ getD allow₀ p 0)
+Inv-loop values w c a z n allow₀ form first last fails own x₀ allow x = Masks values w c a z n allow₀ allow x
 
 abbrev μ-loop : tie.MeasureT-loop
 μ-loop values w c a z n allow₀ form first last fails own x₀ allow x = z + 1 - x
@@ -44,22 +50,29 @@ loop-again : tie.Need-loop-again Inv-loop μ-loop
 loop-again c =
     let s = entry c in
     let a = s .args in
-    let l = c .before .before .loop in (
-      omega arith,
-      omega arith,
-      simp length-set (l .inv .2),
-      begin-more (l .allow) (a .c * 64) (a .a) (l .x) (c .mask-at .result) (λ u y. (a .a ≤ y) × (y ≤ a .z) × MetAt (valueIn (a .values .now)) (a .n) (a .w) y y u)
-          (omega arith) (new c) (l .inv .3),
-      λ p g. getD-set-other (l .allow) (a .c * 64 + l .x) p (c .mask-at .result) 0 (omega arith) ∙ l .inv .4 p g,
-    )
+    let l = c .before .before .loop in
+    record {
+      from = omega arith;
+      upto = omega arith;
+      long = simp length-set (l .inv .long);
+      masks = begin-more (l .allow) (a .c * 64) (a .a) (l .x) (c .mask-at .result) (λ u y. (a .a ≤ y) × (y ≤ a .z) × MetAt (valueIn (a .values .now)) (a .n) (a .w) y y u)
+          (omega arith) (new c) (l .inv .masks);
+      others = λ p g. getD-set-other (l .allow) (a .c * 64 + l .x) p (c .mask-at .result) 0 (omega arith) ∙ l .inv .others p g;
+    }
 
 returns : tie.Need-returns Inv-loop μ-loop
-returns c = let l = c .before .loop in (λ x y g h. l .inv .3 x y g (omega arith), l .inv .4, l .inv .2)
+returns c = let l = c .before .loop in (λ x y g h. l .inv .masks x y g (omega arith), l .inv .others, l .inv .long)
 
 pub fill-masks-spec : {M : Type 1} → statement M
 fill-masks-spec =
     tie.close
     (tie.spec Inv-loop μ-loop (λ c κs. search needs) (λ c κs. search needs) (λ c. search needs) (λ c κs. search needs) (λ c. search needs)
     (λ c κs. search needs) (λ c κs. search needs) (λ c κs. search needs)
-    (λ c. (omega arith, omega arith, c .before .before .before .before .before .before .pre .4, λ u y g h. absurd (omega arith), λ p g. refl)) (λ c κs. search needs) (λ c. search needs)
+    (λ c. record {
+      from = omega arith;
+      upto = omega arith;
+      long = c .before .before .before .before .before .before .pre .4;
+      masks = λ u y g h. absurd (omega arith);
+      others = λ p g. refl;
+    }) (λ c κs. search needs) (λ c. search needs)
     (λ c. search needs) (λ c. search needs) (λ c. search needs) (λ c. search needs) (λ c. search needs) (λ c. search needs) loop-again returns)
