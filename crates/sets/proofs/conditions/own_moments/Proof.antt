@@ -17,14 +17,14 @@ use Rattle.sets.proofs.conditions.own_moments.Statement.{statement}
 use Rattle.sets.proofs.conditions.own_moments.Tie as tie
 
 -- the moments before y at which a condition of the form is met
-record Met (form fails first last a z n mask y : ℕ) : Type 0 where
+record MetTo (form fails first last a z n mask y : ℕ) : Type 0 where
   from : a ≤ y
   upto : y ≤ z + 1
-  before : form ≡ 2 → (value : ℕ → ℕ → ℕ) (k x : ℕ) → Failing HoldsBefore value n k last a z fails → Before (λ v. MetAs HoldsBefore value n k first last v v x) a y mask
-  after : form ≡ 3 → (value : ℕ → ℕ → ℕ) (k x : ℕ) → Failing HoldsAfter value n k last a z fails → Before (λ v. MetAs HoldsAfter value n k first last v v x) a y mask
+  holds-before : form ≡ 2 → (value : ℕ → ℕ → ℕ) (k x : ℕ) → Failing HoldsBefore value n k last a z fails → Before (λ v. MetAs HoldsBefore value n k first last v v x) a y mask
+  holds-after : form ≡ 3 → (value : ℕ → ℕ → ℕ) (k x : ℕ) → Failing HoldsAfter value n k last a z fails → Before (λ v. MetAs HoldsAfter value n k first last v v x) a y mask
 
 abbrev Inv-loop : tie.InvT-loop
-Inv-loop form fails first last a z n mask₀ y₀ mask y = Met form fails first last a z n mask y
+Inv-loop form fails first last a z n mask₀ y₀ mask y = MetTo form fails first last a z n mask y
 
 abbrev μ-loop : tie.MeasureT-loop
 μ-loop form fails first last a z n mask₀ y₀ mask y = z + 1 - y
@@ -51,8 +51,8 @@ loop-again c = let l = head c in let came = c .before .if1 .came in
     record {
       from = omega arith;
       upto = omega arith;
-      before = λ q value k x f. step c _ (⊎-elim (λ w. told (w .2) (w .1 .ensures value k (l .before .args .n) (l .before .args .a) (l .before .args .z) x (omega arith) (omega arith) f)) (λ w. absurd (w .0 .left q)) came) (l .loop .inv .before q value k x f);
-      after = λ q value k x f. step c _ (⊎-elim (λ w. let g = w .0 .taken in absurd (omega arith)) (λ w. told (w .2) (w .1 .ensures value k (l .before .args .a) (l .before .args .z) x (omega arith) (omega arith) f)) came) (l .loop .inv .after q value k x f);
+      holds-before = λ q value k x f. step c _ (⊎-elim (λ w. told (w .2) (w .1 .ensures value k (l .before .args .n) (l .before .args .a) (l .before .args .z) x (omega arith) (omega arith) f)) (λ w. absurd (w .0 .left q)) came) (l .loop .inv .holds-before q value k x f);
+      holds-after = λ q value k x f. step c _ (⊎-elim (λ w. let g = w .0 .taken in absurd (omega arith)) (λ w. told (w .2) (w .1 .ensures value k (l .before .args .a) (l .before .args .z) x (omega arith) (omega arith) f)) came) (l .loop .inv .holds-after q value k x f);
     }
 
 -- at the end they are those of a..z
@@ -64,8 +64,8 @@ all q h v = (
 
 returns : tie.Need-returns Inv-loop μ-loop
 returns c = let l = c .before .loop in (
-  λ q value k x f. all (omega arith) (l .inv .before q value k x f),
-  λ q value k x f. all (omega arith) (l .inv .after q value k x f),
+  λ q value k x f. all (omega arith) (l .inv .holds-before q value k x f),
+  λ q value k x f. all (omega arith) (l .inv .holds-after q value k x f),
 )
 
 loop-holds : tie.Need-loop-holds Inv-loop μ-loop
@@ -73,8 +73,8 @@ loop-holds c =
     record {
       from = omega arith;
       upto = omega arith;
-      before = λ q value k x f. in-none (λ v o. let l = o .0 in let g = o .1 in omega arith);
-      after = λ q value k x f. in-none (λ v o. let l = o .0 in let g = o .1 in omega arith);
+      holds-before = λ q value k x f. in-none (λ v o. let l = o .0 in let g = o .1 in omega arith);
+      holds-after = λ q value k x f. in-none (λ v o. let l = o .0 in let g = o .1 in omega arith);
     }
 
 pub own-moments-spec : {M : Type 1} → statement M

@@ -33,8 +33,11 @@ Turn = tie.After-inter2 Inv-loop μ-loop
 abbrev loop : Turn → tie.At-loop Inv-loop μ-loop
 loop c = c .before .before .before .before
 
-abbrev without : Turn → tie.After-without Inv-loop μ-loop
-without c = loop c .before .before .before .before .before .before .before
+abbrev without : tie.At-loop Inv-loop μ-loop → tie.After-without Inv-loop μ-loop
+without l = l .before .before .before .before .before .before .before
+
+abbrev begun : tie.At-loop Inv-loop μ-loop → tie.After-single Inv-loop μ-loop
+begun l = l .before .before .before .before
 
 -- the window has what lies between `from` and the last end, which is a moment
 inside : (l : tie.At-loop Inv-loop μ-loop) (es : ℕ → ℕ) → let a = entry l .args in
@@ -48,8 +51,8 @@ inside l es final t u =
 -- one member more
 next : (c : Turn) (bs es : ℕ → ℕ) → let a = entry (loop c) .args in let l = loop c .loop in let n = c .before .before .narrowed .result in
     InTables (a .ends .now) (a .goes .now) (a .later .now) (a .count) (a .state .from) bs es → Ordered (a .count) (a .state .from) (a .state .last) bs es → bs (a .i) ≡ a .x
-    → In (entryAt (a .state .ends) (a .state .last)) (es (a .state .last)) → Has (a .count) (l .begins) (l .masks) (without c .without .result) (a .state .last) (l .sought) bs es
-    → Has (a .count) (set (l .begins) (l .j) (n .begins)) (set (l .masks) (l .j) (n .ends)) (without c .without .result) (a .state .last) (c .inter2 .result) bs es
+    → In (entryAt (a .state .ends) (a .state .last)) (es (a .state .last)) → Has (a .count) (l .begins) (l .masks) (without (loop c) .without .result) (a .state .last) (l .sought) bs es
+    → Has (a .count) (set (l .begins) (l .j) (n .begins)) (set (l .masks) (l .j) (n .ends)) (without (loop c) .without .result) (a .state .last) (c .inter2 .result) bs es
 next c bs es tab ord q final h =
     let l = loop c in
     let a = entry l .args in
@@ -73,13 +76,13 @@ next c bs es tab ord q final h =
 
 -- what the set has before the first turn
 start : (l : tie.At-loop Inv-loop μ-loop) (bs es : ℕ → ℕ) → let s = entry l in let a = s .args in InDomains (a .count) (a .state) bs es → bs (a .i) ≡ a .x
-    → Has (a .count) (set (a .state .begins) (a .i) (l .before .before .before .before .single .result)) (a .state .ends)
-    (l .before .before .before .before .before .before .before .without .result) (a .state .last) (entryAt (a .state .ends) (a .state .last)) bs es
+    → Has (a .count) (set (a .state .begins) (a .i) (begun l .single .result)) (a .state .ends)
+    (without l .without .result) (a .state .last) (entryAt (a .state .ends) (a .state .last)) bs es
 start l bs es f q =
     let s = entry l in
     let four : length (s .args .state .begins) ≡ 4 = search (needs, s) in
     has-start (s .args .state .begins) (s .args .state .ends) (s .args .i) _ (s .args .x) (omega (arith, s .pre .0, s .pre .1)) (s .pre .3)
-    (in-single (l .before .before .before .before .single .ensures)) (in-without (l .before .before .before .before .before .before .before .without .ensures)) q
+    (in-single (begun l .single .ensures)) (in-without (without l .without .ensures)) q
     (f .begins) (f .ends) (f .fixed)
 
 loop-holds : tie.Need-loop-holds Inv-loop μ-loop
@@ -91,7 +94,7 @@ returns c =
     let l = loop k in (
       refl,
       refl,
-      without k .without .ensures,
+      without l .without .ensures,
       λ bs es tab f q.
           let h = start l bs es f q in
           in-zero (c .if1 .taken) (next k bs es tab (f .inside) q (h .final) (l .loop .inv .3 bs es tab (f .inside) q h) .final),
@@ -113,7 +116,7 @@ returns-2 c =
     let a = entry l .args in (
       refl,
       refl,
-      l .before .before .before .before .before .before .before .without .ensures,
+      without l .without .ensures,
       λ bs es tab f q.
           let h = l .loop .inv .3 bs es tab (f .inside) q (start l bs es f q) in
           has-end (c .inter3 .result) (omega (arith, l .loop .inv .2, entry l .pre .0, entry l .pre .3))

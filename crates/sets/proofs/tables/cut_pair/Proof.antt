@@ -10,14 +10,14 @@ use Rattle.sets.proofs.tables.cut_pair.Statement.{statement}
 use Rattle.sets.proofs.tables.cut_pair.Tie as tie
 
 -- the tables have what they had of each placement, and no end more
-record CutTo (i j a z : ℕ) (ends₀ goes₀ ends goes : List ℕ) (x : ℕ) : Type 0 where
+record PairsCut (i j a z : ℕ) (ends₀ goes₀ ends goes : List ℕ) (x : ℕ) : Type 0 where
   from : a ≤ x
   upto : x ≤ z + 1
   fewer : Fewer ends₀ ends
   kept : (count : ℕ) (bs es : ℕ → ℕ) → i < count → j < count → count ≤ 4 → InSpan count a z bs es → Have ends₀ goes₀ count bs es → Have ends goes count bs es
 
 abbrev Inv-loop : tie.InvT-loop
-Inv-loop i j a z ends₀ goes₀ x₀ ends goes x = CutTo i j a z ends₀ goes₀ ends goes x
+Inv-loop i j a z ends₀ goes₀ x₀ ends goes x = PairsCut i j a z ends₀ goes₀ ends goes x
 
 abbrev μ-loop : tie.MeasureT-loop
 μ-loop i j a z ends₀ goes₀ x₀ ends goes x = z + 1 - x

@@ -9,13 +9,13 @@ use Rattle.sets.proofs.tables.cut_pairs.Statement.{statement}
 use Rattle.sets.proofs.tables.cut_pairs.Tie as tie
 
 -- the tables have what they had of each placement, and no end more
-record CutTo (count a z : ℕ) (ends₀ goes₀ ends goes : List ℕ) (p : ℕ) : Type 0 where
+record PairsCut (count a z : ℕ) (ends₀ goes₀ ends goes : List ℕ) (p : ℕ) : Type 0 where
   upto : p ≤ count * 4
   fewer : Fewer ends₀ ends
   kept : (bs es : ℕ → ℕ) → InSpan count a z bs es → Have ends₀ goes₀ count bs es → Have ends goes count bs es
 
 abbrev Inv-loop : tie.InvT-loop
-Inv-loop conds count a z ends₀ goes₀ p₀ ends goes p = CutTo count a z ends₀ goes₀ ends goes p
+Inv-loop conds count a z ends₀ goes₀ p₀ ends goes p = PairsCut count a z ends₀ goes₀ ends goes p
 
 abbrev μ-loop : tie.MeasureT-loop
 μ-loop conds count a z ends₀ goes₀ p₀ ends goes p = count * 4 - p
