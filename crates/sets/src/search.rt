@@ -9,7 +9,7 @@ ghost use lib.Dec.{eqb};
 ghost use lib.ListN.{length, getD};
 ghost use Rattle.bitset.specs.Code.Members.{has, In, IsSetOf};
 ghost use Rattle.sets.specs.Code.Rows.{entryAt};
-ghost use Rattle.sets.specs.Code.Search.{pairAt, EndAt, Masked, InTables, SearchReady, BoundsHave, InDomains, Grown, FindsAll};
+ghost use Rattle.sets.specs.Code.Search.{pairAt, EndAt, Masked, InTables, SearchReady, UnplacedReady, OpenReady, PutReady, BoundsHave, InDomains, Grown, FindsAll};
 use crate::bounds;
 use crate::conditions;
 use crate::covering;
@@ -75,7 +75,7 @@ fn put(
     i: usize,
     x: u32,
 ) -> Open
-    requires { ⌜ (count ≤ 4) × (i < count) × (x < 64) × (state .last < count) × (state .from < 64) ⌝ }
+    requires { ⌜ PutReady count state i x ⌝ }
     ensures { λ r. ⌜ (r .from ≡ state .from) × (r .last ≡ state .last) × IsSetOf (r .left) (λ k. has (state .left) k && not (eqb k i)) × ((bs es : ℕ → ℕ) → InTables (now (ends .entry)) (now (goes .entry)) (now (later .entry)) count (state .from) bs es → InDomains count state bs es → bs i ≡ x → InDomains count r bs es) ⌝ }
 {
     let from = state.from;
@@ -231,7 +231,7 @@ fn placed(
     x: u32,
     found: u64,
 ) -> Open
-    requires { ⌜ (count ≤ 4) × (i < count) × (x < 64) × (state .last < count) × (state .from < 64) ⌝ }
+    requires { ⌜ PutReady count state i x ⌝ }
     ensures { λ r. ⌜ (r .from ≡ state .from) × (r .last ≡ state .last) × IsSetOf (r .left) (λ k. has (state .left) k && not (eqb k i)) × ((bs es : ℕ → ℕ) → InTables (now (ends .entry)) (now (goes .entry)) (now (later .entry)) count (state .from) bs es → BoundsHave count (now (bounds .entry)) bs es → InDomains count state bs es → bs i ≡ x → In found (es (state .last)) ⊎ InDomains count r bs es) ⌝ }
 {
     let next = put(ends, goes, later, count, beyond(state, found), i, x);
@@ -265,7 +265,7 @@ fn leaf(
     state: Open,
     found: Found,
 ) -> Found
-    requires { ⌜ SearchReady (now conds) (now ends) count (state .from) (found .upto) × (state .left ≡ 0) × (state .last < count) ⌝ }
+    requires { ⌜ OpenReady (now conds) (now ends) count state (found .upto) × (state .left ≡ 0) ⌝ }
     ensures { λ r. ⌜ Grown (now (conds .entry)) (now (allow .entry)) (now (ends .entry)) count (state .from) found r × ((goes later bounds : List ℕ) → FindsAll (now (conds .entry)) (now (allow .entry)) (now (ends .entry)) goes later bounds count state r) ⌝ }
 {
     let kept = found.begins;
@@ -300,7 +300,7 @@ fn search(
     state: Open,
     found: Found,
 ) -> Found
-    requires { ⌜ SearchReady (now conds) (now ends) count (state .from) (found .upto) × (state .last < count) × ((i : ℕ) → In (state .left) i → i < count) ⌝ }
+    requires { ⌜ OpenReady (now conds) (now ends) count state (found .upto) ⌝ }
     ensures { λ r. ⌜ Grown (now (conds .entry)) (now (allow .entry)) (now (ends .entry)) count (state .from) found r × FindsAll (now (conds .entry)) (now (allow .entry)) (now (ends .entry)) (now (goes .entry)) (now (later .entry)) (now (bounds .entry)) count state r ⌝ }
 {
     if state.left == 0 {
@@ -348,7 +348,7 @@ fn tries(
     i: usize,
     found: Found,
 ) -> Found
-    requires { ⌜ SearchReady (now conds) (now ends) count (state .from) (found .upto) × (state .last < count) × ((k : ℕ) → In (state .left) k → k < count) × In (state .left) i ⌝ }
+    requires { ⌜ OpenReady (now conds) (now ends) count state (found .upto) × In (state .left) i ⌝ }
     ensures { λ r. ⌜ Grown (now (conds .entry)) (now (allow .entry)) (now (ends .entry)) count (state .from) found r × FindsAll (now (conds .entry)) (now (allow .entry)) (now (ends .entry)) (now (goes .entry)) (now (later .entry)) (now (bounds .entry)) count state r ⌝ }
 {
     let begins = state.begins;
@@ -374,7 +374,7 @@ fn tries(
 
 // The set from a to z before any member is placed: each may begin at any moment, and `last` ends at one of `goal`.
 fn unplaced(later: &[u64; 256], count: usize, a: u32, z: u32, last: usize, goal: u64) -> Open
-    requires { ⌜ (0 < count) × (count ≤ 4) × (last < count) × (a ≤ z) × (z < 64) ⌝ }
+    requires { ⌜ UnplacedReady count last a z ⌝ }
     ensures { λ r. ⌜ (r .from ≡ a) × (r .last ≡ last) × ((i : ℕ) → In (r .left) i ↔ (i < count)) × ((ends goes : List ℕ) (bs es : ℕ → ℕ) → InTables ends goes (now (later .entry)) count a bs es → ((i : ℕ) → i < count → (a ≤ bs i) × (bs i ≤ es i) × (es i ≤ es last) × (es i ≤ z)) → In goal (es last) → InDomains count r bs es) ⌝ }
 {
     let every = bitset::between(a, z);

@@ -144,6 +144,28 @@ pub record SearchReady (cs ends : List ℕ) (count lo hi : ℕ) : Type 0 where
   pub moments : hi < 64
   pub onward : (i x e : ℕ) → i < count → lo ≤ x → x ≤ hi → In (pairAt ends i i x) e → (x ≤ e) × (e ≤ hi)
 
+-- what a set needs before any member is placed: `last`, which ends last, is a member
+pub record UnplacedReady (count last lo hi : ℕ) : Type 0 where
+  pub some : 0 < count
+  pub few : count ≤ 4
+  pub member : last < count
+  pub forward : lo ≤ hi
+  pub moments : hi < 64
+
+-- what a search needs of an open set: the members that it speaks of are members
+pub record OpenReady (cs ends : List ℕ) (count : ℕ) (o : Open) (hi : ℕ) : Type 0 where
+  pub ready : SearchReady cs ends count (o .from) hi
+  pub last : o .last < count
+  pub left : (i : ℕ) → In (o .left) i → i < count
+
+-- what placing member i at x needs
+pub record PutReady (count : ℕ) (o : Open) (i x : ℕ) : Type 0 where
+  pub few : count ≤ 4
+  pub member : i < count
+  pub moment : x < 64
+  pub last : o .last < count
+  pub from : o .from < 64
+
 -- begins and ends that an open set still has: members that are not left have one begin, and none ends after the one that ends last
 pub record InDomains (count : ℕ) (o : Open) (bs es : ℕ → ℕ) : Type 0 where
   pub inside : (i : ℕ) → i < count → (o .from ≤ bs i) × (bs i ≤ es i) × (es i ≤ es (o .last))

@@ -118,19 +118,19 @@ module _ (t : ℕ) where
   entry l = opened (gapped l)
 
   leaf-requires : search-lts.Need-leaf-requires (search-calls t) (search-at t) search′.Post Inv-search μ-loop-search
-  leaf-requires c κs = let p = c .before .before .before .pre .1 in (p .0, c .if1 .taken, p .1)
+  leaf-requires c κs = let p = c .before .before .before .pre .1 in (p, c .if1 .taken)
 
   returns : search-lts.Need-returns (search-calls t) (search-at t) search′.Post Inv-search μ-loop-search
   returns c = let e = c .leaf .ensures in (e .0, e .1 _ _ _)
 
   gaps-requires : search-lts.Need-gaps-requires (search-calls t) (search-at t) search′.Post Inv-search μ-loop-search
-  gaps-requires c κs = let p = c .before .before .before .pre .1 in (p .0 .few, p .1, omega (arith, p .0 .forward, p .0 .moments))
+  gaps-requires c κs = let p = c .before .before .before .pre .1 in (p .ready .few, p .last, omega (arith, p .ready .forward, p .ready .moments))
 
   choose-requires : search-lts.Need-choose-requires (search-calls t) (search-at t) search′.Post Inv-search μ-loop-search
-  choose-requires c κs = let p = opened (c .before) .pre .1 in (p .0 .few, p .1, omega (arith, c .before .before .if1 .left), p .2)
+  choose-requires c κs = let p = opened (c .before) .pre .1 in (p .ready .few, p .last, omega (arith, c .before .before .if1 .left), p .left)
 
   tries-requires : search-lts.Need-tries-requires (search-calls t) (search-at t) search′.Post Inv-search μ-loop-search
-  tries-requires c κs = let s = opened (c .before .before) in let p = s .pre in (omega (arith, p .0), (p .1 .0, p .1 .1, p .1 .2, c .choose .ensures))
+  tries-requires c κs = let s = opened (c .before .before) in let p = s .pre in (omega (arith, p .0), (p .1, c .choose .ensures))
 
   returns-2 : search-lts.Need-returns-2 (search-calls t) (search-at t) search′.Post Inv-search μ-loop-search
   returns-2 c = c .tries .ensures
@@ -162,8 +162,8 @@ module _ (t : ℕ) where
   over-requires c κs =
       let l = c .before .before in
       let p = entry l .pre .1 in
-      let m = p .2 (c .lowest2 .result) (l .loop .inv .1 (c .lowest2 .result) (record { yes = c .lowest2 .ensures .member })) in
-      (omega (arith, m, p .0 .few), l .before .before .lowest .ensures .below, l .before .last-gap .ensures .1)
+      let m = p .left (c .lowest2 .result) (l .loop .inv .1 (c .lowest2 .result) (record { yes = c .lowest2 .ensures .member })) in
+      (omega (arith, m, p .ready .few), l .before .before .lowest .ensures .below, l .before .last-gap .ensures .1)
 
   tries-requires-2 : search-lts.Need-tries-requires-2 (search-calls t) (search-at t) search′.Post Inv-search μ-loop-search
   tries-requires-2 c κs =
@@ -175,9 +175,11 @@ module _ (t : ℕ) where
       let same = ap (λ (x : ℕ). popCount x) (o .2) in (
         omega (arith, p .0, same),
         (
-          ready-as (sym (o .0)) (sym (v .0 .upto)) (p .1 .0),
-          omega (arith, o .1, p .1 .1),
-          λ i u. p .1 .2 i (subst (λ (x : ℕ). In-mask x i) (o .2) u),
+          record {
+            ready = ready-as (sym (o .0)) (sym (v .0 .upto)) (p .1 .ready);
+            last = omega (arith, o .1, p .1 .last);
+            left = λ i u. p .1 .left i (subst (λ (x : ℕ). In-mask x i) (o .2) u);
+          },
           subst (λ (x : ℕ). In-mask x (k .lowest2 .result)) (sym (o .2)) (v .1 (k .lowest2 .result) (record { yes = k .lowest2 .ensures .member })),
         ),
       )
@@ -221,8 +223,11 @@ module _ (t : ℕ) where
   abbrev kept : Placed → Kept
   kept c = c .before .before
 
+  member : (s : tries-lts.Start (tries-calls t) (tries-at t) tries.Post Inv-tries μ-loop-tries) → s .args .i < s .args .count
+  member s = s .pre .1 .0 .left _ (s .pre .1 .1)
+
   small : (s : tries-lts.Start (tries-calls t) (tries-at t) tries.Post Inv-tries μ-loop-tries) → (s .args .i < 4) × (s .args .state .last < 4)
-  small s = let p = s .pre .1 in (omega (arith, p .2 _ (p .3), p .0 .few), omega (arith, p .1, p .0 .few))
+  small s = let p = s .pre .1 .0 in (omega (arith, member s, p .ready .few), omega (arith, p .last, p .ready .few))
 
   -- the index of the member's own row
   index : (c : tries-lts.After-lowest (tries-calls t) (tries-at t) tries.Post Inv-tries μ-loop-tries) →
@@ -230,7 +235,7 @@ module _ (t : ℕ) where
   index c = (small (begun (c .before .before)) .0, c .lowest .ensures .below)
 
   loop-holds-tries : tries-lts.Need-loop-holds (tries-calls t) (tries-at t) tries.Post Inv-tries μ-loop-tries
-  loop-holds-tries c = let p = c .before .before .before .pre .1 in (grown-none, record { each = λ e bs es l s. inr (s .fits .begins _ (p .2 _ (p .3))) })
+  loop-holds-tries c = (grown-none, record { each = λ e bs es l s. inr (s .fits .begins _ (member (c .before .before .before))) })
 
   -- a begin from which the member has no end
   loop-again-tries : tries-lts.Need-loop-again (tries-calls t) (tries-at t) tries.Post Inv-tries μ-loop-tries
@@ -238,7 +243,7 @@ module _ (t : ℕ) where
       let k = c .before in
       let s = begun (round k) in
       let a = s .args in
-      let l = s .pre .1 .2 _ (s .pre .1 .3) in
+      let l = member s in
       let v = round k .loop .inv in (
         v .0,
         skipped (k .before .before .before .lowest .ensures) (k .before .drop-lowest .ensures)
@@ -247,24 +252,29 @@ module _ (t : ℕ) where
       )
 
   placed-requires : tries-lts.Need-placed-requires (tries-calls t) (tries-at t) tries.Post Inv-tries μ-loop-tries
-  placed-requires c κs = let k = c .before in let p = begun (round k) .pre .1 in
-      (p .0 .few, p .2 _ (p .3), k .before .before .before .lowest .ensures .below, p .1, omega (arith, p .0 .forward, p .0 .moments))
+  placed-requires c κs = let k = c .before in let s = begun (round k) in let p = s .pre .1 .0 in
+      record {
+        few = p .ready .few;
+        member = member s;
+        moment = k .before .before .before .lowest .ensures .below;
+        last = p .last;
+        from = omega (arith, p .ready .forward, p .ready .moments);
+      }
 
   search-requires : tries-lts.Need-search-requires (tries-calls t) (tries-at t) tries.Post Inv-tries μ-loop-tries
   search-requires c κs =
       let k = c .before .before in
       let l = round (kept k) in
       let s = begun l in
-      let p = s .pre in
+      let p = s .pre .1 in
       let w = k .placed .ensures in
-      let i = p .1 .2 _ (p .1 .3) in
-      let f = fewer (s .args .state .left) (k .placed .result .left) (s .args .i) (w .2) (p .1 .3) (omega (arith, i, p .1 .0 .few)) in (
-        omega (arith, p .0, f),
-        (
-          ready-as (sym (w .0)) (sym (l .loop .inv .0 .upto)) (p .1 .0),
-          omega (arith, w .1, p .1 .1),
-          λ j u. p .1 .2 j (in-without (w .2) j .0 u .0),
-        ),
+      let f = fewer (s .args .state .left) (k .placed .result .left) (s .args .i) (w .2) (p .1) (omega (arith, member s, p .0 .ready .few)) in (
+        omega (arith, s .pre .0, f),
+        record {
+          ready = ready-as (sym (w .0)) (sym (l .loop .inv .0 .upto)) (p .0 .ready);
+          last = omega (arith, w .1, p .0 .last);
+          left = λ j u. p .0 .left j (in-without (w .2) j .0 u .0);
+        },
       )
 
   -- a begin that is tried
@@ -289,7 +299,7 @@ module _ (t : ℕ) where
       = subst (λ (x : ℕ). entryAt (k .placed .result .ends) x ≡ 0) (sym (w .1)) (omega (arith, c .if2 .left)) in (
         v .0,
         tried (w .0) (w .1) (n .before .before .before .lowest .ensures) (n .before .drop-lowest .ensures) (w .3) grown-none
-            (finds-none (k .placed .result) (round n .loop .r) (omega (arith, w .1, s .pre .1 .1)) none) (v .1),
+            (finds-none (k .placed .result) (round n .loop .r) (omega (arith, w .1, s .pre .1 .0 .last)) none) (v .1),
       )
 
   returns-tries : tries-lts.Need-returns (tries-calls t) (tries-at t) tries.Post Inv-tries μ-loop-tries

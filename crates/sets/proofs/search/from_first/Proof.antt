@@ -44,11 +44,18 @@ sought c e bs es m t d l q r g =
     (c .placed .ensures .3 bs es t′ d f q)
 
 unplaced-requires : tie.Need-unplaced-requires
-unplaced-requires c κs = let p = c .before .pre in let r = p .0 in (r .some, r .few, p .2, r .forward, r .moments)
+unplaced-requires c κs = let p = c .before .pre in let r = p .0 in
+    record { some = r .some; few = r .few; member = p .2; forward = r .forward; moments = r .moments }
 
 placed-requires : tie.Need-placed-requires
 placed-requires c κs = let p = entry c .pre in let r = p .0 in let u = c .unplaced .ensures in
-    (r .few, p .1, omega (arith, r .forward, r .moments), omega (arith, u .1, p .2), omega (arith, u .0, r .forward, r .moments))
+    record {
+      few = r .few;
+      member = p .1;
+      moment = omega (arith, r .forward, r .moments);
+      last = omega (arith, u .1, p .2);
+      from = omega (arith, u .0, r .forward, r .moments);
+    }
 
 returns : tie.Need-returns
 returns c = let k = c .before .before in (
@@ -59,11 +66,11 @@ returns c = let k = c .before .before in (
 )
 
 search-requires : tie.Need-search-requires
-search-requires c κs = let k = c .before .before in let p = entry (k .before) .pre in let z = same k in (
-  ready-as (sym (z .0)) refl (p .0),
-  omega (arith, z .1, p .2),
-  λ i t. k .before .unplaced .ensures .2 i .0 (in-without (k .placed .ensures .2) i .0 t .0),
-)
+search-requires c κs = let k = c .before .before in let p = entry (k .before) .pre in let z = same k in record {
+  ready = ready-as (sym (z .0)) refl (p .0);
+  last = omega (arith, z .1, p .2);
+  left = λ i t. k .before .unplaced .ensures .2 i .0 (in-without (k .placed .ensures .2) i .0 t .0);
+}
 
 returns-2 : tie.Need-returns-2
 returns-2 c = let k = c .before .before .before in let n = c .search .ensures in (

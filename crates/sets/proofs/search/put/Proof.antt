@@ -3,6 +3,7 @@
 use Prim.Native.Nat.{ℕ, _+_, _-_, _*_, _≤_, _<_}
 use mathlib.Core.Path.{_≡_, refl, sym, subst}
 use mathlib.Core.Logic.{_↔_}
+use mathlib.Core.List.{List}
 use native.Mathlib.Omega.{arith}
 use lib.ListN.{length, getD, set, length-set}
 use Rattle.bitset.specs.Code.Members.{In}
@@ -14,11 +15,15 @@ use borrow.Author.Needs.{needs}
 use Rattle.sets.proofs.search.put.Statement.{statement}
 use Rattle.sets.proofs.search.put.Tie as tie
 
+-- what the set had with member i begun at x, it has after the first j members are narrowed
+record Narrowing (ends goes later : List ℕ) (count i x from last left : ℕ) (begins₀ masks₀ : List ℕ) (sought₀ : ℕ) (begins masks : List ℕ) (sought j : ℕ) : Type 0 where
+  upto : j ≤ count
+  begins-four : length begins ≡ 4
+  masks-four : length masks ≡ 4
+  kept : (bs es : ℕ → ℕ) → InTables ends goes later count from bs es → Ordered count from last bs es → bs i ≡ x → Has count begins₀ masks₀ left last sought₀ bs es → Has count begins masks left last sought bs es
+
 abbrev Inv-loop : tie.InvT-loop
-Inv-loop ends goes later count i x from last left begins₀ masks₀ sought₀ window j₀ begins masks sought j =
-    (j ≤ count) × (length begins ≡ 4) × (length masks ≡ 4)
-    × ((bs es : ℕ → ℕ) → InTables ends goes later count from bs es → Ordered count from last bs es → bs i ≡ x
-    → Has count begins₀ masks₀ left last sought₀ bs es → Has count begins masks left last sought bs es)
+Inv-loop ends goes later count i x from last left begins₀ masks₀ sought₀ window j₀ begins masks sought j = Narrowing ends goes later count i x from last left begins₀ masks₀ sought₀ begins masks sought j
 
 abbrev μ-loop : tie.MeasureT-loop
 μ-loop ends goes later count i x from last left begins₀ masks₀ sought₀ window j₀ begins masks sought j = count - j
@@ -63,12 +68,12 @@ next c bs es tab ord q final h =
     let o = ord j lj in
     let w = inside l es final in
     let k = n .ensures .0 (bs j) (es j) (h .begin j lj)
-    (subst (λ (z : ℕ). In (pairAt (a .goes .now) (a .i) j z) (bs j)) q (tab .goes (a .i) j (entry l .pre .1) lj))
+    (subst (λ (z : ℕ). In (pairAt (a .goes .now) (a .i) j z) (bs j)) q (tab .goes (a .i) j (entry l .pre .member) lj))
     (w (bs j) (omega (arith, o)) .1 (o .0)) (h .end j lj)
-    (subst (λ (z : ℕ). In (pairAt (a .ends .now) j (a .i) z) (es j)) q (tab .ends j (a .i) lj (entry l .pre .1)))
+    (subst (λ (z : ℕ). In (pairAt (a .ends .now) j (a .i) z) (es j)) q (tab .ends j (a .i) lj (entry l .pre .member)))
     (w (es j) (o .2) .1 (omega (arith, o)))
     (λ z t g. tab .later j z lj (in-from (l .before .before .before .from .ensures) z .0 (in-both (l .before .inter .ensures) z .0 t .0) .0) g) in
-    has-next j _ _ _ (omega (arith, v .1, entry l .pre .0, lj)) (omega (arith, v .2, entry l .pre .0, lj)) (k .0) (k .1) (n .ensures .1)
+    has-next j _ _ _ (omega (arith, v .begins-four, entry l .pre .few, lj)) (omega (arith, v .masks-four, entry l .pre .few, lj)) (k .0) (k .1) (n .ensures .1)
     (in-both (c .inter2 .ensures) (es (a .state .last)) .1 (
       h .final,
       c .before .from-lowest .ensures (es (a .state .last)) .1 (record { member = es j; in-x = k .1; from = o .2; below = w (es (a .state .last)) (omega arith) .0 }),
@@ -81,12 +86,13 @@ start : (l : tie.At-loop Inv-loop μ-loop) (bs es : ℕ → ℕ) → let s = ent
 start l bs es f q =
     let s = entry l in
     let four : length (s .args .state .begins) ≡ 4 = search (needs, s) in
-    has-start (s .args .state .begins) (s .args .state .ends) (s .args .i) _ (s .args .x) (omega (arith, s .pre .0, s .pre .1)) (s .pre .3)
+    has-start (s .args .state .begins) (s .args .state .ends) (s .args .i) _ (s .args .x) (omega (arith, s .pre .few, s .pre .member)) (s .pre .last)
     (in-single (begun l .single .ensures)) (in-without (without l .without .ensures)) q
     (f .begins) (f .ends) (f .fixed)
 
 loop-holds : tie.Need-loop-holds Inv-loop μ-loop
-loop-holds c = (omega arith, search needs, search needs, λ bs es t o q h. h)
+loop-holds c =
+    record { upto = omega arith; begins-four = search needs; masks-four = search needs; kept = λ bs es t o q h. h }
 
 returns : tie.Need-returns Inv-loop μ-loop
 returns c =
@@ -97,18 +103,19 @@ returns c =
       without l .without .ensures,
       λ bs es tab f q.
           let h = start l bs es f q in
-          in-zero (c .if1 .taken) (next k bs es tab (f .inside) q (h .final) (l .loop .inv .3 bs es tab (f .inside) q h) .final),
+          in-zero (c .if1 .taken) (next k bs es tab (f .inside) q (h .final) (l .loop .inv .kept bs es tab (f .inside) q h) .final),
     )
 
 loop-again : tie.Need-loop-again Inv-loop μ-loop
 loop-again c =
     let k = c .before in
-    let v = loop k .loop .inv in (
-      omega (arith, k .before .before .before .loop-test .taken),
-      simp length-set (v .1),
-      simp length-set (v .2),
-      λ bs es tab o q h. next k bs es tab o q (h .final) (v .3 bs es tab o q h),
-    )
+    let v = loop k .loop .inv in
+    record {
+      upto = omega (arith, k .before .before .before .loop-test .taken);
+      begins-four = simp length-set (v .begins-four);
+      masks-four = simp length-set (v .masks-four);
+      kept = λ bs es tab o q h. next k bs es tab o q (h .final) (v .kept bs es tab o q h);
+    }
 
 returns-2 : tie.Need-returns-2 Inv-loop μ-loop
 returns-2 c =
@@ -118,9 +125,9 @@ returns-2 c =
       refl,
       without l .without .ensures,
       λ bs es tab f q.
-          let h = l .loop .inv .3 bs es tab (f .inside) q (start l bs es f q) in
-          has-end (c .inter3 .result) (omega (arith, l .loop .inv .2, entry l .pre .0, entry l .pre .3))
-          (in-both (c .inter3 .ensures) (es (a .state .last)) .1 (h .end (a .state .last) (entry l .pre .3), h .final)) (f .inside) h,
+          let h = l .loop .inv .kept bs es tab (f .inside) q (start l bs es f q) in
+          has-end (c .inter3 .result) (omega (arith, l .loop .inv .masks-four, entry l .pre .few, entry l .pre .last))
+          (in-both (c .inter3 .ensures) (es (a .state .last)) .1 (h .end (a .state .last) (entry l .pre .last), h .final)) (f .inside) h,
     )
 
 pub put-spec : {M : Type 1} → statement M

@@ -44,7 +44,7 @@ loop-again c =
       four = simp length-set (k .inv .four);
       same = below-more (λ j. entryAt (set (k .ends) (k .i) v) j ≡ getD L (j * 64 + a) 0) (k .i)
           (λ j g. rw (getD-set-other (k .ends) (k .i) j v 0 (omega arith)) (k .inv .same j g))
-          (getD-set-same (k .ends) (k .i) v 0 (omega (arith, k .inv .four, s .pre .1, c .before .loop-test .taken)));
+          (getD-set-same (k .ends) (k .i) v 0 (omega (arith, k .inv .four, s .pre .few, c .before .loop-test .taken)));
     }
 
 returns : tie.Need-returns Inv-loop μ-loop
@@ -55,13 +55,13 @@ returns c =
     let left = in-upto (c .upto .ensures) in (
       refl,
       refl,
-      λ i. (λ t. omega (arith, left i .0 t, s .pre .0), λ l. left i .1 (omega arith)),
-      λ ends goes bs es h within g. let p = within (s .args .last) (s .pre .2) in record {
+      λ i. (λ t. omega (arith, left i .0 t, s .pre .some), λ l. left i .1 (omega arith)),
+      λ ends goes bs es h within g. let p = within (s .args .last) (s .pre .member) in record {
         inside = λ i l. (within i l .0, within i l .1, within i l .2);
         begins = λ i l. let w = within i l in
-            subst (λ (m : ℕ). In m (bs i)) (sym (getD-replicate 4 i (e .between .result) 0 (omega (arith, s .pre .1))))
+            subst (λ (m : ℕ). In m (bs i)) (sym (getD-replicate 4 i (e .between .result) 0 (omega (arith, s .pre .few))))
             (in-between (e .between .ensures) (bs i) .1 (w .0, omega arith));
-        ends = set-kept (k .ends) (s .args .last) (c .before .inter .result) (omega (arith, k .inv .four, s .pre .1, s .pre .2))
+        ends = set-kept (k .ends) (s .args .last) (c .before .inter .result) (omega (arith, k .inv .four, s .pre .few, s .pre .member))
             (λ l. in-both (c .before .inter .ensures) (es (s .args .last)) .1
             (rw (k .inv .same (s .args .last) (omega arith)) (h .later (s .args .last) (s .args .a) l (omega arith) (p .0)), g))
             (λ j l. rw (k .inv .same j (omega arith)) (h .later j (s .args .a) l (omega arith) (within j l .0)));
