@@ -6,7 +6,7 @@ ghost use lib.ListN.{length, getD};
 ghost use Rattle.bitset.specs.Code.Members.{In, Highest};
 ghost use Rattle.sets.specs.Code.Rows.{entryAt};
 ghost use Rattle.sets.specs.Code.Search.{EndsHave, InSpan, BoundsHave, InDomains};
-ghost use Rattle.sets.specs.Code.Bounds.{Grows, Marked, Bounded};
+ghost use Rattle.sets.specs.Code.Bounds.{BoundsReady, Grows, Marked, Bounded};
 use crate::search;
 use words::MOMENTS;
 
@@ -110,7 +110,7 @@ fn fill_tied(
     z: u32,
     bounds: &mut [u64; 2052],
 )
-    requires { ⌜ (count ≤ 4) × (w < count) × (a ≤ z) × (z < 64) × (length (now bounds) ≡ 2052) ⌝ }
+    requires { ⌜ BoundsReady count a z (now bounds) × (w < count) ⌝ }
     ensures { λ _. ⌜ (length (now (bounds .exit)) ≡ 2052) × ((bs es : ℕ → ℕ) → InSpan count a z bs es → EndsHave count (now (ends .entry)) bs es → BoundsHave count (now (bounds .entry)) bs es → BoundsHave count (now (bounds .exit)) bs es) ⌝ }
 {
     if count <= j {
@@ -134,7 +134,7 @@ pub fn fill(
     z: u32,
     bounds: &mut [u64; 2052],
 )
-    requires { ⌜ (count ≤ 4) × (a ≤ z) × (z < 64) × (length (now bounds) ≡ 2052) × ((q : ℕ) → getD (now bounds) q 0 ≡ 0) ⌝ }
+    requires { ⌜ BoundsReady count a z (now bounds) × ((q : ℕ) → getD (now bounds) q 0 ≡ 0) ⌝ }
     ensures { λ _. ⌜ ((bs es : ℕ → ℕ) → InSpan count a z bs es → EndsHave count (now (ends .entry)) bs es → BoundsHave count (now (bounds .exit)) bs es) ⌝ }
 {
     let mut p = 0;

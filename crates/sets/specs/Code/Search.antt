@@ -115,6 +115,20 @@ pub record OwnRows (members table goes : List ℕ) (a z : ℕ) (old new : List �
   pub kept : (bs es : ℕ → ℕ) → InSpan (length members) a z bs es → ((i : ℕ) → i < length members → InTable table (memberNode (getD members i 0)) (bs i) (es i))
       → GoesHave (length members) goes bs → EndsHave (length members) old bs es → EndsHave (length members) new bs es
 
+-- what cutting the tables by condition c, of word w, needs, and by all conditions
+pub record CutReady (w c a z : ℕ) : Type 0 where
+  pub number : c < 8
+  pub first : conditionI w < 4
+  pub second : conditionJ w < 4
+  pub forward : a ≤ z
+  pub moments : z < 64
+
+pub record CutsReady (cs : List ℕ) (a z : ℕ) : Type 0 where
+  pub few : length cs ≤ 8
+  pub named : (c : ℕ) → c < length cs → (conditionI (getD cs c 0) < 4) × (conditionJ (getD cs c 0) < 4)
+  pub forward : a ≤ z
+  pub moments : z < 64
+
 -- what filling the tables of a set for the moments a..z needs: tables that nothing is left out of, and arrays of their length
 pub record Fillable (s : TaskSet) (table : List ℕ) (a z : ℕ) (allow ends goes later : List ℕ) : Type 0 where
   pub formed : Formed s

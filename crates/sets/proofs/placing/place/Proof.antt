@@ -119,6 +119,7 @@ pub place-spec : {M : Type 1} → statement M
 place-spec =
     tie.close
     (tie.spec (λ c κs. search needs) fill-requires
-    (λ c κs. let s = entry (c .before .before .before) in (few s, moments s .0, omega (arith, moments s), refl, λ q. empty-entry 2052 q))
+    (λ c κs. let s = entry (c .before .before .before) in
+    (record { few = few s; forward = moments s .0; moments = omega (arith, moments s); long = refl }, λ q. empty-entry 2052 q))
     (λ c κs. let t = c .before .before .before in omega (arith, moments (entry (t .before)))) (λ c κs. ready (tables c)) ends-at-requires
     greatest-ends-requires returns)

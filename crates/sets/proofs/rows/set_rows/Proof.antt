@@ -68,7 +68,8 @@ fill-requires c κs =
     }
 
 fill-requires-2 : tie.Need-fill-requires-2 Inv-loop μ-loop
-fill-requires-2 c κs = let s = entry (c .before .before .before) in (few s, omega arith, s .pre .formed .moments, refl, λ q. empty-entry 2052 q)
+fill-requires-2 c κs = let s = entry (c .before .before .before) in
+    (record { few = few s; forward = omega arith; moments = s .pre .formed .moments; long = refl }, λ q. empty-entry 2052 q)
 
 row-requires : tie.Need-row-requires Inv-loop μ-loop
 row-requires c κs =

@@ -43,7 +43,11 @@ within c e t =
 
 covered-requires : tie.Need-covered-requires
 covered-requires c κs = let f = c .before in let r = entry f .pre .0 .ready in
-    (r .few, f .first-begins .ensures .1, λ i e l t. omega (arith, onward r (c .ends-at .ensures) (f .first-begins .ensures .0) i e l t, r .moments))
+    record {
+      few = r .few;
+      begins = f .first-begins .ensures .1;
+      ends = λ i e l t. omega (arith, onward r (c .ends-at .ensures) (f .first-begins .ensures .0) i e l t, r .moments);
+    }
 
 ends-at-requires : tie.Need-ends-at-requires
 ends-at-requires c κs = let r = entry c .pre .0 .ready in

@@ -24,9 +24,9 @@ head c = c .before .before .before .before .before
 cut-for-requires : tie.Need-cut-for-requires Inv-loop μ-loop
 cut-for-requires c κs =
     let t = c .before .before .before in
-    let s = t .before .before .before in
-    let m = s .pre .1 (t .before .loop .c) (t .loop-test .taken) in
-    (omega (arith, s .pre .0, t .loop-test .taken), m .0, m .1, s .pre .2, s .pre .3)
+    let p = t .before .before .before .pre in
+    let m = p .named (t .before .loop .c) (t .loop-test .taken) in
+    record { number = omega (arith, p .few, t .loop-test .taken); first = m .0; second = m .1; forward = p .forward; moments = p .moments }
 
 loop-again : tie.Need-loop-again Inv-loop μ-loop
 loop-again c = let l = head c .loop in (

@@ -26,8 +26,8 @@ pair c = let i = c .before .before .condition-i .ensures .0 in (
 facts : (c : tie.After-partner) → (c .before .before .condition-i .result < 4) × (c .partner .result < 4)
 facts c =
     let s = entry c in
-    let i : c .before .before .condition-i .result < 4 = omega (arith, pair c .0, s .pre .1) in
-    let j : c .before .condition-j .result < 4 = omega (arith, c .before .condition-j .ensures .0, s .pre .2) in
+    let i : c .before .before .condition-i .result < 4 = omega (arith, pair c .0, s .pre .first) in
+    let j : c .before .condition-j .result < 4 = omega (arith, c .before .condition-j .ensures .0, s .pre .second) in
     (i, subst (λ (r : ℕ). r < 4) (sym (c .partner .ensures)) (partner-less (conditionNumber (c .before .before .before .form-of .result)) i j))
 
 returns : tie.Need-returns
@@ -36,7 +36,7 @@ returns c = λ count bs es within few first second met have.
     let s = entry p in
     let f = sym (p .before .before .before .form-of .ensures .0) ∙ c .before .before .match .keys1 in
     cut-goes (s .args .allow .now) (s .args .w) (p .before .before .condition-i .result) (p .partner .result) (s .args .c) (s .args .a)
-    (s .args .z) few (s .pre .4) (pair p .0) (pair p .1) first second within met have
+    (s .args .z) few (s .pre .moments) (pair p .0) (pair p .1) first second within met have
     (λ x e. ap (λ (f : ℕ). asked (conditionNumber f) x e) f) (c .cut .ensures)
 
 returns-2 : tie.Need-returns-2
@@ -45,7 +45,7 @@ returns-2 c = λ count bs es within few first second met have.
     let s = entry p in
     let f = sym (p .before .before .before .form-of .ensures .0) ∙ c .before .before .match .keys2 in
     cut-goes (s .args .allow .now) (s .args .w) (p .before .before .condition-i .result) (p .partner .result) (s .args .c) (s .args .a)
-    (s .args .z) few (s .pre .4) (pair p .0) (pair p .1) first second within met have
+    (s .args .z) few (s .pre .moments) (pair p .0) (pair p .1) first second within met have
     (λ x e. ap (λ (f : ℕ). asked (conditionNumber f) x e) f) (c .cut2 .ensures)
 
 returns-3 : tie.Need-returns-3
@@ -55,7 +55,7 @@ returns-3 c = λ count bs es within few first second met have.
     let f = p .before .before .before .form-of in
     let n = c .before .before .match .rest in
     cut-ends (s .args .allow .now) (s .args .w) (p .before .before .condition-i .result) (p .partner .result) (s .args .c) (s .args .a)
-    (s .args .z) few (s .pre .4) (pair p .0) (pair p .1) first second within met have
+    (s .args .z) few (s .pre .moments) (pair p .0) (pair p .1) first second within met have
     (λ x e. ap (λ (f : ℕ). asked (conditionNumber f) x e) (sym (f .ensures .0)) ∙ end-asked (f .result) x e (n .0 .1) (n .1)) (c .cut3 .ensures)
 
 pub cut-for-spec : {M : Type 1} → statement M

@@ -33,7 +33,12 @@ small s = omega (arith, s .pre .formed .moments, s .pre .upto)
 
 cut-all-requires : tie.Need-cut-all-requires
 cut-all-requires c κs = let s = entry (c .before .before .before) in let f = s .pre .formed in
-    (f .conditions, λ k l. let m = f .named k l in (omega (arith, f .few), omega (arith, f .few)), s .pre .forward, small s)
+    record {
+      few = f .conditions;
+      named = λ k l. let m = f .named k l in (omega (arith, f .few), omega (arith, f .few));
+      forward = s .pre .forward;
+      moments = small s;
+    }
 
 fill-own-requires : tie.Need-fill-own-requires
 fill-own-requires c κs = let s = entry (allowed (c .before .before)) in (few s, node-rows (s .args .members .now) (s .pre .rows), s .pre .forward, small s)
