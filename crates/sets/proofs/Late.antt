@@ -1,18 +1,13 @@
 -- The bounds of begins by ends, as they are filled. Assumes nothing.
-use Prim.Native.Nat.{ℕ, _+_, _-_, _*_, _^_, _≤_, _<_}
+use Prim.Native.Nat.{ℕ, _+_, _*_, _≤_, _<_}
 use mathlib.Core.Path.{_≡_, refl, sym, subst, _∙_}
-use mathlib.Core.Bool.{true}
 use mathlib.Core.Logic.{_↔_, _⊎_, inl, by-cases, ⊎-elim}
 use mathlib.Core.List.{List}
 use native.Mathlib.Decide.{ℕ-discrete}
 use native.Mathlib.Omega.{arith}
-use lib.Dec.{leb}
-use lib.Count.{leadingZeros}
 use lib.ListN.{length, getD, set, length-set}
 use lib.Seq.{getD-set-same, getD-set-other}
-use borrow.Author.Tests.{leb-true, leb-false}
-use Rattle.bitset.specs.Code.Members.{has, In, Highest}
-use Rattle.bitset.proofs.Bools.{not-both, either}
+use Rattle.bitset.specs.Code.Members.{In}
 use Rattle.sets.specs.Code.Bounds.{Grows, Marked, Bounded}
 use Rattle.sets.specs.Code.Search.{BoundsHave}
 use Rattle.sets.proofs.Pairs.{in-kept}

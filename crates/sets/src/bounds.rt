@@ -3,7 +3,7 @@
 ghost use mathlib.Core.Path.{_≡_};
 ghost use Prim.Native.Nat.{ℕ, _+_, _*_, _<_, _≤_};
 ghost use lib.ListN.{length, getD};
-ghost use Rattle.bitset.specs.Code.Members.{In, Highest};
+ghost use Rattle.bitset.specs.Code.Members.{In};
 ghost use Rattle.sets.specs.Code.Rows.{entryAt};
 ghost use Rattle.sets.specs.Code.Search.{EndsHave, InSpan, BoundsHave, InDomains};
 ghost use Rattle.sets.specs.Code.Bounds.{BoundsReady, Grows, Marked, Bounded};

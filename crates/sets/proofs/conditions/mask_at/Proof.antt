@@ -1,5 +1,4 @@
 -- `sets::conditions::mask_at` meets its contract: in each arm the mask of the form. Assumes nothing.
-use native.Mathlib.Omega.{arith}
 use Rattle.bitset.proofs.In.{in-none}
 use Rattle.model.proofs.Forms.{no-condition}
 use Rattle.sets.proofs.Masks.{cut}

@@ -1,5 +1,4 @@
 -- `sets::covering::need` meets its contract. Assumes nothing.
-use Prim.Native.Nat.{_-_}
 use native.Mathlib.Omega.{arith}
 use Rattle.sets.proofs.Needs.{reaches, bridges, needed-own, needed-both}
 use borrow.Author.Needs.{needs}

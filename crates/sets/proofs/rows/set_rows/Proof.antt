@@ -1,6 +1,6 @@
 -- `sets::rows::set_rows` meets its contract. The invariant: the rows before b are right. Assumes nothing.
 use Prim.Native.Nat.{ℕ, _+_, _-_, _*_, _≤_, _<_}
-use mathlib.Core.Path.{_≡_, refl, sym, subst}
+use mathlib.Core.Path.{refl, subst}
 use mathlib.Core.Logic.{_↔_}
 use native.Mathlib.Omega.{arith}
 use mathlib.Core.List.{List}
@@ -8,7 +8,7 @@ use native.Mathlib.Nat.{le-refl}
 use lib.ListN.{length, length-map}
 use Rattle.words.specs.Fields.{memberNode}
 use Rattle.bitset.specs.Code.Members.{In}
-use Rattle.bitset.proofs.In.{in-below, in-from, in-between, empty-entry}
+use Rattle.bitset.proofs.In.{in-from, in-between, empty-entry}
 use Rattle.model.specs.Code.Table.{InTable}
 use Rattle.sets.specs.Code.Set.{SetRule}
 use Rattle.sets.specs.Code.Rows.{taskSetOf}

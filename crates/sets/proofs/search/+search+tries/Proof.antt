@@ -2,8 +2,8 @@
 -- measures are 2 * left + 1 and 2 * left. The loops' invariant: each placement that is sought is found, or has a member or a begin that is
 -- still to be tried. Assumes nothing.
 use Prim.Native.Nat.{ℕ, _+_, _*_, _≤_, _<_}
-use mathlib.Core.Path.{_≡_, refl, sym, ap, _∙_, subst}
-use mathlib.Core.Logic.{inr, ⊎-elim}
+use mathlib.Core.Path.{_≡_, sym, ap, subst}
+use mathlib.Core.Logic.{inr}
 use native.Mathlib.Omega.{arith}
 use borrow.Author.Needs.{needs}
 use borrow.Fn.Kinds.{In}
@@ -11,7 +11,7 @@ use borrow.Fn.PlainCycle.{Measures, is, falls, and}
 use Rattle.bitset.specs.Code.Members.{In as In-mask, popCount}
 use Rattle.bitset.proofs.In.{in-both, in-zero, in-without}
 use Rattle.sets.specs.Code.Rows.{entryAt}
-use Rattle.sets.specs.Code.Search.{pairAt, SearchReady, Grown, Sought, FindsAll}
+use Rattle.sets.specs.Code.Search.{pairAt, Grown, Sought}
 use Rattle.sets.proofs.Growth.{fewer, kept-in, grown-none, grown-more, grown-as, ready-as, Untried, Begin, tried, skipped, Over, over-both, tried-over, all-tried, finds-none}
 use Rattle.sets.proofs.search.search.Reads as search′
 use Rattle.sets.proofs.search.search.Kinds as search-kinds

@@ -1,5 +1,5 @@
 -- `sets::search::from_first` meets its contract. Assumes nothing.
-use Prim.Native.Nat.{ℕ, _≤_, _<_}
+use Prim.Native.Nat.{ℕ, _≤_}
 use mathlib.Core.Path.{_≡_, refl, sym, _∙_, subst}
 use mathlib.Core.Logic.{_⊎_, inl, inr, ⊎-elim}
 use native.Mathlib.Omega.{arith}
@@ -8,7 +8,6 @@ use Rattle.bitset.proofs.In.{in-without, in-zero}
 use Rattle.sets.specs.Code.Rows.{entryAt}
 use Rattle.sets.specs.Code.Search.{Masked, InTables, BoundsHave, Sought}
 use Rattle.sets.proofs.Growth.{grown-none, grown-as, ready-as}
-use borrow.Author.Needs.{needs}
 use Rattle.sets.proofs.search.from_first.Statement.{statement}
 use Rattle.sets.proofs.search.from_first.Tie as tie
 

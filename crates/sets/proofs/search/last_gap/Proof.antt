@@ -1,10 +1,10 @@
 -- `sets::search::last_gap` meets its contract. Assumes nothing.
-use Prim.Native.Nat.{ℕ, _<_}
+use Prim.Native.Nat.{ℕ}
 use mathlib.Core.Path.{_≡_, refl, sym, _∙_}
 use mathlib.Core.Logic.{inl, inr, by-cases}
 use native.Mathlib.Decide.{ℕ-discrete}
 use native.Mathlib.Omega.{arith}
-use Rattle.bitset.specs.Code.Members.{In, Lowest}
+use Rattle.bitset.specs.Code.Members.{In}
 use Rattle.bitset.proofs.Ends.{lowest}
 use Rattle.bitset.proofs.In.{in-below, in-zero}
 use Rattle.sets.proofs.Growth.{dropped}

@@ -1,7 +1,6 @@
 -- `sets::search::narrowed` meets its contract. Assumes nothing.
-use Prim.Native.Nat.{ℕ, _+_, _*_, _≤_, _<_}
+use Prim.Native.Nat.{ℕ}
 use mathlib.Core.Logic.{_↔_}
-use native.Mathlib.Omega.{arith}
 use Rattle.bitset.specs.Code.Members.{In}
 use Rattle.sets.specs.Code.Search.{pairAt}
 use Rattle.bitset.proofs.Ends.{lowest-le}

@@ -1,13 +1,12 @@
 -- `sets::search::placed` meets its contract. Assumes nothing.
-use Prim.Native.Nat.{ℕ, _≤_, _<_}
-use mathlib.Core.Path.{_≡_, sym, ap, _∙_, subst}
+use Prim.Native.Nat.{ℕ}
+use mathlib.Core.Path.{sym, ap, _∙_, subst}
 use mathlib.Core.Bool.{not, _&&_}
 use mathlib.Core.Logic.{inl, inr, ⊎-elim}
 use native.Mathlib.Omega.{arith}
 use lib.Dec.{eqb}
 use Rattle.bitset.specs.Code.Members.{has}
 use Rattle.sets.specs.Code.Search.{InTables}
-use borrow.Author.Needs.{needs}
 use Rattle.sets.proofs.search.placed.Statement.{statement}
 use Rattle.sets.proofs.search.placed.Tie as tie
 

@@ -1,11 +1,10 @@
 -- `sets::search::put` meets its contract. The invariant: begins and ends that the set had, with member i begun at x, it has after the first j
 -- members are narrowed. Assumes nothing.
-use Prim.Native.Nat.{ℕ, _+_, _-_, _*_, _≤_, _<_}
-use mathlib.Core.Path.{_≡_, refl, sym, subst}
-use mathlib.Core.Logic.{_↔_}
+use Prim.Native.Nat.{ℕ, _-_, _≤_, _<_}
+use mathlib.Core.Path.{_≡_, refl, subst}
 use mathlib.Core.List.{List}
 use native.Mathlib.Omega.{arith}
-use lib.ListN.{length, getD, set, length-set}
+use lib.ListN.{length, set, length-set}
 use Rattle.bitset.specs.Code.Members.{In}
 use Rattle.bitset.proofs.In.{in-both, in-from, in-below, in-single, in-without, in-zero}
 use Rattle.sets.specs.Code.Rows.{entryAt}

@@ -1,5 +1,5 @@
 -- `sets::tables::fill_own` meets its contract. The invariant: the rows of the members before i are right. Assumes nothing.
-use Prim.Native.Nat.{ℕ, _-_, _≤_}
+use Prim.Native.Nat.{_-_, _≤_}
 use native.Mathlib.Omega.{arith}
 use lib.ListN.{length}
 use Rattle.sets.specs.Code.Search.{OwnRows}

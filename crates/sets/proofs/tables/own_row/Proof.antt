@@ -1,6 +1,5 @@
 -- `sets::tables::own_row` meets its contract. Assumes nothing.
 use mathlib.Core.Path.{sym, _∙_}
-use native.Mathlib.Omega.{arith}
 use borrow.Author.Tests.{not-true, not-false}
 use Rattle.bitset.proofs.Bools.{not-both}
 use Rattle.bitset.proofs.In.{in-none, in-both, in-between}
