@@ -11,7 +11,7 @@ ghost use Rattle.sets.specs.Set.{MetAs, MetAt};
 ghost use Rattle.model.specs.Code.Arrays.{valueIn};
 ghost use Rattle.sets.specs.Code.Rows.{entryAt};
 ghost use Rattle.sets.specs.Code.Search.{asked, partner, Allowed, EndAt, pairAt};
-ghost use Rattle.sets.specs.Code.Masks.{Failing, MaskOf, Narrowable, Narrowed};
+ghost use Rattle.sets.specs.Code.Masks.{Failing, MaskOf, EndsReady, Narrowable, Narrowed};
 use words::MOMENTS;
 
 // Of the moments from a to z, those at which formula k does not hold.
@@ -292,7 +292,7 @@ pub fn ends_at(
     count: usize,
     begins: [u32; 4],
 ) -> [u64; 4]
-    requires { ⌜ (count ≤ 4) × (length (now conds) ≤ 8) × ((c : ℕ) → c < length (now conds) → (conditionI (getD (now conds) c 0) < 4) × (conditionJ (getD (now conds) c 0) < 4)) × ((i : ℕ) → entryAt begins i < 64) ⌝ }
+    requires { ⌜ EndsReady (now conds) count begins ⌝ }
     ensures { λ r. ⌜ ((i e : ℕ) → i < count → In (entryAt r i) e ↔ EndAt (now (conds .entry)) (now (allow .entry)) (now (ends .entry)) (entryAt begins) i e) ⌝ }
 {
     narrow(conds, allow, begins, own_ends(ends, count, begins))

@@ -9,7 +9,7 @@ ghost use lib.Dec.{eqb};
 ghost use lib.ListN.{getD};
 ghost use Rattle.bitset.specs.Code.Members.{has, In, IsSetOf};
 ghost use Rattle.sets.specs.Code.Rows.{entryAt};
-ghost use Rattle.sets.specs.Code.Search.{pairAt, Masked, InTables, SearchReady, UnplacedReady, OpenReady, PutReady, BoundsHave, InDomains, Grown, FindsAll};
+ghost use Rattle.sets.specs.Code.Search.{pairAt, Masked, InTables, SearchReady, UnplacedReady, OpenReady, LeafReady, TryReady, PutReady, BoundsHave, InDomains, Grown, FindsAll};
 use crate::bounds;
 use crate::conditions;
 use crate::covering;
@@ -265,7 +265,7 @@ fn leaf(
     state: Open,
     found: Found,
 ) -> Found
-    requires { ⌜ OpenReady (now conds) (now ends) count state (found .upto) × (state .left ≡ 0) ⌝ }
+    requires { ⌜ LeafReady (now conds) (now ends) count state (found .upto) ⌝ }
     ensures { λ r. ⌜ Grown (now (conds .entry)) (now (allow .entry)) (now (ends .entry)) count (state .from) found r × ((goes later bounds : List ℕ) → FindsAll (now (conds .entry)) (now (allow .entry)) (now (ends .entry)) goes later bounds count state r) ⌝ }
 {
     let kept = found.begins;
@@ -348,7 +348,7 @@ fn tries(
     i: usize,
     found: Found,
 ) -> Found
-    requires { ⌜ OpenReady (now conds) (now ends) count state (found .upto) × In (state .left) i ⌝ }
+    requires { ⌜ TryReady (now conds) (now ends) count state i (found .upto) ⌝ }
     ensures { λ r. ⌜ Grown (now (conds .entry)) (now (allow .entry)) (now (ends .entry)) count (state .from) found r × FindsAll (now (conds .entry)) (now (allow .entry)) (now (ends .entry)) (now (goes .entry)) (now (later .entry)) (now (bounds .entry)) count state r ⌝ }
 {
     let begins = state.begins;

@@ -9,7 +9,7 @@ ghost use Rattle.bitset.specs.Code.Members.{In};
 ghost use Rattle.words.specs.Fields.{memberNode, conditionI, conditionJ};
 ghost use Rattle.sets.specs.Code.Rows.{taskSetOf};
 ghost use Rattle.model.specs.Code.Table.{InTable};
-ghost use Rattle.sets.specs.Code.Search.{pairAt, MetAtMask, MetByMask, Have, Fewer, Cut, CutReady, CutsReady, InSpan, OwnRow, OwnRows, Fillable, Tables};
+ghost use Rattle.sets.specs.Code.Search.{pairAt, MetAtMask, MetByMask, Have, Fewer, Cut, CutReady, CutsReady, InSpan, OwnRow, OwnRows, LaterReady, Fillable, Tables};
 use crate::conditions;
 use words::MOMENTS;
 
@@ -275,7 +275,7 @@ fn cut_pairs(
 
 // The ends of member i begun at x or later, for each x from z down to a.
 fn fill_later_row(ends: &[u64; 1024], i: usize, a: u32, z: u32, later: &mut [u64; 256])
-    requires { ⌜ (i < 4) × (a ≤ z) × (z < 64) × (length (now later) ≡ 256) ⌝ }
+    requires { ⌜ (i < 4) × LaterReady a z (now later) ⌝ }
     ensures { λ _. ⌜ ((x y e : ℕ) → a ≤ x → x ≤ y → y ≤ z → In (pairAt (now (ends .entry)) i i y) e → In (getD (now (later .exit)) (i * 64 + x) 0) e) × ((p : ℕ) → p < i * 64 → getD (now (later .exit)) p 0 ≡ getD (now (later .entry)) p 0) × (length (now (later .exit)) ≡ 256) ⌝ }
 {
     let mut all = 0;
@@ -288,7 +288,7 @@ fn fill_later_row(ends: &[u64; 1024], i: usize, a: u32, z: u32, later: &mut [u64
 }
 
 fn fill_later(ends: &[u64; 1024], count: usize, a: u32, z: u32, later: &mut [u64; 256])
-    requires { ⌜ (count ≤ 4) × (a ≤ z) × (z < 64) × (length (now later) ≡ 256) ⌝ }
+    requires { ⌜ (count ≤ 4) × LaterReady a z (now later) ⌝ }
     ensures { λ _. ⌜ ((i x y e : ℕ) → i < count → a ≤ x → x ≤ y → y ≤ z → In (pairAt (now (ends .entry)) i i y) e → In (getD (now (later .exit)) (i * 64 + x) 0) e) ⌝ }
 {
     let mut i = 0;

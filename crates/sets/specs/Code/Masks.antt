@@ -28,6 +28,13 @@ Failing f value n k N a z r = (t : ℕ) → Seen f n N a z t → In r t ↔ (val
 abbrev pub MaskOf : ConditionForm → (ℕ → ℕ → ℕ) → ℕ → ℕ → ℕ → ℕ → ℕ → ℕ → ℕ → ℕ → Type 0
 MaskOf f value n k M N a z x r = (y : ℕ) → In r y ↔ ((a ≤ y) × (y ≤ z) × MetAs f value n k M N y y x)
 
+-- what the ends of count members with these begins need
+pub record EndsReady (cs : List ℕ) (count : ℕ) (begins : List ℕ) : Type 0 where
+  pub few : count ≤ 4
+  pub conditions : length cs ≤ 8
+  pub named : (c : ℕ) → c < length cs → (conditionI (getD cs c 0) < 4) × (conditionJ (getD cs c 0) < 4)
+  pub moments : (i : ℕ) → entryAt begins i < 64
+
 -- what the conditions need of the begins and masks of the members
 pub record Narrowable (cs begins ends : List ℕ) : Type 0 where
   pub few : length cs ≤ 8

@@ -129,6 +129,12 @@ pub record CutsReady (cs : List ℕ) (a z : ℕ) : Type 0 where
   pub forward : a ≤ z
   pub moments : z < 64
 
+-- what filling the ends begun at a moment or later needs
+pub record LaterReady (a z : ℕ) (later : List ℕ) : Type 0 where
+  pub forward : a ≤ z
+  pub moments : z < 64
+  pub long : length later ≡ 256
+
 -- what filling the tables of a set for the moments a..z needs: tables that nothing is left out of, and arrays of their length
 pub record Fillable (s : TaskSet) (table : List ℕ) (a z : ℕ) (allow ends goes later : List ℕ) : Type 0 where
   pub formed : Formed s
@@ -171,6 +177,15 @@ pub record OpenReady (cs ends : List ℕ) (count : ℕ) (o : Open) (hi : ℕ) : 
   pub ready : SearchReady cs ends count (o .from) hi
   pub last : o .last < count
   pub left : (i : ℕ) → In (o .left) i → i < count
+
+-- where all members are placed, and where member i is placed next
+pub record LeafReady (cs ends : List ℕ) (count : ℕ) (o : Open) (hi : ℕ) : Type 0 where
+  pub state : OpenReady cs ends count o hi
+  pub placed : o .left ≡ 0
+
+pub record TryReady (cs ends : List ℕ) (count : ℕ) (o : Open) (i hi : ℕ) : Type 0 where
+  pub state : OpenReady cs ends count o hi
+  pub next : In (o .left) i
 
 -- what placing member i at x needs
 pub record PutReady (count : ℕ) (o : Open) (i x : ℕ) : Type 0 where

@@ -94,7 +94,12 @@ ends-at-requires : tie.Need-ends-at-requires
 ends-at-requires c κs =
     let k = c .before .before .before in
     let r = ready (tables (k .before)) in
-    (r .few, r .conditions, λ d l. let n = r .named d l in (omega (arith, n .0, r .few), omega (arith, n .1, r .few)), k .row .ensures .0 .moments no-begins)
+    record {
+      few = r .few;
+      conditions = r .conditions;
+      named = λ d l. let n = r .named d l in (omega (arith, n .0, r .few), omega (arith, n .1, r .few));
+      moments = k .row .ensures .0 .moments no-begins;
+    }
 
 greatest-ends-requires : tie.Need-greatest-ends-requires
 greatest-ends-requires c κs =

@@ -21,7 +21,7 @@ entry c = c .before .before .before .before
 -- the set reads to what is covered, with these begins
 reads : (c : tie.After-covered) (e : ℕ) → let f = c .before .before in let a = entry f .args in
     In (c .covered .result) e → ReadsWith (a .conds .now) (a .allow .now) (a .ends .now) (a .count) (a .state .from) e (entryAt (f .first-begins .result))
-reads c e t = let f = c .before .before in reads-with (entry f .pre .0 .ready) (c .before .ends-at .ensures) (f .first-begins .ensures .0) (c .covered .ensures e .0 t)
+reads c e t = let f = c .before .before in reads-with (entry f .pre .state .ready) (c .before .ends-at .ensures) (f .first-begins .ensures .0) (c .covered .ensures e .0 t)
 
 -- and what is sought is covered
 finds : (c : tie.After-covered) (goes later bounds : List ℕ) (e : ℕ) (bs es : ℕ → ℕ) → let a = entry (c .before .before) .args in e ≤ a .found .upto
@@ -31,18 +31,18 @@ finds c goes later bounds e bs es u h =
     let s = entry f in
     let same : (i : ℕ) → i < s .args .count → bs i ≡ entryAt (f .first-begins .result) i
     = λ i l. let o = h .masked .inside i l in
-    sym (h .fits .fixed i _ l (λ t. in-zero (s .pre .1) t) (f .first-begins .ensures .2 i (bs i) l (h .fits .begins i l) (o .0) (omega (arith, o, u)))) in
-    c .covered .ensures e .1 (covers-all (s .pre .0 .ready) (c .before .ends-at .ensures) (f .first-begins .ensures .0) same (h .masked))
+    sym (h .fits .fixed i _ l (λ t. in-zero (s .pre .placed) t) (f .first-begins .ensures .2 i (bs i) l (h .fits .begins i l) (o .0) (omega (arith, o, u)))) in
+    c .covered .ensures e .1 (covers-all (s .pre .state .ready) (c .before .ends-at .ensures) (f .first-begins .ensures .0) same (h .masked))
 
 -- which is not after the last moment
 within : (c : tie.After-covered) (e : ℕ) → In (c .covered .result) e → e ≤ entry (c .before .before) .args .found .upto
 within c e t =
     let f = c .before .before in
     let k = c .covered .ensures e .0 t .last in
-    onward (entry f .pre .0 .ready) (c .before .ends-at .ensures) (f .first-begins .ensures .0) (k .at) e (k .below) (k .is) .1
+    onward (entry f .pre .state .ready) (c .before .ends-at .ensures) (f .first-begins .ensures .0) (k .at) e (k .below) (k .is) .1
 
 covered-requires : tie.Need-covered-requires
-covered-requires c κs = let f = c .before in let r = entry f .pre .0 .ready in
+covered-requires c κs = let f = c .before in let r = entry f .pre .state .ready in
     record {
       few = r .few;
       begins = f .first-begins .ensures .1;
@@ -50,8 +50,13 @@ covered-requires c κs = let f = c .before in let r = entry f .pre .0 .ready in
     }
 
 ends-at-requires : tie.Need-ends-at-requires
-ends-at-requires c κs = let r = entry c .pre .0 .ready in
-    (r .few, r .conditions, λ d l. let n = r .named d l in (omega (arith, n .0, r .few), omega (arith, n .1, r .few)), c .first-begins .ensures .1)
+ends-at-requires c κs = let r = entry c .pre .state .ready in
+    record {
+      few = r .few;
+      conditions = r .conditions;
+      named = λ d l. let n = r .named d l in (omega (arith, n .0, r .few), omega (arith, n .1, r .few));
+      moments = c .first-begins .ensures .1;
+    }
 
 -- what is added, with the begins that are kept
 grown : (u : tie.After-union) (kept : List ℕ) → let a = entry (u .before .before .before) .args in
@@ -88,5 +93,5 @@ returns-2 c = let u = c .before .before in (
 pub leaf-spec : {M : Type 1} → statement M
 leaf-spec =
     tie.close
-    (tie.spec (λ c κs. let r = c .before .before .before .pre .0 .ready in (r .few, r .forward, r .moments)) ends-at-requires covered-requires
-    (λ c κs. search needs) (λ c κs. let r = entry (c .before .before .before) .pre .0 .ready in r .moments) returns returns-2)
+    (tie.spec (λ c κs. let r = c .before .before .before .pre .state .ready in (r .few, r .forward, r .moments)) ends-at-requires covered-requires
+    (λ c κs. search needs) (λ c κs. let r = entry (c .before .before .before) .pre .state .ready in r .moments) returns returns-2)

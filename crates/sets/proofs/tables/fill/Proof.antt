@@ -47,7 +47,7 @@ cut-pairs-requires : tie.Need-cut-pairs-requires
 cut-pairs-requires c κs = let s = begun (c .before .before) in (few s, s .pre .forward, small s)
 
 fill-later-requires : tie.Need-fill-later-requires
-fill-later-requires c κs = let s = begun (own (c .before .before)) in (few s, s .pre .forward, small s, s .pre .later-long)
+fill-later-requires c κs = let s = begun (own (c .before .before)) in (few s, record { forward = s .pre .forward; moments = small s; long = s .pre .later-long })
 
 returns : tie.Need-returns
 returns c =

@@ -38,7 +38,7 @@ loop-again c =
       upto = omega arith;
       long = o .2;
       masks = λ k x y e g h m n t. by-cases (decLt k (l .i))
-          (λ b. subst (λ (v : ℕ). In v e) (sym (o .1 (k * 64 + x) (omega (arith, s .pre .0, s .pre .1, s .pre .2)))) (l .inv .masks k x y e b h m n t))
+          (λ b. subst (λ (v : ℕ). In v e) (sym (o .1 (k * 64 + x) (omega (arith, s .pre .0, s .pre .1 .forward, s .pre .1 .moments)))) (l .inv .masks k x y e b h m n t))
           (λ b.
           let q : l .i ≡ k = omega arith in
           subst (λ (k : ℕ). In (getD new (k * 64 + x) 0) e) q (o .0 x y e h m n (subst (λ (k : ℕ). In (pairAt E k k y) e) (sym q) t)));
@@ -47,5 +47,5 @@ loop-again c =
 pub fill-later-spec : {M : Type 1} → statement M
 fill-later-spec =
     tie.close
-    (tie.spec Inv-loop μ-loop (λ c. record { upto = omega arith; long = c .pre .3; masks = λ k x y e l. absurd (omega arith) }) (λ c κs. search needs) (λ c. search needs)
+    (tie.spec Inv-loop μ-loop (λ c. record { upto = omega arith; long = c .pre .1 .long; masks = λ k x y e l. absurd (omega arith) }) (λ c κs. search needs) (λ c. search needs)
     (λ c. search needs) loop-again (λ c. λ i x y e l. c .before .loop .inv .masks i x y e (omega arith)))

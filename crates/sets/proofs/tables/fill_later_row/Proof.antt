@@ -63,6 +63,6 @@ pub fill-later-row-spec : {M : Type 1} → statement M
 fill-later-row-spec =
     tie.close
     (tie.spec Inv-loop μ-loop (λ c. search needs)
-    (λ c. record { from = omega arith; upto = omega arith; long = c .pre .3; reached = λ y e l g. absurd (omega arith); masks = λ v y e l g m. absurd (omega arith); others = λ p l. refl })
+    (λ c. record { from = omega arith; upto = omega arith; long = c .pre .1 .long; reached = λ y e l g. absurd (omega arith); masks = λ v y e l g m. absurd (omega arith); others = λ p l. refl })
     (λ c. search needs) (λ c. search needs) (λ c. search needs) (λ c. search needs) (λ c. search needs) (λ c. search needs) (λ c. search needs)
     (λ c κs. search needs) (λ c. search needs) (λ c. search needs) (λ c. search needs) (λ c. search needs) (λ c. search needs) loop-again returns)
