@@ -5,7 +5,7 @@ ghost use mathlib.Core.Logic.{_↔_};
 ghost use Prim.Native.Nat.{ℕ, _+_, _*_, _<_, _≤_};
 ghost use lib.ListN.{length, getD};
 ghost use Rattle.bitset.specs.Code.Members.{has, In};
-ghost use Rattle.words.specs.Fields.{holds, conditionI, conditionJ};
+ghost use Rattle.words.specs.Fields.{holds};
 ghost use Rattle.model.specs.Forms.{conditionNumber, HoldsBefore, HoldsAfter, HoldsBetween};
 ghost use Rattle.sets.specs.Set.{MetAs, MetAt};
 ghost use Rattle.model.specs.Code.Arrays.{valueIn};
