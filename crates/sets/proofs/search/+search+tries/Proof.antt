@@ -89,8 +89,8 @@ tries-calls t = (
 -- each placement that is sought is found, or has a member of `rest` over the gaps
 record Gapped (conds allow ends goes later bounds : List ℕ) (count : ℕ) (state : Open) (g h : ℕ) (old r : Found) (rest : ℕ) : Type 0 where
   grown : Grown conds allow ends count (state .from) old r
-  left : (i : ℕ) → In-mask rest i → In-mask (state .left) i
   untried : Untried conds allow ends goes later bounds count state r (Over rest g h)
+  left : (i : ℕ) → In-mask rest i → In-mask (state .left) i
 
 abbrev Inv-search : search-lts.InvT-loop
 Inv-search conds allow ends goes later bounds count state gaps g h r₀ rest₀ r rest = Gapped conds allow ends goes later bounds count state g h r₀ r rest
@@ -162,8 +162,8 @@ module _ (t : ℕ) where
       let h = c .last-gap .ensures in
       record {
         grown = grown-none;
-        left = λ i u. u;
         untried = record { each = λ e bs es m s. inr (over-both (h .2) (left-over g _ e bs es (record { yes = l .lowest .ensures .member }) s) (left-over g _ e bs es (h .0) s)) };
+        left = λ i u. u;
       }
 
   over-requires : search-lts.Need-over-requires (search-calls t) (search-at t) search′.Post Inv-search μ-loop-search
