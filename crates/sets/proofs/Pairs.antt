@@ -208,7 +208,7 @@ fewer-more old E k v both h p e t = by-cases (ℕ-discrete p k)
 -- ---- what the tables say
 
 -- what is known of the tables once they are filled
-pub record Filled (s : TaskSet) (R : ℕ → ℕ → ℕ → Type 0) (a z : ℕ) (allow ends goes later : List ℕ) : Type 0 where
+pub record TablesFilled (s : TaskSet) (R : ℕ → ℕ → ℕ → Type 0) (a z : ℕ) (allow ends goes later : List ℕ) : Type 0 where
   pub formed : Formed s
   pub forward : a ≤ z
   pub upto : z ≤ s .last
@@ -219,7 +219,7 @@ pub record Filled (s : TaskSet) (R : ℕ → ℕ → ℕ → Type 0) (a z : ℕ)
       → ((i : ℕ) → i < memberCount s → R (member s i) (bs i) (es i)) → Have ends goes (memberCount s) bs es
   pub after : (i x y e : ℕ) → i < memberCount s → a ≤ x → x ≤ y → y ≤ z → In (pairAt ends i i y) e → In (getD later (i * 64 + x) 0) e
 
-module _ {s : TaskSet} {R : ℕ → ℕ → ℕ → Type 0} {a z : ℕ} {allow ends goes later : List ℕ} (f : Filled s R a z allow ends goes later) where
+module _ {s : TaskSet} {R : ℕ → ℕ → ℕ → Type 0} {a z : ℕ} {allow ends goes later : List ℕ} (f : TablesFilled s R a z allow ends goes later) where
   reads : (b e : ℕ) (bs es : ℕ → ℕ) → a ≤ b → e ≤ z → Masked (s .conditions) allow ends (memberCount s) b e bs es → Placed s R b e bs es
   reads b e bs es l m h =
       let first = h .inside 0 (f .formed .some) in

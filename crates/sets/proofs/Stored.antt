@@ -32,8 +32,8 @@ pub record RowsTo (s : TaskSet) (p : ℕ) (old new : List ℕ) (b : ℕ) : Type 
   pub rows : (c : ℕ) → c < b → (e : ℕ) → InTable new p c e ↔ SetRule s (InTable old) c e
   pub others : (i : ℕ) → (i < p * 64) ⊎ (p * 64 + s .last < i) → getD new i 0 ≡ getD old i 0
 
-pub rows-none : {s : TaskSet} {p : ℕ} {old : List ℕ} → RowsTo s p old old 0
-rows-none = record { long = refl; rows = λ c l. absurd (omega arith); others = λ i l. refl }
+pub no-rows-yet : {s : TaskSet} {p : ℕ} {old : List ℕ} → RowsTo s p old old 0
+no-rows-yet = record { long = refl; rows = λ c l. absurd (omega arith); others = λ i l. refl }
 
 pub rows-more : {s : TaskSet} {p : ℕ} {old new : List ℕ} (b r : ℕ) → RowsTo s p old new b → p * 64 + 64 ≤ length new → b ≤ s .last → s .last < 64
     → ((e : ℕ) → In r e ↔ SetRule s (InTable old) b e) → RowsTo s p old (set new (p * 64 + b) r) (b + 1)

@@ -6,7 +6,7 @@ ghost use lib.ListN.{length, getD};
 ghost use Rattle.bitset.specs.Code.Members.{In};
 ghost use Rattle.sets.specs.Code.Rows.{entryAt};
 ghost use Rattle.sets.specs.Code.Search.{EndsHave, InSpan, BoundsHave, InDomains};
-ghost use Rattle.sets.specs.Code.Bounds.{BoundsReady, Grows, Marked, Bounded};
+ghost use Rattle.sets.specs.Code.Bounds.{BoundsReady, Grows, EndMarked, Bounded};
 use crate::search;
 use words::MOMENTS;
 
@@ -18,7 +18,7 @@ const FILLED: usize = 2048;
 // Marks begin y in row p at the last and at the first of its ends.
 fn mark(p: usize, y: u32, mask: u64, bounds: &mut [u64; 2052])
     requires { ⌜ (p < 16) × (y < 64) × (length (now bounds) ≡ 2052) ⌝ }
-    ensures { λ _. ⌜ Grows (now (bounds .entry)) (now (bounds .exit)) × ((e : ℕ) → In mask e → Marked (now (bounds .exit)) p y e) ⌝ }
+    ensures { λ _. ⌜ Grows (now (bounds .entry)) (now (bounds .exit)) × ((e : ℕ) → In mask e → EndMarked (now (bounds .exit)) p y e) ⌝ }
 {
     if mask == 0 {
         return;
@@ -33,7 +33,7 @@ fn mark(p: usize, y: u32, mask: u64, bounds: &mut [u64; 2052])
 // Does so for the begins from a to z, by the ends in row p of the table.
 fn mark_pair(ends: &[u64; 1024], p: usize, a: u32, z: u32, bounds: &mut [u64; 2052])
     requires { ⌜ (p < 16) × (a ≤ z) × (z < 64) × (length (now bounds) ≡ 2052) ⌝ }
-    ensures { λ _. ⌜ Grows (now (bounds .entry)) (now (bounds .exit)) × ((y e : ℕ) → a ≤ y → y ≤ z → a ≤ e → e ≤ z → In (getD (now (ends .entry)) (p * 64 + y) 0) e → Marked (now (bounds .exit)) p y e) ⌝ }
+    ensures { λ _. ⌜ Grows (now (bounds .entry)) (now (bounds .exit)) × ((y e : ℕ) → a ≤ y → y ≤ z → a ≤ e → e ≤ z → In (getD (now (ends .entry)) (p * 64 + y) 0) e → EndMarked (now (bounds .exit)) p y e) ⌝ }
 {
     let window = bitset::between(a, z);
     let mut y = a;

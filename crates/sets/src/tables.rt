@@ -9,7 +9,7 @@ ghost use Rattle.bitset.specs.Code.Members.{In};
 ghost use Rattle.words.specs.Fields.{memberNode, conditionI, conditionJ};
 ghost use Rattle.sets.specs.Code.Rows.{taskSetOf};
 ghost use Rattle.model.specs.Code.Table.{InTable};
-ghost use Rattle.sets.specs.Code.Search.{pairAt, MetAtMask, MetByMask, Have, Fewer, Cut, CutReady, CutsReady, InSpan, OwnRow, OwnRows, LaterReady, Fillable, Tables};
+ghost use Rattle.sets.specs.Code.Search.{pairAt, MetAtMask, MetByMask, Have, Fewer, Cut, ConditionReady, ConditionsReady, InSpan, OwnRow, OwnRows, LaterReady, TablesReady, Tables};
 use crate::conditions;
 use words::MOMENTS;
 
@@ -35,7 +35,7 @@ fn cut_for(
     ends: &mut [u64; 1024],
     goes: &mut [u64; 1024],
 )
-    requires { ⌜ CutReady w c a z ⌝ }
+    requires { ⌜ ConditionReady w c a z ⌝ }
     ensures { λ _. ⌜ ((count : ℕ) (bs es : ℕ → ℕ) → InSpan count a z bs es → count ≤ 4 → conditionI w < count → conditionJ w < count → MetAtMask w (now (allow .entry)) bs c (es (conditionI w)) → Have (now (ends .entry)) (now (goes .entry)) count bs es → Have (now (ends .exit)) (now (goes .exit)) count bs es) ⌝ }
 {
     let form = words::form_of(w);
@@ -57,7 +57,7 @@ fn cut_all(
     ends: &mut [u64; 1024],
     goes: &mut [u64; 1024],
 )
-    requires { ⌜ CutsReady (now conds) a z ⌝ }
+    requires { ⌜ ConditionsReady (now conds) a z ⌝ }
     ensures { λ _. ⌜ ((count : ℕ) (bs es : ℕ → ℕ) → InSpan count a z bs es → count ≤ 4 → ((c : ℕ) → c < length (now (conds .entry)) → (conditionI (getD (now (conds .entry)) c 0) < count) × (conditionJ (getD (now (conds .entry)) c 0) < count) × MetByMask (now (conds .entry)) (now (allow .entry)) bs c (es (conditionI (getD (now (conds .entry)) c 0)))) → Have (now (ends .entry)) (now (goes .entry)) count bs es → Have (now (ends .exit)) (now (goes .exit)) count bs es) ⌝ }
 {
     let mut c = 0;
@@ -312,7 +312,7 @@ pub fn fill(
     goes: &mut [u64; 1024],
     later: &mut [u64; 256],
 )
-    requires { ⌜ Fillable (taskSetOf (now members) (now conds) (now values) n) (now table) a z (now allow) (now ends) (now goes) (now later) ⌝ }
+    requires { ⌜ TablesReady (taskSetOf (now members) (now conds) (now values) n) (now table) a z (now allow) (now ends) (now goes) (now later) ⌝ }
     ensures { λ _. ⌜ Tables (taskSetOf (now (members .entry)) (now (conds .entry)) (now (values .entry)) n) (InTable (now (table .entry))) a z (now (allow .exit)) (now (ends .exit)) (now (goes .exit)) (now (later .exit)) ⌝ }
 {
     conditions::fill_allowed(values, conds, a, z, n, allow);

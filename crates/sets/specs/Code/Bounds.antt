@@ -20,7 +20,7 @@ pub record Grows (old new : List ℕ) : Type 0 where
   pub words : (q : ℕ) → 2048 ≤ q → getD new q 0 ≡ getD old q 0
 
 -- begin y stands in row p at some end that is not before e, and at some end that is not after e
-pub record Marked (bounds : List ℕ) (p y e : ℕ) : Type 0 where
+pub record EndMarked (bounds : List ℕ) (p y e : ℕ) : Type 0 where
   pub high : ℕ
   pub low : ℕ
   pub above : e ≤ high

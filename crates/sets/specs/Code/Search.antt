@@ -116,14 +116,14 @@ pub record OwnRows (members table goes : List ℕ) (a z : ℕ) (old new : List �
       → GoesHave (length members) goes bs → EndsHave (length members) old bs es → EndsHave (length members) new bs es
 
 -- what cutting the tables by condition c, of word w, needs, and by all conditions
-pub record CutReady (w c a z : ℕ) : Type 0 where
+pub record ConditionReady (w c a z : ℕ) : Type 0 where
   pub number : c < 8
   pub first : conditionI w < 4
   pub second : conditionJ w < 4
   pub forward : a ≤ z
   pub moments : z < 64
 
-pub record CutsReady (cs : List ℕ) (a z : ℕ) : Type 0 where
+pub record ConditionsReady (cs : List ℕ) (a z : ℕ) : Type 0 where
   pub few : length cs ≤ 8
   pub named : (c : ℕ) → c < length cs → (conditionI (getD cs c 0) < 4) × (conditionJ (getD cs c 0) < 4)
   pub forward : a ≤ z
@@ -136,7 +136,7 @@ pub record LaterReady (a z : ℕ) (later : List ℕ) : Type 0 where
   pub long : length later ≡ 256
 
 -- what filling the tables of a set for the moments a..z needs: tables that nothing is left out of, and arrays of their length
-pub record Fillable (s : TaskSet) (table : List ℕ) (a z : ℕ) (allow ends goes later : List ℕ) : Type 0 where
+pub record TablesReady (s : TaskSet) (table : List ℕ) (a z : ℕ) (allow ends goes later : List ℕ) : Type 0 where
   pub formed : Formed s
   pub rows : (i : ℕ) → i < memberCount s → member s i * 64 + 64 ≤ length table
   pub forward : a ≤ z
@@ -227,7 +227,7 @@ pub record Grown (cs allow ends : List ℕ) (count b : ℕ) (old new : Found) : 
   pub moments : ((i : ℕ) → entryAt (old .begins) i < 64) → (i : ℕ) → entryAt (new .begins) i < 64
 
 -- a placement to e that an open set still has
-pub record Sought (cs allow ends goes later bounds : List ℕ) (count : ℕ) (o : Open) (e : ℕ) (bs es : ℕ → ℕ) : Type 0 where
+pub record SoughtPlacement (cs allow ends goes later bounds : List ℕ) (count : ℕ) (o : Open) (e : ℕ) (bs es : ℕ → ℕ) : Type 0 where
   pub masked : Masked cs allow ends count (o .from) e bs es
   pub tables : InTables ends goes later count (o .from) bs es
   pub bounded : BoundsHave count bounds bs es
@@ -236,7 +236,7 @@ pub record Sought (cs allow ends goes later bounds : List ℕ) (count : ℕ) (o 
 
 -- and what a search must find: each end of such a placement
 abbrev pub FindsAll : List ℕ → List ℕ → List ℕ → List ℕ → List ℕ → List ℕ → ℕ → Open → Found → Type 0
-FindsAll cs allow ends goes later bounds count o r = (e : ℕ) (bs es : ℕ → ℕ) → e ≤ r .upto → Sought cs allow ends goes later bounds count o e bs es → In (r .ends) e
+FindsAll cs allow ends goes later bounds count o r = (e : ℕ) (bs es : ℕ → ℕ) → e ≤ r .upto → SoughtPlacement cs allow ends goes later bounds count o e bs es → In (r .ends) e
 
 -- what the tables of a set for the moments a..z say: by the masks and own rows the set reads as it does by R, and they have the begins and
 -- ends of each placement

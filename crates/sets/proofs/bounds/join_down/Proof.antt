@@ -15,13 +15,13 @@ use Rattle.sets.proofs.bounds.join_down.Statement.{statement}
 use Rattle.sets.proofs.bounds.join_down.Tie as tie
 
 -- the entries from e on have what those after them have
-record Joined (base : ℕ) (old bounds : List ℕ) (e : ℕ) : Type 0 where
+record JoinedTo (base : ℕ) (old bounds : List ℕ) (e : ℕ) : Type 0 where
   upto : e ≤ 63
   grows : Grows old bounds
   above : (d f y : ℕ) → e ≤ d → d ≤ f → f < 64 → In (getD old (base + f) 0) y → In (getD bounds (base + d) 0) y
 
 abbrev Inv-loop : tie.InvT-loop
-Inv-loop base bounds₀ e₀ bounds e = Joined base bounds₀ bounds e
+Inv-loop base bounds₀ e₀ bounds e = JoinedTo base bounds₀ bounds e
 
 abbrev μ-loop : tie.MeasureT-loop
 μ-loop base bounds₀ e₀ bounds e = e

@@ -15,13 +15,13 @@ use Rattle.sets.proofs.bounds.join_up.Statement.{statement}
 use Rattle.sets.proofs.bounds.join_up.Tie as tie
 
 -- the entries up to e have what those before them have
-record Joined (base : ℕ) (old bounds : List ℕ) (e : ℕ) : Type 0 where
+record JoinedTo (base : ℕ) (old bounds : List ℕ) (e : ℕ) : Type 0 where
   upto : e ≤ 63
   grows : Grows old bounds
   below : (d f y : ℕ) → d ≤ e → f ≤ d → In (getD old (base + f) 0) y → In (getD bounds (base + d) 0) y
 
 abbrev Inv-loop : tie.InvT-loop
-Inv-loop base bounds₀ e₀ bounds e = Joined base bounds₀ bounds e
+Inv-loop base bounds₀ e₀ bounds e = JoinedTo base bounds₀ bounds e
 
 abbrev μ-loop : tie.MeasureT-loop
 μ-loop base bounds₀ e₀ bounds e = 63 - e

@@ -8,7 +8,7 @@ use native.Mathlib.Omega.{arith}
 use lib.ListN.{getD}
 use Rattle.bitset.specs.Code.Members.{In}
 use Rattle.bitset.proofs.In.{in-both, in-between}
-use Rattle.sets.specs.Code.Bounds.{Grows, Marked}
+use Rattle.sets.specs.Code.Bounds.{Grows, EndMarked}
 use Rattle.sets.proofs.Late.{grows-none, grows-more, marked-more, marked-same}
 use borrow.Author.Needs.{needs}
 use Rattle.sets.proofs.bounds.mark_pair.Statement.{statement}
@@ -19,7 +19,7 @@ record MarkedTo (ends : List ℕ) (p a z : ℕ) (old bounds : List ℕ) (y : ℕ
   from : a ≤ y
   upto : y ≤ z + 1
   grows : Grows old bounds
-  marked : (v e : ℕ) → a ≤ v → v < y → a ≤ e → e ≤ z → In (getD ends (p * 64 + v) 0) e → Marked bounds p v e
+  marked : (v e : ℕ) → a ≤ v → v < y → a ≤ e → e ≤ z → In (getD ends (p * 64 + v) 0) e → EndMarked bounds p v e
 
 abbrev Inv-loop : tie.InvT-loop
 Inv-loop ends p a z bounds₀ window y₀ bounds y = MarkedTo ends p a z bounds₀ bounds y

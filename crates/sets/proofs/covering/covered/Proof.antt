@@ -14,13 +14,13 @@ use Rattle.sets.proofs.covering.covered.Statement.{statement}
 use Rattle.sets.proofs.covering.covered.Tie as tie
 
 -- from the end `least` on, the first i members ask nothing more
-record Asked (begins ends : List ℕ) (count b least i : ℕ) : Type 0 where
+record NeedsTo (begins ends : List ℕ) (count b least i : ℕ) : Type 0 where
   upto : i ≤ count
   moment : least < 64
   needs : (e : ℕ) → e < 64 → (least ≤ e) ↔ ((j : ℕ) → j < i → Needed count (entryAt begins) (entryAt ends) b j e)
 
 abbrev Inv-loop : tie.InvT-loop
-Inv-loop begins ends count b least₀ i₀ least i = Asked begins ends count b least i
+Inv-loop begins ends count b least₀ i₀ least i = NeedsTo begins ends count b least i
 
 abbrev μ-loop : tie.MeasureT-loop
 μ-loop begins ends count b least₀ i₀ least i = count - i

@@ -13,7 +13,7 @@ use Rattle.model.specs.Code.Table.{InTable}
 use Rattle.sets.specs.Code.Set.{SetRule}
 use Rattle.sets.specs.Code.Rows.{taskSetOf}
 use Rattle.sets.specs.Code.Search.{SearchReady}
-use Rattle.sets.proofs.Stored.{RowsTo, rows-none, rows-more, rows-done, ready-from, row-found, every-unpruned}
+use Rattle.sets.proofs.Stored.{RowsTo, no-rows-yet, rows-more, rows-done, ready-from, row-found, every-unpruned}
 use borrow.Author.Needs.{needs}
 use Rattle.sets.proofs.rows.set_rows.Statement.{statement}
 use Rattle.sets.proofs.rows.set_rows.Tie as tie
@@ -116,5 +116,5 @@ room c =
 pub set-rows-spec : {M : Type 1} → statement M
 set-rows-spec =
     tie.close
-    (tie.spec Inv-loop μ-loop (λ c κs. search needs) fill-requires fill-requires-2 (λ c. (omega arith, rows-none)) between-requires row-requires (λ c. omega (arith, room c)) (λ c. search needs)
+    (tie.spec Inv-loop μ-loop (λ c κs. search needs) fill-requires fill-requires-2 (λ c. (omega arith, no-rows-yet)) between-requires row-requires (λ c. omega (arith, room c)) (λ c. search needs)
     (λ c. omega (arith, room c)) (λ c. omega (arith, room c)) (λ c. room c .0) (λ c. search needs) (λ c. search needs) loop-again (λ c. c .before .loop .inv .1 .long) (λ c. rows-done (omega (arith, c .loop-test .left)) (c .before .loop .inv .1)))

@@ -12,7 +12,7 @@ use borrow.Fn.PlainCycle.{Measures, is, falls, and}
 use Rattle.bitset.specs.Code.Members.{In as In-mask, popCount}
 use Rattle.bitset.proofs.In.{in-both, in-zero, in-without}
 use Rattle.sets.specs.Code.Rows.{entryAt}
-use Rattle.sets.specs.Code.Search.{pairAt, Grown, Sought}
+use Rattle.sets.specs.Code.Search.{pairAt, Grown, SoughtPlacement}
 use Rattle.sets.specs.declared.search.Open.{Open}
 use Rattle.sets.specs.declared.search.Found.{Found}
 use Rattle.sets.proofs.Growth.{fewer, kept-in, grown-none, grown-more, grown-as, ready-as, Untried, Begin, tried, skipped, Over, over-both, tried-over, all-tried, finds-none}
@@ -148,7 +148,7 @@ module _ (t : ℕ) where
 
   -- some member that is left covers a gap
   left-over : (c : search-lts.After-gaps (search-calls t) (search-at t) search′.Post Inv-search μ-loop-search) (g e : ℕ) (bs es : ℕ → ℕ) → let a = opened c .args in
-      In-mask (c .gaps .result) g → Sought (a .conds .now) (a .allow .now) (a .ends .now) (a .goes .now) (a .later .now) (a .bounds .now) (a .count) (a .state) e bs es
+      In-mask (c .gaps .result) g → SoughtPlacement (a .conds .now) (a .allow .now) (a .ends .now) (a .goes .now) (a .later .now) (a .bounds .now) (a .count) (a .state) e bs es
       → (i : ℕ) × In-mask (a .state .left) i × (bs i ≤ g) × (g ≤ es i)
   left-over c g e bs es u s =
       let o = c .gaps .ensures g bs es u (s .fits) in

@@ -6,7 +6,7 @@ use native.Mathlib.Omega.{arith}
 use Rattle.bitset.specs.Code.Members.{In}
 use Rattle.bitset.proofs.In.{in-without, in-zero}
 use Rattle.sets.specs.Code.Rows.{entryAt}
-use Rattle.sets.specs.Code.Search.{Masked, InTables, BoundsHave, Sought}
+use Rattle.sets.specs.Code.Search.{Masked, InTables, BoundsHave, SoughtPlacement}
 use Rattle.sets.proofs.Growth.{grown-none, grown-as, ready-as}
 use Rattle.sets.proofs.search.from_first.Statement.{statement}
 use Rattle.sets.proofs.search.from_first.Tie as tie
@@ -22,7 +22,7 @@ same c = let u = c .before .unplaced .ensures in let p = c .placed .ensures in (
 sought : (c : tie.After-placed) (e : ℕ) (bs es : ℕ → ℕ) → let a = entry (c .before) .args in
     Masked (a .conds .now) (a .allow .now) (a .ends .now) (a .count) (a .a) e bs es → InTables (a .ends .now) (a .goes .now) (a .later .now) (a .count) (a .a) bs es
     → BoundsHave (a .count) (a .bounds .now) bs es → e ≤ a .found .upto → bs (a .first) ≡ a .a → es (a .last) ≡ e → In (a .goal) e
-    → In (a .found .ends) e ⊎ Sought (a .conds .now) (a .allow .now) (a .ends .now) (a .goes .now) (a .later .now) (a .bounds .now) (a .count) (c .placed .result) e bs es
+    → In (a .found .ends) e ⊎ SoughtPlacement (a .conds .now) (a .allow .now) (a .ends .now) (a .goes .now) (a .later .now) (a .bounds .now) (a .count) (c .placed .result) e bs es
 sought c e bs es m t d l q r g =
     let s = entry (c .before) in
     let a = s .args in

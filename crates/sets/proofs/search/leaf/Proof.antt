@@ -8,7 +8,7 @@ use Rattle.bitset.specs.Code.Members.{In}
 use Rattle.bitset.proofs.Bools.{not-both}
 use Rattle.bitset.proofs.In.{in-union, in-zero}
 use Rattle.sets.specs.Code.Rows.{entryAt}
-use Rattle.sets.specs.Code.Search.{Sought, ReadsWith, BeginsKept, Grown}
+use Rattle.sets.specs.Code.Search.{SoughtPlacement, ReadsWith, BeginsKept, Grown}
 use Rattle.sets.specs.declared.search.Found.{Found}
 use Rattle.sets.proofs.Leaves.{onward, reads-with, covers-all}
 use borrow.Author.Needs.{needs}
@@ -25,7 +25,7 @@ reads c e t = let f = c .before .before in reads-with (entry f .pre .state .read
 
 -- and what is sought is covered
 finds : (c : tie.After-covered) (goes later bounds : List ℕ) (e : ℕ) (bs es : ℕ → ℕ) → let a = entry (c .before .before) .args in e ≤ a .found .upto
-    → Sought (a .conds .now) (a .allow .now) (a .ends .now) goes later bounds (a .count) (a .state) e bs es → In (c .covered .result) e
+    → SoughtPlacement (a .conds .now) (a .allow .now) (a .ends .now) goes later bounds (a .count) (a .state) e bs es → In (c .covered .result) e
 finds c goes later bounds e bs es u h =
     let f = c .before .before in
     let s = entry f in
@@ -75,7 +75,7 @@ grown u kept begins moments = let all = in-union (u .union .ensures) in record {
 }
 
 found : (u : tie.After-union) (goes later bounds : List ℕ) (e : ℕ) (bs es : ℕ → ℕ) → let a = entry (u .before .before .before) .args in e ≤ a .found .upto
-    → Sought (a .conds .now) (a .allow .now) (a .ends .now) goes later bounds (a .count) (a .state) e bs es → In (u .union .result) e
+    → SoughtPlacement (a .conds .now) (a .allow .now) (a .ends .now) goes later bounds (a .count) (a .state) e bs es → In (u .union .result) e
 found u goes later bounds e bs es l h = in-union (u .union .ensures) e .1 (inr (finds (u .before) goes later bounds e bs es l h))
 
 returns : tie.Need-returns
