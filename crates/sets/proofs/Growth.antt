@@ -11,7 +11,7 @@ use Rattle.bitset.specs.Code.Members.{has, In, IsSetOf, popCount, Lowest, Dropp
 use Rattle.bitset.proofs.Counts.{count-but}
 use Rattle.bitset.proofs.In.{in-without, in-zero}
 use Rattle.sets.specs.Code.Rows.{entryAt}
-use Rattle.sets.specs.Code.Search.{Masked, InTables, BoundsHave, SearchReady, Grown, Fits, Sought, FindsAll}
+use Rattle.sets.specs.Code.Search.{Masked, InTables, BoundsHave, SearchReady, Grown, InDomains, SoughtPlacement, FindsAll}
 use Rattle.sets.specs.declared.search.Open.{Open}
 use Rattle.sets.specs.declared.search.Found.{Found}
 
@@ -20,15 +20,15 @@ pub fewer : (x r i : ℕ) → IsSetOf r (λ k. has x k && not (eqb k i)) → In 
 fewer x r i but t l = count-but (has x) (has r) i but 64 (t .yes) l
 
 -- all members of a word but the lowest
-pub dropped : {x r m k : ℕ} → Lowest x m → Dropped x r → In x k → (k ≡ m → ⊥) → In r k
-dropped {k = k} l d t n = in-without (d .rest _ l) k .1 (t, n)
+pub all-but-lowest : {x r m k : ℕ} → Lowest x m → Dropped x r → In x k → (k ≡ m → ⊥) → In r k
+all-but-lowest {k = k} l d t n = in-without (d .rest _ l) k .1 (t, n)
 
 pub kept-in : {x r m k : ℕ} → Lowest x m → Dropped x r → In r k → In x k
 kept-in {k = k} l d t = in-without (d .rest _ l) k .0 t .0
 
 module _ {cs allow ends : List ℕ} {count b : ℕ} where
   pub grown-none : {f : Found} → Grown cs allow ends count b f f
-  grown-none = record { upto = refl; kept = λ e t. t; reads = λ e t. inl t; begins = λ h. h; small = λ h. h; moments = λ h. h }
+  grown-none = record { upto = refl; kept = λ e t. t; reads = λ e t. inl t; begins = λ h. h; within = λ h. h; moments = λ h. h }
 
   pub grown-more : {f g h : Found} → Grown cs allow ends count b f g → Grown cs allow ends count b g h → Grown cs allow ends count b f h
   grown-more m n = record {
@@ -36,7 +36,7 @@ module _ {cs allow ends : List ℕ} {count b : ℕ} where
     kept = λ e t. n .kept e (m .kept e t);
     reads = λ e t. ⊎-elim (m .reads e) inr (n .reads e t);
     begins = λ k. n .begins (m .begins k);
-    small = λ k. n .small (m .small k);
+    within = λ k. n .within (m .within k);
     moments = λ k. n .moments (m .moments k);
   }
 
@@ -48,7 +48,7 @@ ready-as {cs} {ends} {count} {a} {a′} {z} p q h = subst (λ (x : ℕ). SearchR
 
 -- each placement that is sought is found, or has something that is still to be tried
 pub record Untried (cs allow ends goes later bounds : List ℕ) (count : ℕ) (o : Open) (r : Found) (P : (ℕ → ℕ) → (ℕ → ℕ) → Type 0) : Type 0 where
-  pub each : (e : ℕ) (bs es : ℕ → ℕ) → e ≤ r .upto → Sought cs allow ends goes later bounds count o e bs es → In (r .ends) e ⊎ P bs es
+  pub each : (e : ℕ) (bs es : ℕ → ℕ) → e ≤ r .upto → SoughtPlacement cs allow ends goes later bounds count o e bs es → In (r .ends) e ⊎ P bs es
 
 -- a begin of member i, or a member that begins by g and ends at h or later
 abbrev pub Begin : ℕ → ℕ → (ℕ → ℕ) → (ℕ → ℕ) → Type 0
@@ -59,8 +59,8 @@ Over rest g h bs es = (i : ℕ) × In rest i × (bs i ≤ g) × (h ≤ es i)
 
 module _ {cs allow ends goes later bounds : List ℕ} {count : ℕ} where
   -- the same placement in a set from the same moment with the same last member
-  pub sought-as : {o o′ : Open} {e : ℕ} {bs es : ℕ → ℕ} → o′ .from ≡ o .from → o′ .last ≡ o .last → Sought cs allow ends goes later bounds count o e bs es
-      → Fits count o′ bs es → Sought cs allow ends goes later bounds count o′ e bs es
+  pub sought-as : {o o′ : Open} {e : ℕ} {bs es : ℕ → ℕ} → o′ .from ≡ o .from → o′ .last ≡ o .last → SoughtPlacement cs allow ends goes later bounds count o e bs es
+      → InDomains count o′ bs es → SoughtPlacement cs allow ends goes later bounds count o′ e bs es
   sought-as {e = e} {bs = bs} {es = es} p q h f = record {
     masked = subst (λ (b : ℕ). Masked cs allow ends count b e bs es) (sym p) (h .masked);
     tables = subst (λ (b : ℕ). InTables ends goes later count b bs es) (sym p) (h .tables);
@@ -71,7 +71,7 @@ module _ {cs allow ends goes later bounds : List ℕ} {count : ℕ} where
 
   -- a begin of member i is tried
   pub tried : {o next : Open} {r r′ : Found} {i x rest rest′ : ℕ} → next .from ≡ o .from → next .last ≡ o .last → Lowest rest x → Dropped rest rest′
-      → ((bs es : ℕ → ℕ) → InTables ends goes later count (o .from) bs es → BoundsHave count bounds bs es → Fits count o bs es → bs i ≡ x → In (r .ends) (es (o .last)) ⊎ Fits count next bs es)
+      → ((bs es : ℕ → ℕ) → InTables ends goes later count (o .from) bs es → BoundsHave count bounds bs es → InDomains count o bs es → bs i ≡ x → In (r .ends) (es (o .last)) ⊎ InDomains count next bs es)
       → Grown cs allow ends count (o .from) r r′ → FindsAll cs allow ends goes later bounds count next r′
       → Untried cs allow ends goes later bounds count o r (Begin rest i) → Untried cs allow ends goes later bounds count o r′ (Begin rest′ i)
   tried {o} {r = r} {r′ = r′} {i = i} {x = x} p q low drop place grown all h = record {
@@ -79,23 +79,23 @@ module _ {cs allow ends goes later bounds : List ℕ} {count : ℕ} where
         (λ t. inl (grown .kept e t))
         (λ t. by-cases (ℕ-discrete (bs i) x)
         (λ z. inl (⊎-elim (λ f. grown .kept e (subst (λ (k : ℕ). In (r .ends) k) (s .final) f)) (λ f. all e bs es l (sought-as p q s f)) (place bs es (s .tables) (s .bounded) (s .fits) z)))
-        (λ z. inr (dropped low drop t z)))
+        (λ z. inr (all-but-lowest low drop t z)))
         (h .each e bs es (subst (λ (k : ℕ). e ≤ k) (grown .upto) l) s);
   }
 
   -- a begin with which nothing fits is left out
   pub skipped : {o : Open} {r : Found} {i x rest rest′ : ℕ} → Lowest rest x → Dropped rest rest′
-      → ((bs es : ℕ → ℕ) → InTables ends goes later count (o .from) bs es → Fits count o bs es → bs i ≡ x → ⊥)
+      → ((bs es : ℕ → ℕ) → InTables ends goes later count (o .from) bs es → InDomains count o bs es → bs i ≡ x → ⊥)
       → Untried cs allow ends goes later bounds count o r (Begin rest i) → Untried cs allow ends goes later bounds count o r (Begin rest′ i)
   skipped {i = i} {x = x} low drop none h = record {
     each = λ e bs es l s. ⊎-elim inl
-        (λ t. by-cases (ℕ-discrete (bs i) x) (λ z. absurd (none bs es (s .tables) (s .fits) z)) (λ z. inr (dropped low drop t z)))
+        (λ t. by-cases (ℕ-discrete (bs i) x) (λ z. absurd (none bs es (s .tables) (s .fits) z)) (λ z. inr (all-but-lowest low drop t z)))
         (h .each e bs es l s);
   }
 
   -- member i is tried so
   pub tried-over : {o next : Open} {r r′ : Found} {i g late rest rest′ : ℕ} → next .from ≡ o .from → next .last ≡ o .last → Lowest rest i → Dropped rest rest′
-      → ((bs es : ℕ → ℕ) → Fits count o bs es → bs i ≤ g → late ≤ es i → Fits count next bs es)
+      → ((bs es : ℕ → ℕ) → InDomains count o bs es → bs i ≤ g → late ≤ es i → InDomains count next bs es)
       → Grown cs allow ends count (o .from) r r′ → FindsAll cs allow ends goes later bounds count next r′
       → Untried cs allow ends goes later bounds count o r (Over rest g late) → Untried cs allow ends goes later bounds count o r′ (Over rest′ g late)
   tried-over {i = i} {g = g} {late = late} p q low drop over grown all h = record {
@@ -103,7 +103,7 @@ module _ {cs allow ends goes later bounds : List ℕ} {count : ℕ} where
         (λ t. inl (grown .kept e t))
         (λ t. by-cases (ℕ-discrete (t .0) i)
         (λ z. inl (all e bs es l (sought-as p q s (over bs es (s .fits) (subst (λ (k : ℕ). bs k ≤ g) z (t .2)) (subst (λ (k : ℕ). late ≤ es k) z (t .3))))))
-        (λ z. inr (t .0, dropped low drop (t .1) z, t .2, t .3)))
+        (λ z. inr (t .0, all-but-lowest low drop (t .1) z, t .2, t .3)))
         (h .each e bs es (subst (λ (k : ℕ). e ≤ k) (grown .upto) l) s);
   }
 

@@ -1,19 +1,14 @@
 -- The bounds of begins by ends, as they are filled. Assumes nothing.
-use Prim.Native.Nat.{ℕ, _+_, _-_, _*_, _^_, _≤_, _<_}
+use Prim.Native.Nat.{ℕ, _+_, _*_, _≤_, _<_}
 use mathlib.Core.Path.{_≡_, refl, sym, subst, _∙_}
-use mathlib.Core.Bool.{true}
 use mathlib.Core.Logic.{_↔_, _⊎_, inl, by-cases, ⊎-elim}
 use mathlib.Core.List.{List}
 use native.Mathlib.Decide.{ℕ-discrete}
 use native.Mathlib.Omega.{arith}
-use lib.Dec.{leb}
-use lib.Count.{leadingZeros}
 use lib.ListN.{length, getD, set, length-set}
 use lib.Seq.{getD-set-same, getD-set-other}
-use borrow.Author.Tests.{leb-true, leb-false}
-use Rattle.bitset.specs.Code.Members.{has, In, Highest}
-use Rattle.bitset.proofs.Bools.{not-both, either}
-use Rattle.sets.specs.Code.Bounds.{Grows, Marked, Bounded}
+use Rattle.bitset.specs.Code.Members.{In}
+use Rattle.sets.specs.Code.Bounds.{Grows, EndMarked, Bounded}
 use Rattle.sets.specs.Code.Search.{BoundsHave}
 use Rattle.sets.proofs.Pairs.{in-kept}
 
@@ -35,7 +30,7 @@ grows-set {l} i v long g more = record {
 pub grows-more : {l m n : List ℕ} → Grows l m → Grows m n → Grows l n
 grows-more g h = record { long = h .long; kept = λ q y t. h .kept q y (g .kept q y t); words = λ q l. h .words q l ∙ g .words q l }
 
-pub marked-more : {l m : List ℕ} {p y e : ℕ} → Grows l m → Marked l p y e → Marked m p y e
+pub marked-more : {l m : List ℕ} {p y e : ℕ} → Grows l m → EndMarked l p y e → EndMarked m p y e
 marked-more g h = record {
   high = h .high;
   low = h .low;
@@ -46,14 +41,14 @@ marked-more g h = record {
   soon = g .kept _ _ (h .soon);
 }
 
-pub marked-same : {l : List ℕ} {p y v e : ℕ} → v ≡ y → Marked l p y e → Marked l p v e
-marked-same {l} {p} {e = e} q = subst (λ (y : ℕ). Marked l p y e) (sym q)
+pub marked-same : {l : List ℕ} {p y v e : ℕ} → v ≡ y → EndMarked l p y e → EndMarked l p v e
+marked-same {l} {p} {e = e} q = subst (λ (y : ℕ). EndMarked l p y e) (sym q)
 
 -- marked first, then each half is joined
 pub bounded-joined : {l m n : List ℕ} {p y e : ℕ} → Grows l m → Grows m n
     → ((d e y : ℕ) → d ≤ e → e < 64 → In (getD l (p * 64 + e) 0) y → In (getD m (p * 64 + d) 0) y)
     → ((d e y : ℕ) → e ≤ d → d < 64 → In (getD m (1024 + p * 64 + e) 0) y → In (getD n (1024 + p * 64 + d) 0) y)
-    → Marked l p y e → Bounded n p y e
+    → EndMarked l p y e → Bounded n p y e
 bounded-joined {y = y} g h down up k = record {
   late = λ d l. h .kept _ _ (down d (k .high) y (omega (arith, k .above)) (k .moment) (k .late));
   soon = λ d l r. up d (k .low) y (omega (arith, k .below)) r (g .kept _ _ (k .soon));

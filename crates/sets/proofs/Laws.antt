@@ -6,8 +6,6 @@ use mathlib.Core.Logic.{_↔_, _⊎_, inl, inr, by-cases, ⊎-elim}
 use native.Mathlib.Decide.{decLt}
 use native.Mathlib.Omega.{arith}
 use Rattle.bitset.specs.Code.Members.{has, IsSetOf, In}
-use Rattle.bitset.proofs.Bools.{not-both}
-use Rattle.bitset.proofs.Digits.{has-zero}
 use Rattle.bitset.proofs.In.{in-union}
 use Rattle.sets.specs.Code.Cover.{Some}
 

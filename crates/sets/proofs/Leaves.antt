@@ -1,18 +1,18 @@
 -- A set whose begins are all fixed: the ends that its members may have. Assumes nothing.
 use Prim.Native.Nat.{ℕ, zero, suc, _+_, _*_, _≤_, _<_}
-use mathlib.Core.Path.{_≡_, refl, sym, subst}
+use mathlib.Core.Path.{_≡_, refl, subst}
 use mathlib.Core.Bool.{false}
 use mathlib.Core.Logic.{_↔_, _⊎_, inl, inr, by-cases, ⊎-elim}
 use mathlib.Core.List.{List}
 use native.Mathlib.Decide.{decLt}
 use native.Mathlib.Nat.{le-refl}
 use native.Mathlib.Omega.{arith}
-use lib.ListN.{length, getD}
+use lib.ListN.{getD}
 use Rattle.bitset.specs.Code.Members.{has, Highest, In}
 use Rattle.bitset.proofs.Bools.{not-both, either}
-use Rattle.words.specs.Fields.{conditionI, conditionJ}
+use Rattle.words.specs.Fields.{conditionI}
 use Rattle.model.specs.Forms.{conditionForm}
-use Rattle.sets.specs.Code.Cover.{Coverable, Covering}
+use Rattle.sets.specs.Code.Cover.{Coverable}
 use Rattle.sets.specs.Code.Search.{asked, partnerOf, MetByMask, pairAt, EndAt, Masked, SearchReady, ReadsWith}
 use Rattle.sets.proofs.Cover.{coverable, covering}
 use Rattle.sets.proofs.Masks.{partner-less}

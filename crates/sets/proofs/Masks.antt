@@ -21,7 +21,7 @@ use Rattle.model.specs.Forms.{ConditionForm, BeginAfterBegin, BeginAfterEnd, Ho
 use Rattle.sets.specs.Set.{MetAt}
 use Rattle.sets.specs.Code.Rows.{entryAt}
 use Rattle.sets.specs.Code.Search.{asked, partner, Allowed, MetByMask}
-use Rattle.sets.specs.Code.Masks.{Failing, MaskOf, Narrowed}
+use Rattle.sets.specs.Code.Masks.{Seen, MaskOf, Narrowed}
 use Rattle.sets.proofs.Laws.{gain, gain-yes, gain-no}
 
 -- a word without members is 0
@@ -50,24 +50,37 @@ module _ (M : ℕ → Type 0) {a y mask : ℕ} (l : a ≤ y) (old : Before M a y
 
 -- ---- where a formula fails
 
-module _ (value : ℕ → ℕ → ℕ) (k : ℕ) {n fails : ℕ} (f : Failing value k n fails) where
-  pub held : (t : ℕ) → t ≤ n → (In fails t → ⊥) → value k t ≡ holds
-  held t l g = by-cases (ℕ-discrete (value k t) holds) (λ q. q) (λ q. absurd (g (f t .1 (l, q))))
+-- fails has, of the moments that are P, those at which formula k does not hold
+module _ (value : ℕ → ℕ → ℕ) (k : ℕ) {fails : ℕ} (P : ℕ → Type 0) (f : (t : ℕ) → P t → In fails t ↔ (value k t ≡ holds → ⊥)) where
+  pub held : (t : ℕ) → P t → (In fails t → ⊥) → value k t ≡ holds
+  held t p g = by-cases (ℕ-discrete (value k t) holds) (λ q. q) (λ q. absurd (g (f t p .1 q)))
 
   -- it holds through lo..hi where the mask has no moment of these
-  pub through : {r : ℕ} (lo hi : ℕ) → r < 2 ^ 64 → hi ≤ n → ((t : ℕ) → In r t ↔ (In fails t × ((lo ≤ t) × (t ≤ hi))))
+  pub through : {r : ℕ} (lo hi : ℕ) → r < 2 ^ 64 → ((t : ℕ) → lo ≤ t → t ≤ hi → P t) → ((t : ℕ) → In r t ↔ (In fails t × ((lo ≤ t) × (t ≤ hi))))
       → (eqb r 0 ≡ true) ↔ ((t : ℕ) → lo ≤ t → t ≤ hi → value k t ≡ holds)
-  through {r} lo hi b l is = (
-    λ z t g h. held t (omega arith) (λ u. in-zero (eqb-true r 0 z) (is t .1 (u, (g, h)))),
-    λ h. eq-eqb r 0 (empty-zero b (λ t u. let o = is t .0 u in f t .0 (o .0) .1 (h t (o .1 .0) (o .1 .1)))),
+  through {r} lo hi b seen is = (
+    λ z t g h. held t (seen t g h) (λ u. in-zero (eqb-true r 0 z) (is t .1 (u, (g, h)))),
+    λ h. eq-eqb r 0 (empty-zero b (λ t u. let o = is t .0 u in f t (seen t (o .1 .0) (o .1 .1)) .0 (o .0) (h t (o .1 .0) (o .1 .1)))),
   )
 
   -- it holds from a moment on up to hi where the highest moment of the mask up to hi is before that
-  pub until : {g hi : ℕ} → hi ≤ n → Highest fails hi g → (lo : ℕ) → (g < lo) ↔ ((t : ℕ) → lo ≤ t → t ≤ hi → value k t ≡ holds)
-  until {g} {hi} l h lo = (
-    λ b t m u. held t (omega arith) (λ i. not-both (i .yes) (h .last t (omega arith) u)),
-    λ m. by-cases (decLt g lo) (λ b. b) (λ b. absurd (f g .0 (record { yes = h .member }) .1 (m g (omega arith) (h .upto)))),
+  pub until : {g hi : ℕ} → Highest fails hi g → (lo : ℕ) → ((t : ℕ) → lo ≤ t → t ≤ hi → P t)
+      → (g < lo) ↔ ((t : ℕ) → lo ≤ t → t ≤ hi → value k t ≡ holds)
+  until {g} {hi} h lo seen = (
+    λ b t m u. held t (seen t m u) (λ i. not-both (i .yes) (h .last t (omega arith) u)),
+    λ m. by-cases (decLt g lo) (λ b. b) (λ b.
+        let l : lo ≤ g = omega arith in
+        absurd (f g (seen g l (h .upto)) .0 (record { yes = h .member }) (m g l (h .upto)))),
   )
+
+-- other forms ask for no formula
+pub unseen : (f n N a z t : ℕ) → (f ≡ 2 → ⊥) → (f ≡ 3 → ⊥) → (f ≡ 4 → ⊥) → Seen (conditionNumber f) n N a z t → ⊥
+unseen zero n N a z t g h m s = s
+unseen (suc zero) n N a z t g h m s = s
+unseen (suc (suc zero)) n N a z t g h m s = g refl
+unseen (suc (suc (suc zero))) n N a z t g h m s = h refl
+unseen (suc (suc (suc (suc zero)))) n N a z t g h m s = m refl
+unseen (suc (suc (suc (suc (suc f))))) n N a z t g h m s = s
 
 -- ---- a mask cut to a..z
 

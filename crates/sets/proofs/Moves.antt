@@ -16,7 +16,7 @@ use denote.Laws.{Is}
 use Rattle.bitset.specs.Code.Members.{In}
 use Rattle.bitset.proofs.In.{in-below}
 use Rattle.sets.specs.Code.Rows.{entryAt}
-use Rattle.sets.specs.Code.Search.{Fits}
+use Rattle.sets.specs.Code.Search.{InDomains}
 use Rattle.sets.specs.declared.search.Open.{Open}
 use Rattle.sets.proofs.search.Open.{the-row}
 
@@ -59,9 +59,9 @@ pub set-fewer : (l : List ℕ) (i v : ℕ) → i < length l → ((x : ℕ) → I
 set-fewer l i v room less = set-entries (λ j m. (x : ℕ) → In m x → In (entryAt l j) x) l i v room less (λ j x t. t)
 
 -- what fits still fits where the masks keep its begins and ends and no begin is added
-pub fits-kept : {count : ℕ} {o : Open} {bs es : ℕ → ℕ} (begins ends : List ℕ) → Fits count o bs es
+pub fits-kept : {count : ℕ} {o : Open} {bs es : ℕ → ℕ} (begins ends : List ℕ) → InDomains count o bs es
     → ((i : ℕ) → i < count → In (entryAt begins i) (bs i)) → ((i x : ℕ) → In (entryAt begins i) x → In (entryAt (o .begins) i) x)
     → ((i : ℕ) → i < count → In (entryAt ends i) (es i))
-    → Fits count (record { from = o .from; last = o .last; left = o .left; begins = begins; ends = ends }) bs es
+    → InDomains count (record { from = o .from; last = o .last; left = o .left; begins = begins; ends = ends }) bs es
 fits-kept begins ends f kept fewer late =
     record { inside = f .inside; begins = kept; ends = late; fixed = λ i x l n t. f .fixed i x l n (fewer i x t) }

@@ -1,15 +1,14 @@
 -- What members keep as one of them is placed. Assumes nothing.
-use Prim.Native.Nat.{ℕ, _+_, _*_, _≤_, _<_}
+use Prim.Native.Nat.{ℕ, _≤_, _<_}
 use mathlib.Core.Path.{_≡_, sym, _∙_}
 use mathlib.Core.Logic.{_↔_, by-cases}
 use mathlib.Core.List.{List}
 use native.Mathlib.Decide.{ℕ-discrete}
-use native.Mathlib.Omega.{arith}
-use lib.ListN.{length, getD, set}
+use lib.ListN.{length, set}
 use lib.Seq.{getD-set-same, getD-set-other}
 use Rattle.bitset.specs.Code.Members.{In}
 use Rattle.sets.specs.Code.Rows.{entryAt}
-use Rattle.sets.specs.Code.Search.{Fits}
+use Rattle.sets.specs.Code.Search.{InDomains}
 use Rattle.sets.proofs.Moves.{set-kept, set-fewer}
 
 -- the words of begins and ends have bs and es, those of a member that is not left no other begin, and `sought` has the last end
@@ -52,6 +51,6 @@ has-next {begins = begins} {ends = ends} j b e s long long′ new new′ fewer f
 -- all members have been narrowed
 pub has-end : {count a last left : ℕ} {begins ends : List ℕ} {sought : ℕ} (e : ℕ) {bs es : ℕ → ℕ} → last < length ends → In e (es last)
     → Ordered count a last bs es → Has count begins ends left last sought bs es
-    → Fits count (record { from = a; last = last; left = left; begins = begins; ends = set ends last e }) bs es
+    → InDomains count (record { from = a; last = last; left = left; begins = begins; ends = set ends last e }) bs es
 has-end {last = last} {ends = ends} e long new inside h =
     record { inside = inside; begins = h .begin; ends = set-kept ends last e long (λ l. new) (h .end); fixed = h .fixed }

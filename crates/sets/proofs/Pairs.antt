@@ -16,7 +16,7 @@ use Rattle.model.specs.Code.Table.{InTable}
 use Rattle.sets.specs.Set.{TaskSet, memberCount, MetAs, MetAt}
 use Rattle.sets.specs.Code.Set.{member, Formed}
 use Rattle.sets.specs.Code.Rows.{taskSetOf, Placed}
-use Rattle.sets.specs.Code.Search.{asked, partner, partnerOf, Allowed, MetAtMask, MetByMask, pairAt, Masked, EndsHave, GoesHave, Have, Fewer, Cut, Within, Full, InTables, Tables}
+use Rattle.sets.specs.Code.Search.{asked, partner, partnerOf, Allowed, MetAtMask, MetByMask, pairAt, Masked, EndsHave, GoesHave, Have, Fewer, Cut, InSpan, Unpruned, OwnRow, OwnRows, InTables, Tables}
 use Rattle.sets.proofs.Masks.{partner-less}
 
 -- ---- one mask of an array more
@@ -66,7 +66,7 @@ partner-is w p q s h = rw (p, q, s) at h
 
 module _ {value : ℕ → ℕ → ℕ} {cs allow : List ℕ} {n a z count : ℕ} (allowed : Allowed value cs n a z (length cs) allow)
     (named : (c : ℕ) → c < length cs → (conditionI (getD cs c 0) < count) × (conditionJ (getD cs c 0) < count))
-    {bs es : ℕ → ℕ} (within : Within count a z bs es) where
+    {bs es : ℕ → ℕ} (within : InSpan count a z bs es) where
   -- condition c is met by its mask where it is met
   pub mask-met : (c : ℕ) → c < length cs → let w = getD cs c 0 in let i = conditionI w in
       MetByMask cs allow bs c (es i) ↔ MetAt value n w (bs i) (es i) (bs (conditionJ w))
@@ -97,7 +97,7 @@ cut-kept X W allow T T′ c k l count a z few small kb lb within met cut i j ib 
     (subst (λ (j : ℕ). In (getD allow (c * 64 + X i j) 0) (W i j)) r (subst (λ (i : ℕ). In (getD allow (c * 64 + X i l) 0) (W i l)) p met)))
 
 module _ {E G : List ℕ} {count : ℕ} {bs es : ℕ → ℕ} (allow : List ℕ) (w i j c a z : ℕ) (few : count ≤ 4) (small : z < 64) (is : i ≡ conditionI w)
-    (js : j ≡ partnerOf w) (first : conditionI w < count) (second : conditionJ w < count) (within : Within count a z bs es)
+    (js : j ≡ partnerOf w) (first : conditionI w < count) (second : conditionJ w < count) (within : InSpan count a z bs es)
     (met : MetAtMask w allow bs c (es (conditionI w))) (have : Have E G count bs es) where
   pub cut-goes : {G′ : List ℕ} → ((x e : ℕ) → asked (conditionForm w) x e ≡ x) → Cut G (j * 4 + i) allow c a z G′ → Have E G′ count bs es
   cut-goes {G′} begin cut =
@@ -117,44 +117,51 @@ module _ {E G : List ℕ} {count : ℕ} {bs es : ℕ → ℕ} (allow : List ℕ)
         goes = have .goes;
       }
 
--- ---- one own row more
+-- ---- own rows
 
-module _ (members table goes ends : List ℕ) (i x m z v : ℕ) (few : length members ≤ 4) (one : i < length members) (moment : x < 64) (upto : z < 64)
-    (is : m ≡ memberNode (getD members i 0))
-    (row : (e : ℕ) → In v e ↔ (InTable table m x e × (x ≤ e) × (e ≤ z) × In (pairAt ends i i x) e × In (pairAt goes i i x) x)) where
-  pub own-more : ((j y e : ℕ) → j * 64 + y < i * 64 + x → y < 64 → In (pairAt ends j j y) e
-      → InTable table (memberNode (getD members j 0)) y e × (y ≤ e) × (e ≤ z))
-      → (j y e : ℕ) → j * 64 + y < i * 64 + x + 1 → y < 64 → In (pairAt (set ends (i * 320 + x) v) j j y) e
-      → InTable table (memberNode (getD members j 0)) y e × (y ≤ e) × (e ≤ z)
-  own-more old j y e l g t = by-cases (decLt (j * 64 + y) (i * 64 + x))
-      (λ h. old j y e h g (rw (getD-set-other ends (i * 320 + x) ((j * 4 + j) * 64 + y) v 0 (omega arith)) at t))
-      (λ h.
-      let p : i ≡ j = omega arith in
-      let q : x ≡ y = omega arith in
-      let k : (j * 4 + j) * 64 + y ≡ i * 320 + x = omega arith in
-      let o = row e .0 (stored-in ends (i * 320 + x) v (subst (λ (k : ℕ). In (getD (set ends (i * 320 + x) v) k 0) e) k t)) in
-      let u : InTable table (memberNode (getD members i 0)) x e × (x ≤ e) × (e ≤ z) =
-      (subst (λ (m : ℕ). InTable table m x e) is (o .0), o .1, o .2) in
-      subst (λ (j : ℕ). InTable table (memberNode (getD members j 0)) y e × (y ≤ e) × (e ≤ z)) p
-      (subst (λ (y : ℕ). InTable table (memberNode (getD members i 0)) y e × (y ≤ e) × (e ≤ z)) q u))
-
-  pub own-kept : {bs es : ℕ → ℕ} → Within (length members) 0 z bs es
-      → ((j : ℕ) → j < length members → InTable table (memberNode (getD members j 0)) (bs j) (es j))
-      → GoesHave (length members) goes bs → EndsHave (length members) ends bs es → EndsHave (length members) (set ends (i * 320 + x) v) bs es
-  own-kept {bs} {es} within reads begins have j k g h = in-kept ends (i * 320 + x) v (have j k g h) (λ q.
-      let o = within k h in
+-- the own row of member i with one begin more, x
+module _ {R : ℕ → ℕ → Type 0} {goes old ends : List ℕ} (i x a z v : ℕ) (named : i < 4) (from : a ≤ x) (moment : x ≤ z) (upto : z < 64)
+    (row : (e : ℕ) → In v e ↔ (R x e × (x ≤ e) × (e ≤ z) × In (pairAt ends i i x) e × In (pairAt goes i i x) x)) (h : OwnRow R goes i a z old ends x) where
+  own-kept : {count : ℕ} {bs es : ℕ → ℕ} → i < count → count ≤ 4 → InSpan count a z bs es → R (bs i) (es i) → GoesHave count goes bs
+      → EndsHave count ends bs es → EndsHave count (set ends ((i * 4 + i) * 64 + x) v) bs es
+  own-kept {bs = bs} {es = es} one few within reads begins have j k g m = in-kept ends ((i * 4 + i) * 64 + x) v (have j k g m) (λ q.
+      let o = within k m in
       let p : i ≡ j = omega arith in
       let r : k ≡ i = omega arith in
       let b : bs i ≡ x = omega (arith, ap bs r) in
       let w = within i one in
       subst (λ (j : ℕ). In v (es j)) p (row (es i) .1 (
-        subst (λ (m : ℕ). InTable table m x (es i)) (sym is)
-            (subst (λ (x : ℕ). InTable table (memberNode (getD members i 0)) x (es i)) b (reads i one)),
+        subst (λ (x : ℕ). R x (es i)) b reads,
         omega arith,
         w .2,
         subst (λ (x : ℕ). In (pairAt ends i i x) (es i)) b (have i i one one),
         subst (λ (x : ℕ). In (pairAt goes i i x) x) b (begins i i one one),
       )))
+
+  pub own-more : OwnRow R goes i a z old (set ends ((i * 4 + i) * 64 + x) v) (x + 1)
+  own-more = record {
+    own = λ y e l g t. by-cases (decLt y x)
+        (λ b. h .own y e l b (rw (getD-set-other ends ((i * 4 + i) * 64 + x) ((i * 4 + i) * 64 + y) v 0 (omega arith)) at t))
+        (λ b.
+        let q : y ≡ x = omega arith in
+        let o = row e .0 (stored-in ends ((i * 4 + i) * 64 + x) v (rw q at t)) in
+        rw q (o .0, o .1, o .2));
+    others = λ q l. rw (getD-set-other ends ((i * 4 + i) * 64 + x) q v 0 (omega arith)) (h .others q l);
+    kept = λ count bs es one few within reads begins have. own-kept one few within reads begins (h .kept count bs es one few within reads begins have);
+  }
+
+-- the own rows of one member more
+pub own-rows-more : {members table goes old ends new : List ℕ} {a z : ℕ} (i m : ℕ) → length members ≤ 4 → i < length members → z < 64 → m ≡ memberNode (getD members i 0)
+    → OwnRows members table goes a z old ends i → OwnRow (InTable table m) goes i a z ends new (z + 1) → OwnRows members table goes a z old new (i + 1)
+own-rows-more {members} {table} {goes} {old} {ends} {new} {a} {z} i m few one upto is h r = record {
+  own = λ j x e l g u t. by-cases (decLt j i)
+      (λ b. h .own j x e b g u (rw (r .others ((j * 4 + j) * 64 + x) (omega arith)) at t))
+      (λ b.
+      let q : j ≡ i = omega arith in
+      let o = r .own x e g (omega arith) (rw q at t) in
+      rw (q, ← is) o);
+  kept = λ bs es within reads begins have. r .kept (length members) bs es one few within (rw is (reads i one)) begins (h .kept bs es within reads begins have);
+}
 
 -- ---- one begin of a pair more
 
@@ -165,7 +172,7 @@ Partners E G i j r x =
     → In (pairAt G j i y) x → In r y
 
 module _ {E G : List ℕ} {count : ℕ} {bs es : ℕ → ℕ} (i j x a z r s v : ℕ) (few : count ≤ 4) (small : z < 64) (moment : x ≤ z) (first : i < count)
-    (second : j < count) (within : Within count a z bs es) (partners : Partners E G i j r x)
+    (second : j < count) (within : InSpan count a z bs es) (partners : Partners E G i j r x)
     (some : (y e : ℕ) → In r y → In (pairAt E i j y) e → In s e)
     (both : (e : ℕ) → In v e ↔ (In (pairAt E i i x) e × In s e)) (have : Have E G count bs es) where
   begins : bs i ≡ x → In r (bs j)
@@ -201,45 +208,35 @@ fewer-more old E k v both h p e t = by-cases (ℕ-discrete p k)
 -- ---- what the tables say
 
 -- what is known of the tables once they are filled
-pub record Filled (s : TaskSet) (R : ℕ → ℕ → ℕ → Type 0) (a z : ℕ) (allow ends goes later : List ℕ) : Type 0 where
+pub record TablesFilled (s : TaskSet) (R : ℕ → ℕ → ℕ → Type 0) (a z : ℕ) (allow ends goes later : List ℕ) : Type 0 where
   pub formed : Formed s
   pub forward : a ≤ z
   pub upto : z ≤ s .last
   pub allowed : Allowed (s .value) (s .conditions) (s .last) a z (length (s .conditions)) allow
-  pub own : (i x e : ℕ) → i < memberCount s → x < 64 → In (pairAt ends i i x) e → R (member s i) x e × (x ≤ e) × (e ≤ z)
-  pub have : (bs es : ℕ → ℕ) → Within (memberCount s) a z bs es
+  pub own : (i x e : ℕ) → i < memberCount s → a ≤ x → x ≤ z → In (pairAt ends i i x) e → R (member s i) x e × (x ≤ e) × (e ≤ z)
+  pub have : (bs es : ℕ → ℕ) → InSpan (memberCount s) a z bs es
       → ((c : ℕ) → c < length (s .conditions) → MetByMask (s .conditions) allow bs c (es (conditionI (getD (s .conditions) c 0))))
       → ((i : ℕ) → i < memberCount s → R (member s i) (bs i) (es i)) → Have ends goes (memberCount s) bs es
   pub after : (i x y e : ℕ) → i < memberCount s → a ≤ x → x ≤ y → y ≤ z → In (pairAt ends i i y) e → In (getD later (i * 64 + x) 0) e
 
-module _ {s : TaskSet} {R : ℕ → ℕ → ℕ → Type 0} {a z : ℕ} {allow ends goes later : List ℕ} (f : Filled s R a z allow ends goes later) where
-  -- each member reads by its own row
-  own-reads : {b e : ℕ} {bs es : ℕ → ℕ} → a ≤ b → e < 64 → Masked (s .conditions) allow ends (memberCount s) b e bs es → (i : ℕ) → i < memberCount s
-      → R (member s i) (bs i) (es i) × (bs i ≤ es i) × (es i ≤ z)
-  own-reads {bs = bs} {es = es} l m h i g = let o = h .inside i g in f .own i (bs i) (es i) g (omega arith) (h .lawful i g .reads)
-
-  reads : (b e : ℕ) (bs es : ℕ → ℕ) → a ≤ b → e < 64 → Masked (s .conditions) allow ends (memberCount s) b e bs es → (e ≤ z) × Placed s R b e bs es
+module _ {s : TaskSet} {R : ℕ → ℕ → ℕ → Type 0} {a z : ℕ} {allow ends goes later : List ℕ} (f : TablesFilled s R a z allow ends goes later) where
+  reads : (b e : ℕ) (bs es : ℕ → ℕ) → a ≤ b → e ≤ z → Masked (s .conditions) allow ends (memberCount s) b e bs es → Placed s R b e bs es
   reads b e bs es l m h =
       let first = h .inside 0 (f .formed .some) in
-      let last = h .covers e (omega arith) (omega arith) in
-      let o = own-reads l m h (last .0) (last .1) in
-      let up : e ≤ z = omega (arith, last .3) in
-      let inside : Within (memberCount s) a z bs es = λ i g. let k = h .inside i g in (omega arith, k .1, own-reads l m h i g .2) in (
-        up,
-        record {
-          reads = λ i g. own-reads l m h i g .0;
-          placing = record {
-            onward = omega arith;
-            within = omega (arith, f .upto);
-            inside = h .inside;
-            covers = h .covers;
-            met = λ c g. mask-met (f .allowed) (f .formed .named) inside c g .0
-                (h .lawful (conditionI (getD (s .conditions) c 0)) (f .formed .named c g .0) .met c g refl);
-          };
-        },
-      )
+      let inside : InSpan (memberCount s) a z bs es = λ i g. let k = h .inside i g in (omega arith, k .1, omega arith) in
+      record {
+        reads = λ i g. let o = inside i g in f .own i (bs i) (es i) g (o .0) (omega arith) (h .lawful i g .reads) .0;
+        placing = record {
+          onward = omega arith;
+          within = omega (arith, f .upto);
+          inside = h .inside;
+          covers = h .covers;
+          met = λ c g. mask-met (f .allowed) (f .formed .named) inside c g .0
+              (h .lawful (conditionI (getD (s .conditions) c 0)) (f .formed .named c g .0) .met c g refl);
+        };
+      }
 
-  placed-within : {b e : ℕ} {bs es : ℕ → ℕ} → a ≤ b → e ≤ z → Placed s R b e bs es → Within (memberCount s) a z bs es
+  placed-within : {b e : ℕ} {bs es : ℕ → ℕ} → a ≤ b → e ≤ z → Placed s R b e bs es → InSpan (memberCount s) a z bs es
   placed-within l g h i m = let o = h .placing .inside i m in (omega arith, o .1, omega arith)
 
   placed-have : {b e : ℕ} {bs es : ℕ → ℕ} → a ≤ b → e ≤ z → Placed s R b e bs es → Have ends goes (memberCount s) bs es
@@ -273,7 +270,7 @@ module _ {s : TaskSet} {R : ℕ → ℕ → ℕ → Type 0} {a z : ℕ} {allow e
       named = f .formed .named;
       forward = f .forward;
       moments = omega (arith, f .formed .moments, f .upto);
-      onward = λ i x e l g m t. let o = f .own i x e l (omega (arith, f .formed .moments, f .upto)) t in (o .1, o .2);
+      onward = λ i x e l g m t. let o = f .own i x e l g m t in (o .1, o .2);
     };
     reads = reads;
     masked = masked;
@@ -294,28 +291,26 @@ node-rows ms h i l = omega (arith, node-at ms i, h i (omega (arith, counted ms))
 -- the tables as they are filled: E and G at the start, E₁ and G₁ once the conditions have cut them, E₂ with the own rows, E₃ and G₃ once the
 -- pairs are cut
 module _ (ms cs vs table : List ℕ) {allow E G E₁ G₁ E₂ E₃ G₃ : List ℕ} (n a z : ℕ) (formed : Formed (taskSetOf ms cs vs n)) (forward : a ≤ z)
-    (upto : z ≤ n) (full-ends : Full E) (full-goes : Full G) (allowed : Allowed (valueIn vs) cs n a z (length cs) allow)
-    (conditions : (count : ℕ) (bs es : ℕ → ℕ) → Within count a z bs es → count ≤ 4
+    (upto : z ≤ n) (unpruned-ends : Unpruned E) (unpruned-goes : Unpruned G) (allowed : Allowed (valueIn vs) cs n a z (length cs) allow)
+    (conditions : (count : ℕ) (bs es : ℕ → ℕ) → InSpan count a z bs es → count ≤ 4
     → ((c : ℕ) → c < length cs → (conditionI (getD cs c 0) < count) × (conditionJ (getD cs c 0) < count)
     × MetByMask cs allow bs c (es (conditionI (getD cs c 0)))) → Have E G count bs es → Have E₁ G₁ count bs es)
-    (own : (i x e : ℕ) → i < length ms → x < 64 → In (pairAt E₂ i i x) e → InTable table (memberNode (getD ms i 0)) x e × (x ≤ e) × (e ≤ z))
-    (rows : (bs es : ℕ → ℕ) → Within (length ms) 0 z bs es → ((i : ℕ) → i < length ms → InTable table (memberNode (getD ms i 0)) (bs i) (es i))
-    → GoesHave (length ms) G₁ bs → EndsHave (length ms) E₁ bs es → EndsHave (length ms) E₂ bs es)
-    (fewer : Fewer E₂ E₃) (pairs : (bs es : ℕ → ℕ) → Within (length ms) a z bs es → Have E₂ G₁ (length ms) bs es
+    (own : OwnRows ms table G₁ a z E₁ E₂ (length ms))
+    (fewer : Fewer E₂ E₃) (pairs : (bs es : ℕ → ℕ) → InSpan (length ms) a z bs es → Have E₂ G₁ (length ms) bs es
     → Have E₃ G₃ (length ms) bs es) where
-  have-all : (bs es : ℕ → ℕ) → Within (length ms) a z bs es → ((c : ℕ) → c < length cs → MetByMask cs allow bs c (es (conditionI (getD cs c 0))))
+  have-all : (bs es : ℕ → ℕ) → InSpan (length ms) a z bs es → ((c : ℕ) → c < length cs → MetByMask cs allow bs c (es (conditionI (getD cs c 0))))
       → ((i : ℕ) → i < length ms → InTable table (memberNode (getD ms i 0)) (bs i) (es i)) → Have E₃ G₃ (length ms) bs es
   have-all bs es within met reads =
       let few : length ms ≤ 4 = omega (arith, formed .few, counted ms) in
       let small : z < 64 = omega (arith, formed .moments) in
       let start : Have E G (length ms) bs es = record {
-        ends = λ i j g h. let o = within i g in let p = within j h in full-ends ((i * 4 + j) * 64 + bs j) (es i) (omega arith) (omega arith);
-        goes = λ i j g h. let o = within i g in let p = within j h in full-goes ((i * 4 + j) * 64 + bs i) (bs j) (omega arith) (omega arith);
+        ends = λ i j g h. let o = within i g in let p = within j h in unpruned-ends ((i * 4 + j) * 64 + bs j) (es i) (omega arith) (omega arith);
+        goes = λ i j g h. let o = within i g in let p = within j h in unpruned-goes ((i * 4 + j) * 64 + bs i) (bs j) (omega arith) (omega arith);
       } in
       let cut = conditions (length ms) bs es within few (λ c l. let m = formed .named c l in
       (omega (arith, counted ms), omega (arith, counted ms), met c l)) start in
       pairs bs es within (record {
-        ends = rows bs es (λ i g. let o = within i g in (omega arith, o .1, o .2)) reads (cut .goes) (cut .ends);
+        ends = own .kept bs es within reads (cut .goes) (cut .ends);
         goes = cut .goes;
       })
 
@@ -326,8 +321,8 @@ module _ (ms cs vs table : List ℕ) {allow E G E₁ G₁ E₂ E₃ G₃ : List 
     forward = forward;
     upto = upto;
     allowed = allowed;
-    own = λ i x e l g t. subst (λ (m : ℕ). InTable table m x e × (x ≤ e) × (e ≤ z)) (sym (node-at ms i))
-        (own i x e (omega (arith, counted ms)) g (fewer ((i * 4 + i) * 64 + x) e t));
+    own = λ i x e l g m t. subst (λ (m : ℕ). InTable table m x e × (x ≤ e) × (e ≤ z)) (sym (node-at ms i))
+        (own .own i x e (omega (arith, counted ms)) g m (fewer ((i * 4 + i) * 64 + x) e t));
     have = λ bs es w met reads. rw (counted ms) (have-all bs es (λ i l. w i (omega (arith, counted ms))) met
         (λ i l. subst (λ (m : ℕ). InTable table m (bs i) (es i)) (node-at ms i) (reads i (omega (arith, counted ms)))));
     after = λ i x y e l. after i x y e (omega (arith, counted ms));

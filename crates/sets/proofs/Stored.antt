@@ -11,7 +11,7 @@ use Rattle.bitset.specs.Code.Members.{In}
 use Rattle.sets.specs.Set.{TaskSet, memberCount}
 use Rattle.sets.specs.Code.Set.{member, SetRule}
 use Rattle.sets.specs.Code.Rows.{SetRows, Placed}
-use Rattle.sets.specs.Code.Search.{Masked, EndsHave, BoundsHave, Within, InTables, SearchReady, Grown, Full, Tables}
+use Rattle.sets.specs.Code.Search.{Masked, EndsHave, BoundsHave, InSpan, InTables, SearchReady, Grown, Unpruned, Tables}
 use Rattle.sets.specs.declared.search.Found.{Found}
 use Rattle.bitset.proofs.In.{in-zero, empty-entry}
 use Rattle.model.specs.Code.Table.{InTable}
@@ -32,8 +32,8 @@ pub record RowsTo (s : TaskSet) (p : ℕ) (old new : List ℕ) (b : ℕ) : Type 
   pub rows : (c : ℕ) → c < b → (e : ℕ) → InTable new p c e ↔ SetRule s (InTable old) c e
   pub others : (i : ℕ) → (i < p * 64) ⊎ (p * 64 + s .last < i) → getD new i 0 ≡ getD old i 0
 
-pub rows-none : {s : TaskSet} {p : ℕ} {old : List ℕ} → RowsTo s p old old 0
-rows-none = record { long = refl; rows = λ c l. absurd (omega arith); others = λ i l. refl }
+pub no-rows-yet : {s : TaskSet} {p : ℕ} {old : List ℕ} → RowsTo s p old old 0
+no-rows-yet = record { long = refl; rows = λ c l. absurd (omega arith); others = λ i l. refl }
 
 pub rows-more : {s : TaskSet} {p : ℕ} {old new : List ℕ} (b r : ℕ) → RowsTo s p old new b → p * 64 + 64 ≤ length new → b ≤ s .last → s .last < 64
     → ((e : ℕ) → In r e ↔ SetRule s (InTable old) b e) → RowsTo s p old (set new (p * 64 + b) r) (b + 1)
@@ -65,7 +65,7 @@ pub tables-from : {E G L : List ℕ} {count a b : ℕ} {bs es : ℕ → ℕ} →
 tables-from l h = record { ends = h .ends; goes = h .goes; later = λ i x k m. h .later i x k (omega arith) }
 
 module _ {s : TaskSet} {R : ℕ → ℕ → ℕ → Type 0} {a z b : ℕ} {allow ends goes later : List ℕ} (bounds : List ℕ) (r : Found) (goal : ℕ)
-    (t : Tables s R a z allow ends goes later) (filled : (bs es : ℕ → ℕ) → Within (memberCount s) a z bs es → EndsHave (memberCount s) ends bs es → BoundsHave (memberCount s) bounds bs es)
+    (t : Tables s R a z allow ends goes later) (filled : (bs es : ℕ → ℕ) → InSpan (memberCount s) a z bs es → EndsHave (memberCount s) ends bs es → BoundsHave (memberCount s) bounds bs es)
     (from : a ≤ b) (all : (e : ℕ) (bs es : ℕ → ℕ) → Masked (s .conditions) allow ends (memberCount s) b e bs es → InTables ends goes later (memberCount s) b bs es
     → BoundsHave (memberCount s) bounds bs es → e ≤ z → In goal e → In (r .ends) e) where
   -- an end of `goal` to which the set reads from b is found
@@ -73,15 +73,15 @@ module _ {s : TaskSet} {R : ℕ → ℕ → ℕ → Type 0} {a z b : ℕ} {allow
   row-finds e w g h =
       let p : Placed s R b e (h .begins) (h .ends) = record { reads = h .reads; placing = h .placing } in
       let k = t .kept b e (h .begins) (h .ends) from w p in
-      let inside : Within (memberCount s) a z (h .begins) (h .ends) = λ i l. let o = h .placing .inside i l in (omega arith, o .1, omega arith) in
+      let inside : InSpan (memberCount s) a z (h .begins) (h .ends) = λ i l. let o = h .placing .inside i l in (omega arith, o .1, omega arith) in
       all e (h .begins) (h .ends) (t .masked b e (h .begins) (h .ends) from w p) (tables-from from k) (filled (h .begins) (h .ends) inside (k .ends)) w g
 
 -- and no other end is
 pub row-reads : {s : TaskSet} {R : ℕ → ℕ → ℕ → Type 0} {a z b : ℕ} {allow ends goes later : List ℕ} {f r : Found} → Tables s R a z allow ends goes later → a ≤ b
-    → f .ends ≡ 0 → Grown (s .conditions) allow ends (memberCount s) b f r → (e : ℕ) → In (r .ends) e → SetRule s R b e
-row-reads {b = b} t from none g e u = ⊎-elim
+    → f .ends ≡ 0 → f .upto ≡ z → Grown (s .conditions) allow ends (memberCount s) b f r → (e : ℕ) → In (r .ends) e → SetRule s R b e
+row-reads {b = b} t from none last g e u = ⊎-elim
     (λ v. in-zero none v)
-    (λ v. let p = t .reads b e (v .bs) (v .es) from (g .small (λ d v. in-zero none v) e u) (v .masked) .1 in record { begins = v .bs; ends = v .es; reads = p .reads; placing = p .placing })
+    (λ v. let p = t .reads b e (v .bs) (v .es) from (omega (arith, last, g .upto, g .within (λ d v. in-zero none v) e u)) (v .masked) in record { begins = v .bs; ends = v .es; reads = p .reads; placing = p .placing })
     (g .reads e u)
 
 -- what a row has to do with the rule: each end of `goal` to which the set reads is found, and the set reads to what is found
@@ -90,15 +90,15 @@ pub record RowFound (s : TaskSet) (R : ℕ → ℕ → ℕ → Type 0) (b z goal
   pub reads : (e : ℕ) → In (r .ends) e → SetRule s R b e
 
 pub row-found : {s : TaskSet} {R : ℕ → ℕ → ℕ → Type 0} {a z b : ℕ} {allow ends goes later : List ℕ} (bounds : List ℕ) (f r : Found) (goal count : ℕ) → memberCount s ≡ count
-    → Tables s R a z allow ends goes later → a ≤ b → f .ends ≡ 0
-    → ((bs es : ℕ → ℕ) → Within count a z bs es → EndsHave count ends bs es → BoundsHave count bounds bs es) → Grown (s .conditions) allow ends count b f r
+    → Tables s R a z allow ends goes later → a ≤ b → f .ends ≡ 0 → f .upto ≡ z
+    → ((bs es : ℕ → ℕ) → InSpan count a z bs es → EndsHave count ends bs es → BoundsHave count bounds bs es) → Grown (s .conditions) allow ends count b f r
     → ((e : ℕ) (bs es : ℕ → ℕ) → Masked (s .conditions) allow ends count b e bs es → InTables ends goes later count b bs es → BoundsHave count bounds bs es → e ≤ z → In goal e → In (r .ends) e)
     → RowFound s R b z goal r
-row-found {s} {R} {a} {z} {b} {allow} {ends} {goes} {later} bounds f r goal count q t from none = subst
-    (λ (k : ℕ). ((bs es : ℕ → ℕ) → Within k a z bs es → EndsHave k ends bs es → BoundsHave k bounds bs es) → Grown (s .conditions) allow ends k b f r
+row-found {s} {R} {a} {z} {b} {allow} {ends} {goes} {later} bounds f r goal count q t from none last = subst
+    (λ (k : ℕ). ((bs es : ℕ → ℕ) → InSpan k a z bs es → EndsHave k ends bs es → BoundsHave k bounds bs es) → Grown (s .conditions) allow ends k b f r
     → ((e : ℕ) (bs es : ℕ → ℕ) → Masked (s .conditions) allow ends k b e bs es → InTables ends goes later k b bs es → BoundsHave k bounds bs es → e ≤ z → In goal e → In (r .ends) e)
     → RowFound s R b z goal r)
-    q (λ filled g all. record { finds = row-finds bounds r goal t filled from all; reads = row-reads t from none g })
+    q (λ filled g all. record { finds = row-finds bounds r goal t filled from all; reads = row-reads t from none last g })
 
 -- an array of one word, every entry of which has all moments
 pub every-entry : (k v i : ℕ) → i < k → getD (replicate k v) i 0 ≡ v
@@ -106,8 +106,8 @@ every-entry zero v i l = absurd (omega arith)
 every-entry (suc k) v zero l = refl
 every-entry (suc k) v (suc i) l = every-entry k v i (omega arith)
 
-pub every-full : {v : ℕ} → ((e : ℕ) → e < 64 → In v e) → Full (replicate 1024 v)
-every-full {v} h p e l m = subst (λ (x : ℕ). In x e) (sym (every-entry 1024 v p l)) (h e m)
+pub every-unpruned : {v : ℕ} → ((e : ℕ) → e < 64 → In v e) → Unpruned (replicate 1024 v)
+every-unpruned {v} h p e l m = subst (λ (x : ℕ). In x e) (sym (every-entry 1024 v p l)) (h e m)
 
 -- no begins yet
 pub no-begins : (i : ℕ) → getD (0 ∷ 0 ∷ 0 ∷ 0 ∷ []) i 0 < 64

@@ -3,17 +3,22 @@
 ghost use mathlib.Core.Path.{_≡_};
 ghost use Prim.Native.Nat.{ℕ, _+_, _*_, _<_, _≤_};
 ghost use lib.ListN.{length, getD};
-ghost use Rattle.bitset.specs.Code.Members.{In, Highest};
+ghost use Rattle.bitset.specs.Code.Members.{In};
 ghost use Rattle.sets.specs.Code.Rows.{entryAt};
-ghost use Rattle.sets.specs.Code.Search.{EndsHave, Within, BoundsHave, Fits};
-ghost use Rattle.sets.specs.Code.Bounds.{Grows, Marked, Bounded};
+ghost use Rattle.sets.specs.Code.Search.{EndsHave, InSpan, BoundsHave, InDomains};
+ghost use Rattle.sets.specs.Code.Bounds.{BoundsReady, Grows, EndMarked, Bounded};
 use crate::search;
 use words::MOMENTS;
+
+// The bounds have 1024 words of later ends, 1024 of sooner ones, and for each member j a word of the members w for which they are filled.
+const SOONER: usize = 1024;
+
+const FILLED: usize = 2048;
 
 // Marks begin y in row p at the last and at the first of its ends.
 fn mark(p: usize, y: u32, mask: u64, bounds: &mut [u64; 2052])
     requires { ⌜ (p < 16) × (y < 64) × (length (now bounds) ≡ 2052) ⌝ }
-    ensures { λ _. ⌜ Grows (now (bounds .entry)) (now (bounds .exit)) × ((e : ℕ) → In mask e → Marked (now (bounds .exit)) p y e) ⌝ }
+    ensures { λ _. ⌜ Grows (now (bounds .entry)) (now (bounds .exit)) × ((e : ℕ) → In mask e → EndMarked (now (bounds .exit)) p y e) ⌝ }
 {
     if mask == 0 {
         return;
@@ -21,14 +26,14 @@ fn mark(p: usize, y: u32, mask: u64, bounds: &mut [u64; 2052])
     let begin = bitset::single(y);
     let late = p * MOMENTS + bitset::highest(mask) as usize;
     bounds[late] = bitset::union(bounds[late], begin);
-    let soon = 1024 + p * MOMENTS + bitset::lowest(mask) as usize;
+    let soon = SOONER + p * MOMENTS + bitset::lowest(mask) as usize;
     bounds[soon] = bitset::union(bounds[soon], begin);
 }
 
 // Does so for the begins from a to z, by the ends in row p of the table.
 fn mark_pair(ends: &[u64; 1024], p: usize, a: u32, z: u32, bounds: &mut [u64; 2052])
     requires { ⌜ (p < 16) × (a ≤ z) × (z < 64) × (length (now bounds) ≡ 2052) ⌝ }
-    ensures { λ _. ⌜ Grows (now (bounds .entry)) (now (bounds .exit)) × ((y e : ℕ) → a ≤ y → y ≤ z → a ≤ e → e ≤ z → In (getD (now (ends .entry)) (p * 64 + y) 0) e → Marked (now (bounds .exit)) p y e) ⌝ }
+    ensures { λ _. ⌜ Grows (now (bounds .entry)) (now (bounds .exit)) × ((y e : ℕ) → a ≤ y → y ≤ z → a ≤ e → e ≤ z → In (getD (now (ends .entry)) (p * 64 + y) 0) e → EndMarked (now (bounds .exit)) p y e) ⌝ }
 {
     let window = bitset::between(a, z);
     let mut y = a;
@@ -72,7 +77,7 @@ fn fill_pair(ends: &[u64; 1024], p: usize, a: u32, z: u32, bounds: &mut [u64; 20
 {
     mark_pair(ends, p, a, z, bounds);
     join_down(p * MOMENTS, bounds);
-    join_up(1024 + p * MOMENTS, bounds);
+    join_up(SOONER + p * MOMENTS, bounds);
 }
 
 // Whether some condition ties the end of member w to the begin of member j.
@@ -105,8 +110,8 @@ fn fill_tied(
     z: u32,
     bounds: &mut [u64; 2052],
 )
-    requires { ⌜ (count ≤ 4) × (w < count) × (a ≤ z) × (z < 64) × (length (now bounds) ≡ 2052) ⌝ }
-    ensures { λ _. ⌜ (length (now (bounds .exit)) ≡ 2052) × ((bs es : ℕ → ℕ) → Within count a z bs es → EndsHave count (now (ends .entry)) bs es → BoundsHave count (now (bounds .entry)) bs es → BoundsHave count (now (bounds .exit)) bs es) ⌝ }
+    requires { ⌜ BoundsReady count a z (now bounds) × (w < count) ⌝ }
+    ensures { λ _. ⌜ (length (now (bounds .exit)) ≡ 2052) × ((bs es : ℕ → ℕ) → InSpan count a z bs es → EndsHave count (now (ends .entry)) bs es → BoundsHave count (now (bounds .entry)) bs es → BoundsHave count (now (bounds .exit)) bs es) ⌝ }
 {
     if count <= j {
         return;
@@ -116,7 +121,7 @@ fn fill_tied(
     }
     if tied(conds, w, j) {
         fill_pair(ends, w * 4 + j, a, z, bounds);
-        bounds[2048 + j] = bitset::union(bounds[2048 + j], bitset::single(w as u32));
+        bounds[FILLED + j] = bitset::union(bounds[FILLED + j], bitset::single(w as u32));
     }
 }
 
@@ -129,8 +134,8 @@ pub fn fill(
     z: u32,
     bounds: &mut [u64; 2052],
 )
-    requires { ⌜ (count ≤ 4) × (a ≤ z) × (z < 64) × (length (now bounds) ≡ 2052) × ((q : ℕ) → getD (now bounds) q 0 ≡ 0) ⌝ }
-    ensures { λ _. ⌜ ((bs es : ℕ → ℕ) → Within count a z bs es → EndsHave count (now (ends .entry)) bs es → BoundsHave count (now (bounds .exit)) bs es) ⌝ }
+    requires { ⌜ BoundsReady count a z (now bounds) × ((q : ℕ) → getD (now bounds) q 0 ≡ 0) ⌝ }
+    ensures { λ _. ⌜ ((bs es : ℕ → ℕ) → InSpan count a z bs es → EndsHave count (now (ends .entry)) bs es → BoundsHave count (now (bounds .exit)) bs es) ⌝ }
 {
     let mut p = 0;
     while p < count * 4 {
@@ -148,7 +153,7 @@ fn beside(bounds: &[u64; 2052], p: usize, ends: u64) -> u64
         return 0;
     }
     let late = bounds[p * MOMENTS + bitset::lowest(ends) as usize];
-    let soon = bounds[1024 + p * MOMENTS + bitset::highest(ends) as usize];
+    let soon = bounds[SOONER + p * MOMENTS + bitset::highest(ends) as usize];
     bitset::inter(late, soon)
 }
 
@@ -158,7 +163,7 @@ fn bounded(bounds: &[u64; 2052], count: usize, j: usize, begins: u64, ends: [u64
     ensures { λ r. ⌜ ((bs es : ℕ → ℕ) → BoundsHave count (now (bounds .entry)) bs es → In begins (bs j) → ((i : ℕ) → i < count → In (entryAt ends i) (es i)) → In r (bs j)) × ((x : ℕ) → In r x → In begins x) ⌝ }
 {
     let mut r = begins;
-    let mut rest = bitset::inter(bounds[2048 + j], bitset::upto(count as u32 - 1));
+    let mut rest = bitset::inter(bounds[FILLED + j], bitset::upto(count as u32 - 1));
     while rest != 0 {
         let w = bitset::lowest(rest) as usize;
         r = bitset::inter(r, beside(bounds, w * 4 + j, ends[w]));
@@ -170,7 +175,7 @@ fn bounded(bounds: &[u64; 2052], count: usize, j: usize, begins: u64, ends: [u64
 // The set with the begins that the bounds leave. It has no ends where they leave none.
 pub fn tighten(bounds: &[u64; 2052], count: usize, state: search::Open) -> search::Open
     requires { ⌜ (count ≤ 4) × (state .last < count) ⌝ }
-    ensures { λ r. ⌜ (r .from ≡ state .from) × (r .last ≡ state .last) × (r .left ≡ state .left) × ((bs es : ℕ → ℕ) → BoundsHave count (now (bounds .entry)) bs es → Fits count state bs es → Fits count r bs es) ⌝ }
+    ensures { λ r. ⌜ (r .from ≡ state .from) × (r .last ≡ state .last) × (r .left ≡ state .left) × ((bs es : ℕ → ℕ) → BoundsHave count (now (bounds .entry)) bs es → InDomains count state bs es → InDomains count r bs es) ⌝ }
 {
     let from = state.from;
     let last = state.last;
@@ -179,7 +184,7 @@ pub fn tighten(bounds: &[u64; 2052], count: usize, state: search::Open) -> searc
     let ends = state.ends;
     let mut j = 0;
     while j < count {
-        if bounds[2048 + j] != 0 {
+        if bounds[FILLED + j] != 0 {
             let kept = bounded(bounds, count, j, begins[j], ends);
             if kept == 0 {
                 return search::Open {

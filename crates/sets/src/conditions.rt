@@ -5,23 +5,23 @@ ghost use mathlib.Core.Logic.{_↔_};
 ghost use Prim.Native.Nat.{ℕ, _+_, _*_, _<_, _≤_};
 ghost use lib.ListN.{length, getD};
 ghost use Rattle.bitset.specs.Code.Members.{has, In};
-ghost use Rattle.words.specs.Fields.{conditionI, conditionJ};
+ghost use Rattle.words.specs.Fields.{holds};
 ghost use Rattle.model.specs.Forms.{conditionNumber, HoldsBefore, HoldsAfter, HoldsBetween};
 ghost use Rattle.sets.specs.Set.{MetAs, MetAt};
 ghost use Rattle.model.specs.Code.Arrays.{valueIn};
 ghost use Rattle.sets.specs.Code.Rows.{entryAt};
 ghost use Rattle.sets.specs.Code.Search.{asked, partner, Allowed, EndAt, pairAt};
-ghost use Rattle.sets.specs.Code.Masks.{Failing, MaskOf, Narrowable, Narrowed};
+ghost use Rattle.sets.specs.Code.Masks.{Failing, MaskOf, EndsReady, Narrowable, Narrowed};
 use words::MOMENTS;
 
-// The moments up to n at which formula k does not hold.
-fn failing(values: &[u8; 4096], k: usize, n: u32) -> u64
-    requires { ⌜ (k < 64) × (n < 64) ⌝ }
-    ensures { λ r. ⌜ Failing (valueIn (now (values .entry))) k n r ⌝ }
+// Of the moments from a to z, those at which formula k does not hold.
+fn failing(values: &[u8; 4096], k: usize, a: u32, z: u32) -> u64
+    requires { ⌜ (k < 64) × (a ≤ z) × (z < 64) ⌝ }
+    ensures { λ r. ⌜ ((t : ℕ) → a ≤ t → t ≤ z → In r t ↔ (valueIn (now (values .entry)) k t ≡ holds → ⊥)) ⌝ }
 {
     let mut mask = 0;
-    let mut t = 0;
-    while t <= n {
+    let mut t = a;
+    while t <= z {
         if values[k * MOMENTS + t as usize] != words::HOLDS {
             mask = bitset::union(mask, bitset::single(t));
         }
@@ -30,10 +30,44 @@ fn failing(values: &[u8; 4096], k: usize, n: u32) -> u64
     mask
 }
 
+// The moment d before a, or 0.
+fn back(a: u32, d: u32) -> u32
+    ensures { λ r. ⌜ (r ≤ a) × ((t : ℕ) → a ≤ t + d → r ≤ t) ⌝ }
+{
+    if a < d {
+        return 0;
+    }
+    a - d
+}
+
+// The moment d after z, or n.
+fn forth(z: u32, d: u32, n: u32) -> u32
+    requires { ⌜ (z ≤ n) × (n < 64) × (d < 64) ⌝ }
+    ensures { λ r. ⌜ (z ≤ r) × (r ≤ n) × ((t : ℕ) → t ≤ z + d → t ≤ n → t ≤ r) ⌝ }
+{
+    if n < z + d {
+        return n;
+    }
+    z + d
+}
+
+// The moments at which formula k does not hold, of those at which a condition of this form asks for it where it asks of moments of a..z.
+fn failing_for(values: &[u8; 4096], form: u32, k: usize, last: u32, a: u32, z: u32, n: u32) -> u64
+    requires { ⌜ (k < 64) × (last < 64) × (a ≤ z) × (z ≤ n) × (n < 64) ⌝ }
+    ensures { λ r. ⌜ Failing (conditionNumber form) (valueIn (now (values .entry))) n k last a z r ⌝ }
+{
+    match form {
+        2 => failing(values, k, back(a, last), z),
+        3 => failing(values, k, a, forth(z, last, n)),
+        4 => failing(values, k, a, z),
+        _ => 0,
+    }
+}
+
 // Whether the formula that fails at these moments holds through y - last to y - first.
 fn holds_before(fails: u64, first: u32, last: u32, y: u32) -> bool
     requires { ⌜ (first < 64) × (last < 64) × (y < 64) ⌝ }
-    ensures { λ r. ⌜ ((value : ℕ → ℕ → ℕ) (k n x : ℕ) → y ≤ n → Failing value k n fails → (r ≡ true) ↔ MetAs HoldsBefore value n k first last y y x) ⌝ }
+    ensures { λ r. ⌜ ((value : ℕ → ℕ → ℕ) (k n a z x : ℕ) → a ≤ y → y ≤ z → Failing HoldsBefore value n k last a z fails → (r ≡ true) ↔ MetAs HoldsBefore value n k first last y y x) ⌝ }
 {
     if y < last {
         return false;
@@ -47,7 +81,7 @@ fn holds_before(fails: u64, first: u32, last: u32, y: u32) -> bool
 // Whether it holds through y + first to y + last, which is at most n.
 fn holds_after(fails: u64, first: u32, last: u32, y: u32, n: u32) -> bool
     requires { ⌜ (first < 64) × (last < 64) × (y < 64) × (n < 64) ⌝ }
-    ensures { λ r. ⌜ ((value : ℕ → ℕ → ℕ) (k x : ℕ) → Failing value k n fails → (r ≡ true) ↔ MetAs HoldsAfter value n k first last y y x) ⌝ }
+    ensures { λ r. ⌜ ((value : ℕ → ℕ → ℕ) (k a z x : ℕ) → a ≤ y → y ≤ z → Failing HoldsAfter value n k last a z fails → (r ≡ true) ↔ MetAs HoldsAfter value n k first last y y x) ⌝ }
 {
     if n < y + last {
         return false;
@@ -61,7 +95,7 @@ fn holds_after(fails: u64, first: u32, last: u32, y: u32, n: u32) -> bool
 // The moments of a..z at which a condition of form 2, or else 3, is met.
 fn own_moments(form: u32, fails: u64, first: u32, last: u32, a: u32, z: u32, n: u32) -> u64
     requires { ⌜ (first < 64) × (last < 64) × (a ≤ z) × (z ≤ n) × (n < 64) ⌝ }
-    ensures { λ r. ⌜ ((form ≡ 2) → (value : ℕ → ℕ → ℕ) (k x : ℕ) → Failing value k n fails → MaskOf HoldsBefore value n k first last a z x r) × ((form ≡ 3) → (value : ℕ → ℕ → ℕ) (k x : ℕ) → Failing value k n fails → MaskOf HoldsAfter value n k first last a z x r) ⌝ }
+    ensures { λ r. ⌜ ((form ≡ 2) → (value : ℕ → ℕ → ℕ) (k x : ℕ) → Failing HoldsBefore value n k last a z fails → MaskOf HoldsBefore value n k first last a z x r) × ((form ≡ 3) → (value : ℕ → ℕ → ℕ) (k x : ℕ) → Failing HoldsAfter value n k last a z fails → MaskOf HoldsAfter value n k first last a z x r) ⌝ }
 {
     let mut mask = 0;
     let mut y = a;
@@ -82,7 +116,7 @@ fn own_moments(form: u32, fails: u64, first: u32, last: u32, a: u32, z: u32, n: 
 // The same, and none for another form, whose mask depends on the begin of member j.
 fn own_mask(form: u32, fails: u64, first: u32, last: u32, a: u32, z: u32, n: u32) -> u64
     requires { ⌜ (first < 64) × (last < 64) × (a ≤ z) × (z ≤ n) × (n < 64) ⌝ }
-    ensures { λ r. ⌜ ((form ≡ 2) → (value : ℕ → ℕ → ℕ) (k x : ℕ) → Failing value k n fails → MaskOf HoldsBefore value n k first last a z x r) × ((form ≡ 3) → (value : ℕ → ℕ → ℕ) (k x : ℕ) → Failing value k n fails → MaskOf HoldsAfter value n k first last a z x r) ⌝ }
+    ensures { λ r. ⌜ ((form ≡ 2) → (value : ℕ → ℕ → ℕ) (k x : ℕ) → Failing HoldsBefore value n k last a z fails → MaskOf HoldsBefore value n k first last a z x r) × ((form ≡ 3) → (value : ℕ → ℕ → ℕ) (k x : ℕ) → Failing HoldsAfter value n k last a z fails → MaskOf HoldsAfter value n k first last a z x r) ⌝ }
 {
     if form < 2 {
         return 0;
@@ -107,47 +141,38 @@ fn window(first: u32, last: u32, x: u32) -> u64
     bitset::between(x - last, x - first)
 }
 
-// The moments y up to n from which the formula holds through y + first to x - last.
-fn holds_until(fails: u64, first: u32, last: u32, x: u32, n: u32) -> u64
-    requires { ⌜ (first < 64) × (last < 64) × (x ≤ n) × (n < 64) ⌝ }
-    ensures { λ r. ⌜ ((value : ℕ → ℕ → ℕ) (k y : ℕ) → Failing value k n fails → In r y ↔ ((y ≤ n) × MetAs HoldsBetween value n k first last y y x)) ⌝ }
+// The moments y of a..z from which the formula holds through y + first to x - last.
+fn holds_until(fails: u64, first: u32, last: u32, x: u32, a: u32, z: u32) -> u64
+    requires { ⌜ (first < 64) × (last < 64) × (a ≤ x) × (x ≤ z) × (z < 64) ⌝ }
+    ensures { λ r. ⌜ ((value : ℕ → ℕ → ℕ) (n k y : ℕ) → Failing HoldsBetween value n k last a z fails → In r y ↔ ((a ≤ y) × (y ≤ z) × MetAs HoldsBetween value n k first last y y x)) ⌝ }
 {
+    let all = bitset::between(a, z);
     if x < last {
-        return bitset::upto(n);
+        return all;
     }
     match bitset::highest_upto(fails, x - last) {
         bitset::Member::At(g) => {
             if g < first {
-                bitset::upto(n)
+                all
             } else {
-                bitset::minus(bitset::upto(n), bitset::upto(g - first))
+                bitset::minus(all, bitset::upto(g - first))
             }
         }
-        bitset::Member::Nothing => bitset::upto(n),
+        bitset::Member::Nothing => all,
     }
 }
 
 // The mask of a condition where its member j begins at x; `own` is that of a condition that asks nothing of j.
-fn mask_at(
-    form: u32,
-    fails: u64,
-    own: u64,
-    first: u32,
-    last: u32,
-    x: u32,
-    a: u32,
-    z: u32,
-    n: u32,
-) -> u64
-    requires { ⌜ (first < 64) × (last < 64) × (a ≤ x) × (x ≤ z) × (z ≤ n) × (n < 64) ⌝ }
-    ensures { λ r. ⌜ ((value : ℕ → ℕ → ℕ) (k : ℕ) → Failing value k n fails → ((form ≡ 2) → MaskOf HoldsBefore value n k first last a z x own) → ((form ≡ 3) → MaskOf HoldsAfter value n k first last a z x own) → MaskOf (conditionNumber form) value n k first last a z x r) ⌝ }
+fn mask_at(form: u32, fails: u64, own: u64, first: u32, last: u32, x: u32, a: u32, z: u32) -> u64
+    requires { ⌜ (first < 64) × (last < 64) × (a ≤ x) × (x ≤ z) × (z < 64) ⌝ }
+    ensures { λ r. ⌜ ((value : ℕ → ℕ → ℕ) (n k : ℕ) → Failing (conditionNumber form) value n k last a z fails → ((form ≡ 2) → MaskOf HoldsBefore value n k first last a z x own) → ((form ≡ 3) → MaskOf HoldsAfter value n k first last a z x own) → MaskOf (conditionNumber form) value n k first last a z x r) ⌝ }
 {
     match form {
         0 => bitset::inter(window(first, last, x), bitset::between(a, z)),
         1 => bitset::inter(window(first, last, x), bitset::between(a, z)),
         2 => own,
         3 => own,
-        4 => bitset::inter(holds_until(fails, first, last, x, n), bitset::between(a, z)),
+        4 => holds_until(fails, first, last, x, a, z),
         _ => 0,
     }
 }
@@ -160,11 +185,11 @@ fn fill_masks(values: &[u8; 4096], w: u32, c: usize, a: u32, z: u32, n: u32, all
     let form = words::form_of(w);
     let first = words::condition_m(w) as u32;
     let last = words::condition_n(w) as u32;
-    let fails = failing(values, words::condition_formula(w), n);
+    let fails = failing_for(values, form, words::condition_formula(w), last, a, z, n);
     let own = own_mask(form, fails, first, last, a, z, n);
     let mut x = a;
     while x <= z {
-        allow[c * MOMENTS + x as usize] = mask_at(form, fails, own, first, last, x, a, z, n);
+        allow[c * MOMENTS + x as usize] = mask_at(form, fails, own, first, last, x, a, z);
         x += 1;
     }
 }
@@ -267,7 +292,7 @@ pub fn ends_at(
     count: usize,
     begins: [u32; 4],
 ) -> [u64; 4]
-    requires { ⌜ (count ≤ 4) × (length (now conds) ≤ 8) × ((c : ℕ) → c < length (now conds) → (conditionI (getD (now conds) c 0) < 4) × (conditionJ (getD (now conds) c 0) < 4)) × ((i : ℕ) → entryAt begins i < 64) ⌝ }
+    requires { ⌜ EndsReady (now conds) count begins ⌝ }
     ensures { λ r. ⌜ ((i e : ℕ) → i < count → In (entryAt r i) e ↔ EndAt (now (conds .entry)) (now (allow .entry)) (now (ends .entry)) (entryAt begins) i e) ⌝ }
 {
     narrow(conds, allow, begins, own_ends(ends, count, begins))

@@ -4,7 +4,7 @@ ghost use mathlib.Core.Bool.{true};
 ghost use mathlib.Core.Logic.{_↔_};
 ghost use Prim.Native.Nat.{ℕ, _<_, _≤_};
 ghost use Rattle.bitset.specs.Code.Members.{In};
-ghost use Rattle.sets.specs.Code.Cover.{Some, Needed, Coverable};
+ghost use Rattle.sets.specs.Code.Cover.{Some, Needed, Coverable, CoverReady};
 ghost use Rattle.sets.specs.Code.Rows.{entryAt};
 
 // The ends of the members that begin before x.
@@ -68,7 +68,7 @@ fn begins_at(begins: [u32; 4], count: usize, b: u32) -> bool
 
 // The ends e of which some choice of ends covers b..e.
 pub fn covered(begins: [u32; 4], ends: [u64; 4], count: usize, b: u32) -> u64
-    requires { ⌜ (count ≤ 4) × ((i : ℕ) → entryAt begins i < 64) × ((i e : ℕ) → i < count → In (entryAt ends i) e → e < 64) ⌝ }
+    requires { ⌜ CoverReady count (entryAt begins) (entryAt ends) ⌝ }
     ensures { λ r. ⌜ ((e : ℕ) → In r e ↔ Coverable count (entryAt begins) (entryAt ends) b e) ⌝ }
 {
     if !begins_at(begins, count, b) {

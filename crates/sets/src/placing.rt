@@ -1,6 +1,5 @@
 // A placement, for whoever writes a reading.
 ghost use Prim.Native.Nat.{ℕ, _+_, _<_, _≤_};
-ghost use lib.ListN.{length};
 ghost use Rattle.bitset.specs.Code.Members.{Highest, In};
 ghost use Rattle.sets.specs.Code.Rows.{taskSetOf, entryAt, Placed, Placeable};
 ghost use Rattle.model.specs.Code.Table.{InTable};

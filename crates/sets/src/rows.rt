@@ -1,5 +1,5 @@
 // The rows of a task set: for each begin, the mask of the ends that the set reads to.
-ghost use Prim.Native.Nat.{ℕ, _+_, _*_, _<_, _≤_};
+ghost use Prim.Native.Nat.{_+_, _*_};
 ghost use lib.ListN.{length};
 ghost use Rattle.sets.specs.Code.Rows.{taskSetOf, SetReady, SetRows};
 use crate::bounds;

@@ -6,10 +6,10 @@ ghost use mathlib.Core.Bool.{not, _&&_};
 ghost use mathlib.Core.List.{List, [], _∷_};
 ghost use Prim.Native.Nat.{ℕ, _+_, _*_, _<_, _≤_};
 ghost use lib.Dec.{eqb};
-ghost use lib.ListN.{length, getD};
+ghost use lib.ListN.{getD};
 ghost use Rattle.bitset.specs.Code.Members.{has, In, IsSetOf};
 ghost use Rattle.sets.specs.Code.Rows.{entryAt};
-ghost use Rattle.sets.specs.Code.Search.{pairAt, EndAt, Masked, InTables, SearchReady, BoundsHave, Fits, Grown, FindsAll};
+ghost use Rattle.sets.specs.Code.Search.{pairAt, Masked, InTables, SearchReady, UnplacedReady, OpenReady, LeafReady, TryReady, PutReady, BoundsHave, InDomains, Grown, FindsAll};
 use crate::bounds;
 use crate::conditions;
 use crate::covering;
@@ -75,8 +75,8 @@ fn put(
     i: usize,
     x: u32,
 ) -> Open
-    requires { ⌜ (count ≤ 4) × (i < count) × (x < 64) × (state .last < count) × (state .from < 64) ⌝ }
-    ensures { λ r. ⌜ (r .from ≡ state .from) × (r .last ≡ state .last) × IsSetOf (r .left) (λ k. has (state .left) k && not (eqb k i)) × ((bs es : ℕ → ℕ) → InTables (now (ends .entry)) (now (goes .entry)) (now (later .entry)) count (state .from) bs es → Fits count state bs es → bs i ≡ x → Fits count r bs es) ⌝ }
+    requires { ⌜ PutReady count state i x ⌝ }
+    ensures { λ r. ⌜ (r .from ≡ state .from) × (r .last ≡ state .last) × IsSetOf (r .left) (λ k. has (state .left) k && not (eqb k i)) × ((bs es : ℕ → ℕ) → InTables (now (ends .entry)) (now (goes .entry)) (now (later .entry)) count (state .from) bs es → InDomains count state bs es → bs i ≡ x → InDomains count r bs es) ⌝ }
 {
     let from = state.from;
     let last = state.last;
@@ -127,7 +127,7 @@ fn reach(begins: u64, ends: u64) -> u64
 // Moments up to the first end of `last` that no member that is placed covers; none while `last` is left.
 fn gaps(count: usize, state: Open) -> u64
     requires { ⌜ (count ≤ 4) × (state .last < count) × (state .from < 64) ⌝ }
-    ensures { λ r. ⌜ ((g : ℕ) (bs es : ℕ → ℕ) → In r g → Fits count state bs es → (state .from ≤ g) × (g ≤ es (state .last)) × ((i : ℕ) → i < count → bs i ≤ g → g ≤ es i → In (state .left) i)) ⌝ }
+    ensures { λ r. ⌜ ((g : ℕ) (bs es : ℕ → ℕ) → In r g → InDomains count state bs es → (state .from ≤ g) × (g ≤ es (state .last)) × ((i : ℕ) → i < count → bs i ≤ g → g ≤ es i → In (state .left) i)) ⌝ }
 {
     let last = state.last;
     let begins = state.begins;
@@ -175,7 +175,7 @@ fn choose(count: usize, state: Open) -> usize
 // The set where member i begins by moment g and ends at moment h or later.
 fn over(state: Open, i: usize, g: u32, h: u32) -> Open
     requires { ⌜ (i < 4) × (g < 64) × (h < 64) ⌝ }
-    ensures { λ r. ⌜ (r .from ≡ state .from) × (r .last ≡ state .last) × (r .left ≡ state .left) × ((count : ℕ) (bs es : ℕ → ℕ) → Fits count state bs es → bs i ≤ g → h ≤ es i → Fits count r bs es) ⌝ }
+    ensures { λ r. ⌜ (r .from ≡ state .from) × (r .last ≡ state .last) × (r .left ≡ state .left) × ((count : ℕ) (bs es : ℕ → ℕ) → InDomains count state bs es → bs i ≤ g → h ≤ es i → InDomains count r bs es) ⌝ }
 {
     let mut begins = state.begins;
     let mut ends = state.ends;
@@ -204,7 +204,7 @@ fn last_gap(left: u64, gaps: u64, g: u32) -> u32
 // The set to ends that are not found yet.
 fn beyond(state: Open, found: u64) -> Open
     requires { ⌜ state .last < 4 ⌝ }
-    ensures { λ r. ⌜ (r .from ≡ state .from) × (r .last ≡ state .last) × (r .left ≡ state .left) × (r .begins ≡ state .begins) × ((count : ℕ) (bs es : ℕ → ℕ) → state .last < count → Fits count state bs es → In found (es (state .last)) ⊎ Fits count r bs es) ⌝ }
+    ensures { λ r. ⌜ (r .from ≡ state .from) × (r .last ≡ state .last) × (r .left ≡ state .left) × (r .begins ≡ state .begins) × ((count : ℕ) (bs es : ℕ → ℕ) → state .last < count → InDomains count state bs es → In found (es (state .last)) ⊎ InDomains count r bs es) ⌝ }
 {
     let last = state.last;
     let begins = state.begins;
@@ -231,8 +231,8 @@ fn placed(
     x: u32,
     found: u64,
 ) -> Open
-    requires { ⌜ (count ≤ 4) × (i < count) × (x < 64) × (state .last < count) × (state .from < 64) ⌝ }
-    ensures { λ r. ⌜ (r .from ≡ state .from) × (r .last ≡ state .last) × IsSetOf (r .left) (λ k. has (state .left) k && not (eqb k i)) × ((bs es : ℕ → ℕ) → InTables (now (ends .entry)) (now (goes .entry)) (now (later .entry)) count (state .from) bs es → BoundsHave count (now (bounds .entry)) bs es → Fits count state bs es → bs i ≡ x → In found (es (state .last)) ⊎ Fits count r bs es) ⌝ }
+    requires { ⌜ PutReady count state i x ⌝ }
+    ensures { λ r. ⌜ (r .from ≡ state .from) × (r .last ≡ state .last) × IsSetOf (r .left) (λ k. has (state .left) k && not (eqb k i)) × ((bs es : ℕ → ℕ) → InTables (now (ends .entry)) (now (goes .entry)) (now (later .entry)) count (state .from) bs es → BoundsHave count (now (bounds .entry)) bs es → InDomains count state bs es → bs i ≡ x → In found (es (state .last)) ⊎ InDomains count r bs es) ⌝ }
 {
     let next = put(ends, goes, later, count, beyond(state, found), i, x);
     bounds::tighten(bounds, count, next)
@@ -265,7 +265,7 @@ fn leaf(
     state: Open,
     found: Found,
 ) -> Found
-    requires { ⌜ SearchReady (now conds) (now ends) count (state .from) (found .upto) × (state .left ≡ 0) × (state .last < count) ⌝ }
+    requires { ⌜ LeafReady (now conds) (now ends) count state (found .upto) ⌝ }
     ensures { λ r. ⌜ Grown (now (conds .entry)) (now (allow .entry)) (now (ends .entry)) count (state .from) found r × ((goes later bounds : List ℕ) → FindsAll (now (conds .entry)) (now (allow .entry)) (now (ends .entry)) goes later bounds count state r) ⌝ }
 {
     let kept = found.begins;
@@ -300,7 +300,7 @@ fn search(
     state: Open,
     found: Found,
 ) -> Found
-    requires { ⌜ SearchReady (now conds) (now ends) count (state .from) (found .upto) × (state .last < count) × ((i : ℕ) → In (state .left) i → i < count) ⌝ }
+    requires { ⌜ OpenReady (now conds) (now ends) count state (found .upto) ⌝ }
     ensures { λ r. ⌜ Grown (now (conds .entry)) (now (allow .entry)) (now (ends .entry)) count (state .from) found r × FindsAll (now (conds .entry)) (now (allow .entry)) (now (ends .entry)) (now (goes .entry)) (now (later .entry)) (now (bounds .entry)) count state r ⌝ }
 {
     if state.left == 0 {
@@ -348,7 +348,7 @@ fn tries(
     i: usize,
     found: Found,
 ) -> Found
-    requires { ⌜ SearchReady (now conds) (now ends) count (state .from) (found .upto) × (state .last < count) × ((k : ℕ) → In (state .left) k → k < count) × In (state .left) i ⌝ }
+    requires { ⌜ TryReady (now conds) (now ends) count state i (found .upto) ⌝ }
     ensures { λ r. ⌜ Grown (now (conds .entry)) (now (allow .entry)) (now (ends .entry)) count (state .from) found r × FindsAll (now (conds .entry)) (now (allow .entry)) (now (ends .entry)) (now (goes .entry)) (now (later .entry)) (now (bounds .entry)) count state r ⌝ }
 {
     let begins = state.begins;
@@ -374,8 +374,8 @@ fn tries(
 
 // The set from a to z before any member is placed: each may begin at any moment, and `last` ends at one of `goal`.
 fn unplaced(later: &[u64; 256], count: usize, a: u32, z: u32, last: usize, goal: u64) -> Open
-    requires { ⌜ (0 < count) × (count ≤ 4) × (last < count) × (a ≤ z) × (z < 64) ⌝ }
-    ensures { λ r. ⌜ (r .from ≡ a) × (r .last ≡ last) × ((i : ℕ) → In (r .left) i ↔ (i < count)) × ((ends goes : List ℕ) (bs es : ℕ → ℕ) → InTables ends goes (now (later .entry)) count a bs es → ((i : ℕ) → i < count → (a ≤ bs i) × (bs i ≤ es i) × (es i ≤ es last) × (es i ≤ z)) → In goal (es last) → Fits count r bs es) ⌝ }
+    requires { ⌜ UnplacedReady count last a z ⌝ }
+    ensures { λ r. ⌜ (r .from ≡ a) × (r .last ≡ last) × ((i : ℕ) → In (r .left) i ↔ (i < count)) × ((ends goes : List ℕ) (bs es : ℕ → ℕ) → InTables ends goes (now (later .entry)) count a bs es → ((i : ℕ) → i < count → (a ≤ bs i) × (bs i ≤ es i) × (es i ≤ es last) × (es i ≤ z)) → In goal (es last) → InDomains count r bs es) ⌝ }
 {
     let every = bitset::between(a, z);
     let mut ends = [0u64; 4];

@@ -7,11 +7,9 @@ ghost use Prim.Native.Nat.{ℕ, _+_, _*_, _<_, _≤_};
 ghost use lib.ListN.{length, getD};
 ghost use Rattle.bitset.specs.Code.Members.{In};
 ghost use Rattle.words.specs.Fields.{memberNode, conditionI, conditionJ};
-ghost use Rattle.sets.specs.Set.{memberCount};
-ghost use Rattle.sets.specs.Code.Set.{member, Formed};
 ghost use Rattle.sets.specs.Code.Rows.{taskSetOf};
 ghost use Rattle.model.specs.Code.Table.{InTable};
-ghost use Rattle.sets.specs.Code.Search.{pairAt, MetAtMask, MetByMask, EndsHave, GoesHave, Have, Fewer, Cut, Within, Full, Tables};
+ghost use Rattle.sets.specs.Code.Search.{pairAt, MetAtMask, MetByMask, Have, Fewer, Cut, ConditionReady, ConditionsReady, InSpan, OwnRow, OwnRows, LaterReady, TablesReady, Tables};
 use crate::conditions;
 use words::MOMENTS;
 
@@ -37,8 +35,8 @@ fn cut_for(
     ends: &mut [u64; 1024],
     goes: &mut [u64; 1024],
 )
-    requires { ⌜ (c < 8) × (conditionI w < 4) × (conditionJ w < 4) × (a ≤ z) × (z < 64) ⌝ }
-    ensures { λ _. ⌜ ((count : ℕ) (bs es : ℕ → ℕ) → Within count a z bs es → count ≤ 4 → conditionI w < count → conditionJ w < count → MetAtMask w (now (allow .entry)) bs c (es (conditionI w)) → Have (now (ends .entry)) (now (goes .entry)) count bs es → Have (now (ends .exit)) (now (goes .exit)) count bs es) ⌝ }
+    requires { ⌜ ConditionReady w c a z ⌝ }
+    ensures { λ _. ⌜ ((count : ℕ) (bs es : ℕ → ℕ) → InSpan count a z bs es → count ≤ 4 → conditionI w < count → conditionJ w < count → MetAtMask w (now (allow .entry)) bs c (es (conditionI w)) → Have (now (ends .entry)) (now (goes .entry)) count bs es → Have (now (ends .exit)) (now (goes .exit)) count bs es) ⌝ }
 {
     let form = words::form_of(w);
     let i = words::condition_i(w);
@@ -59,8 +57,8 @@ fn cut_all(
     ends: &mut [u64; 1024],
     goes: &mut [u64; 1024],
 )
-    requires { ⌜ (length (now conds) ≤ 8) × ((c : ℕ) → c < length (now conds) → (conditionI (getD (now conds) c 0) < 4) × (conditionJ (getD (now conds) c 0) < 4)) × (a ≤ z) × (z < 64) ⌝ }
-    ensures { λ _. ⌜ ((count : ℕ) (bs es : ℕ → ℕ) → Within count a z bs es → count ≤ 4 → ((c : ℕ) → c < length (now (conds .entry)) → (conditionI (getD (now (conds .entry)) c 0) < count) × (conditionJ (getD (now (conds .entry)) c 0) < count) × MetByMask (now (conds .entry)) (now (allow .entry)) bs c (es (conditionI (getD (now (conds .entry)) c 0)))) → Have (now (ends .entry)) (now (goes .entry)) count bs es → Have (now (ends .exit)) (now (goes .exit)) count bs es) ⌝ }
+    requires { ⌜ ConditionsReady (now conds) a z ⌝ }
+    ensures { λ _. ⌜ ((count : ℕ) (bs es : ℕ → ℕ) → InSpan count a z bs es → count ≤ 4 → ((c : ℕ) → c < length (now (conds .entry)) → (conditionI (getD (now (conds .entry)) c 0) < count) × (conditionJ (getD (now (conds .entry)) c 0) < count) × MetByMask (now (conds .entry)) (now (allow .entry)) bs c (es (conditionI (getD (now (conds .entry)) c 0)))) → Have (now (ends .entry)) (now (goes .entry)) count bs es → Have (now (ends .exit)) (now (goes .exit)) count bs es) ⌝ }
 {
     let mut c = 0;
     while c < conds.len() {
@@ -79,12 +77,9 @@ fn own_row(
     ends: &[u64; 1024],
     goes: &[u64; 1024],
 ) -> u64
-    requires { ⌜ (m * 64 + 64 ≤ length (now table)) × (i < 4) × (x < 64) × (z < 64) ⌝ }
+    requires { ⌜ (m * 64 + 64 ≤ length (now table)) × (i < 4) × (x ≤ z) × (z < 64) ⌝ }
     ensures { λ r. ⌜ ((e : ℕ) → In r e ↔ (InTable (now (table .entry)) m x e × (x ≤ e) × (e ≤ z) × In (pairAt (now (ends .entry)) i i x) e × In (pairAt (now (goes .entry)) i i x) x)) ⌝ }
 {
-    if z < x {
-        return 0;
-    }
     let p = (i * 4 + i) * MOMENTS + x as usize;
     if !bitset::has(goes[p], x) {
         return 0;
@@ -93,17 +88,43 @@ fn own_row(
     bitset::inter(row, ends[p])
 }
 
-// Puts the own rows of all members on the diagonal of `ends`.
-fn fill_own(members: &[u32], table: &[u64], z: u32, goes: &[u64; 1024], ends: &mut [u64; 1024])
-    requires { ⌜ (length (now members) ≤ 4) × ((i : ℕ) → i < length (now members) → memberNode (getD (now members) i 0) * 64 + 64 ≤ length (now table)) × (z < 64) ⌝ }
-    ensures { λ _. ⌜ ((i x e : ℕ) → i < length (now (members .entry)) → x < 64 → In (pairAt (now (ends .exit)) i i x) e → InTable (now (table .entry)) (memberNode (getD (now (members .entry)) i 0)) x e × (x ≤ e) × (e ≤ z)) × ((bs es : ℕ → ℕ) → Within (length (now (members .entry))) 0 z bs es → ((i : ℕ) → i < length (now (members .entry)) → InTable (now (table .entry)) (memberNode (getD (now (members .entry)) i 0)) (bs i) (es i)) → GoesHave (length (now (members .entry))) (now (goes .entry)) bs → EndsHave (length (now (members .entry))) (now (ends .entry)) bs es → EndsHave (length (now (members .entry))) (now (ends .exit)) bs es) ⌝ }
+// Puts the row of member i, of node m, on the diagonal of `ends`, for its begins from a to z.
+fn fill_own_row(
+    table: &[u64],
+    m: usize,
+    i: usize,
+    a: u32,
+    z: u32,
+    goes: &[u64; 1024],
+    ends: &mut [u64; 1024],
+)
+    requires { ⌜ (m * 64 + 64 ≤ length (now table)) × (i < 4) × (a ≤ z) × (z < 64) ⌝ }
+    ensures { λ _. ⌜ OwnRow (InTable (now (table .entry)) m) (now (goes .entry)) i a z (now (ends .entry)) (now (ends .exit)) (z + 1) ⌝ }
 {
-    let mut p = 0;
-    while p < members.len() * MOMENTS {
-        let x = (p % 64) as u32;
-        let m = words::member_node(members[p / 64]);
-        ends[(p / 64) * 320 + p % 64] = own_row(table, m, p / 64, x, z, ends, goes);
-        p += 1;
+    let mut x = a;
+    while x <= z {
+        let row = own_row(table, m, i, x, z, ends, goes);
+        ends[(i * 4 + i) * MOMENTS + x as usize] = row;
+        x += 1;
+    }
+}
+
+// Does so for each member.
+fn fill_own(
+    members: &[u32],
+    table: &[u64],
+    a: u32,
+    z: u32,
+    goes: &[u64; 1024],
+    ends: &mut [u64; 1024],
+)
+    requires { ⌜ (length (now members) ≤ 4) × ((i : ℕ) → i < length (now members) → memberNode (getD (now members) i 0) * 64 + 64 ≤ length (now table)) × (a ≤ z) × (z < 64) ⌝ }
+    ensures { λ _. ⌜ OwnRows (now (members .entry)) (now (table .entry)) (now (goes .entry)) a z (now (ends .entry)) (now (ends .exit)) (length (now (members .entry))) ⌝ }
+{
+    let mut i = 0;
+    while i < members.len() {
+        fill_own_row(table, words::member_node(members[i]), i, a, z, goes, ends);
+        i += 1;
     }
 }
 
@@ -174,7 +195,7 @@ fn some_ends(ends: &[u64; 1024], i: usize, j: usize, begins: u64) -> u64
 // is left.
 fn cut_pair(i: usize, j: usize, a: u32, z: u32, ends: &mut [u64; 1024], goes: &mut [u64; 1024])
     requires { ⌜ (i < 4) × (j < 4) × (a ≤ z) × (z < 64) ⌝ }
-    ensures { λ _. ⌜ Fewer (now (ends .entry)) (now (ends .exit)) × ((count : ℕ) (bs es : ℕ → ℕ) → i < count → j < count → count ≤ 4 → Within count a z bs es → Have (now (ends .entry)) (now (goes .entry)) count bs es → Have (now (ends .exit)) (now (goes .exit)) count bs es) ⌝ }
+    ensures { λ _. ⌜ Fewer (now (ends .entry)) (now (ends .exit)) × ((count : ℕ) (bs es : ℕ → ℕ) → i < count → j < count → count ≤ 4 → InSpan count a z bs es → Have (now (ends .entry)) (now (goes .entry)) count bs es → Have (now (ends .exit)) (now (goes .exit)) count bs es) ⌝ }
 {
     let mut x = a;
     while x <= z {
@@ -187,7 +208,7 @@ fn cut_pair(i: usize, j: usize, a: u32, z: u32, ends: &mut [u64; 1024], goes: &m
 }
 
 // Whether some condition is on members i and j.
-fn tied(conds: &[u32], i: usize, j: usize) -> bool {
+fn constrained(conds: &[u32], i: usize, j: usize) -> bool {
     let mut c = 0;
     while c < conds.len() {
         let w = conds[c];
@@ -209,7 +230,7 @@ fn tied(conds: &[u32], i: usize, j: usize) -> bool {
 }
 
 // Does so for a pair of different members of the set that a condition is on.
-fn cut_tied(
+fn cut_constrained(
     conds: &[u32],
     count: usize,
     i: usize,
@@ -220,7 +241,7 @@ fn cut_tied(
     goes: &mut [u64; 1024],
 )
     requires { ⌜ (count ≤ 4) × (i < count) × (a ≤ z) × (z < 64) ⌝ }
-    ensures { λ _. ⌜ Fewer (now (ends .entry)) (now (ends .exit)) × ((bs es : ℕ → ℕ) → Within count a z bs es → Have (now (ends .entry)) (now (goes .entry)) count bs es → Have (now (ends .exit)) (now (goes .exit)) count bs es) ⌝ }
+    ensures { λ _. ⌜ Fewer (now (ends .entry)) (now (ends .exit)) × ((bs es : ℕ → ℕ) → InSpan count a z bs es → Have (now (ends .entry)) (now (goes .entry)) count bs es → Have (now (ends .exit)) (now (goes .exit)) count bs es) ⌝ }
 {
     if count <= j {
         return;
@@ -228,7 +249,7 @@ fn cut_tied(
     if i == j {
         return;
     }
-    if tied(conds, i, j) {
+    if constrained(conds, i, j) {
         cut_pair(i, j, a, z, ends, goes);
     }
 }
@@ -243,18 +264,18 @@ fn cut_pairs(
     goes: &mut [u64; 1024],
 )
     requires { ⌜ (count ≤ 4) × (a ≤ z) × (z < 64) ⌝ }
-    ensures { λ _. ⌜ Fewer (now (ends .entry)) (now (ends .exit)) × ((bs es : ℕ → ℕ) → Within count a z bs es → Have (now (ends .entry)) (now (goes .entry)) count bs es → Have (now (ends .exit)) (now (goes .exit)) count bs es) ⌝ }
+    ensures { λ _. ⌜ Fewer (now (ends .entry)) (now (ends .exit)) × ((bs es : ℕ → ℕ) → InSpan count a z bs es → Have (now (ends .entry)) (now (goes .entry)) count bs es → Have (now (ends .exit)) (now (goes .exit)) count bs es) ⌝ }
 {
     let mut p = 0;
     while p < count * 4 {
-        cut_tied(conds, count, p / 4, p % 4, a, z, ends, goes);
+        cut_constrained(conds, count, p / 4, p % 4, a, z, ends, goes);
         p += 1;
     }
 }
 
 // The ends of member i begun at x or later, for each x from z down to a.
 fn fill_later_row(ends: &[u64; 1024], i: usize, a: u32, z: u32, later: &mut [u64; 256])
-    requires { ⌜ (i < 4) × (a ≤ z) × (z < 64) × (length (now later) ≡ 256) ⌝ }
+    requires { ⌜ (i < 4) × LaterReady a z (now later) ⌝ }
     ensures { λ _. ⌜ ((x y e : ℕ) → a ≤ x → x ≤ y → y ≤ z → In (pairAt (now (ends .entry)) i i y) e → In (getD (now (later .exit)) (i * 64 + x) 0) e) × ((p : ℕ) → p < i * 64 → getD (now (later .exit)) p 0 ≡ getD (now (later .entry)) p 0) × (length (now (later .exit)) ≡ 256) ⌝ }
 {
     let mut all = 0;
@@ -267,7 +288,7 @@ fn fill_later_row(ends: &[u64; 1024], i: usize, a: u32, z: u32, later: &mut [u64
 }
 
 fn fill_later(ends: &[u64; 1024], count: usize, a: u32, z: u32, later: &mut [u64; 256])
-    requires { ⌜ (count ≤ 4) × (a ≤ z) × (z < 64) × (length (now later) ≡ 256) ⌝ }
+    requires { ⌜ (count ≤ 4) × LaterReady a z (now later) ⌝ }
     ensures { λ _. ⌜ ((i x y e : ℕ) → i < count → a ≤ x → x ≤ y → y ≤ z → In (pairAt (now (ends .entry)) i i y) e → In (getD (now (later .exit)) (i * 64 + x) 0) e) ⌝ }
 {
     let mut i = 0;
@@ -291,12 +312,12 @@ pub fn fill(
     goes: &mut [u64; 1024],
     later: &mut [u64; 256],
 )
-    requires { ⌜ Formed (taskSetOf (now members) (now conds) (now values) n) × ((i : ℕ) → i < memberCount (taskSetOf (now members) (now conds) (now values) n) → member (taskSetOf (now members) (now conds) (now values) n) i * 64 + 64 ≤ length (now table)) × (a ≤ z) × (z ≤ n) × Full (now ends) × Full (now goes) × (length (now allow) ≡ 512) × (length (now later) ≡ 256) ⌝ }
+    requires { ⌜ TablesReady (taskSetOf (now members) (now conds) (now values) n) (now table) a z (now allow) (now ends) (now goes) (now later) ⌝ }
     ensures { λ _. ⌜ Tables (taskSetOf (now (members .entry)) (now (conds .entry)) (now (values .entry)) n) (InTable (now (table .entry))) a z (now (allow .exit)) (now (ends .exit)) (now (goes .exit)) (now (later .exit)) ⌝ }
 {
     conditions::fill_allowed(values, conds, a, z, n, allow);
     cut_all(conds, allow, a, z, ends, goes);
-    fill_own(members, table, z, goes, ends);
+    fill_own(members, table, a, z, goes, ends);
     cut_pairs(conds, members.len(), a, z, ends, goes);
     fill_later(ends, members.len(), a, z, later);
 }

@@ -6,6 +6,13 @@ use mathlib.Core.List.{List}
 use lib.ListN.{length, getD}
 use Rattle.bitset.specs.Code.Members.{In}
 
+-- what filling the bounds for the moments a..z needs
+pub record BoundsReady (count a z : ℕ) (bounds : List ℕ) : Type 0 where
+  pub few : count ≤ 4
+  pub forward : a ≤ z
+  pub moments : z < 64
+  pub long : length bounds ≡ 2052
+
 -- each entry keeps its members, and the entries from 2048 on are as they were
 pub record Grows (old new : List ℕ) : Type 0 where
   pub long : length new ≡ 2052
@@ -13,7 +20,7 @@ pub record Grows (old new : List ℕ) : Type 0 where
   pub words : (q : ℕ) → 2048 ≤ q → getD new q 0 ≡ getD old q 0
 
 -- begin y stands in row p at some end that is not before e, and at some end that is not after e
-pub record Marked (bounds : List ℕ) (p y e : ℕ) : Type 0 where
+pub record EndMarked (bounds : List ℕ) (p y e : ℕ) : Type 0 where
   pub high : ℕ
   pub low : ℕ
   pub above : e ≤ high

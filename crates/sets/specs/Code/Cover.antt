@@ -32,6 +32,12 @@ pub record Coverable (count : ℕ) (bs Es : ℕ → ℕ) (b e : ℕ) : Type 0 wh
   pub first : Some count (λ i. bs i ≡ b)
   pub needs : (i : ℕ) → i < count → Needed count bs Es b i e
 
+-- what working them out needs: moments
+pub record CoverReady (count : ℕ) (bs Es : ℕ → ℕ) : Type 0 where
+  pub few : count ≤ 4
+  pub begins : (i : ℕ) → bs i < 64
+  pub ends : (i e : ℕ) → i < count → In (Es i) e → e < 64
+
 -- ends out of the masks that cover b..e
 pub record Covering (count : ℕ) (bs Es : ℕ → ℕ) (b e : ℕ) (es : ℕ → ℕ) : Type 0 where
   pub chosen : (i : ℕ) → i < count → (In (Es i) (es i)) × (es i ≤ e)

@@ -6,11 +6,17 @@ use borrow.Author.Needs.{needs}
 use Rattle.sets.proofs.bounds.beside.Statement.{statement}
 use Rattle.sets.proofs.bounds.beside.Tie as tie
 
+abbrev entry : tie.After-inter → tie.Start
+entry c = c .before .before .before .before .before .before
+
+abbrev after-lowest : tie.After-inter → tie.After-lowest
+after-lowest c = c .before .before .before .before
+
 returns-2 : tie.Need-returns-2
 returns-2 c = λ y e t b.
     let high = c .before .before .highest in
-    let low = c .before .before .before .before .lowest in
-    let s = c .before .before .before .before .before .before in
+    let low = after-lowest c .lowest in
+    let s = entry c in
     in-both (c .inter .ensures) y .1 (
       b .late (low .result) (lowest-le (low .ensures) (t .yes)),
       b .soon (high .result) (highest-ge (high .ensures) (in-below (s .fits .ends .fits) t) (t .yes)) (omega (arith, high .ensures .upto)),

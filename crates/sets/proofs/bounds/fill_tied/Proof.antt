@@ -9,10 +9,16 @@ use borrow.Author.Needs.{needs}
 use Rattle.sets.proofs.bounds.fill_tied.Statement.{statement}
 use Rattle.sets.proofs.bounds.fill_tied.Tie as tie
 
+abbrev entry : tie.Else3 → tie.Start
+entry c = c .before .before .before .before .before
+
+abbrev other : tie.After-fill-pair → tie.Else1
+other c = c .before .before .before .before .before
+
 returns-3 : tie.Need-returns-3
 returns-3 c =
     let f = c .before .before .before in
-    let k = f .before .before .before .before .before in
+    let k = other f in
     let s = k .before .before in
     let a = s .args in
     let o = f .fill-pair .ensures in
@@ -21,7 +27,7 @@ returns-3 c =
     let l : a .j < a .count = k .if1 .left in (
       simp length-set (o .0 .long),
       λ bs es within ends have. let u = within (a .j) l in let v = within (a .w) (s .pre .1) in
-          bounds-more (a .w) (a .j) (c .union .result) (omega (arith, s .pre .0)) (o .0)
+          bounds-more (a .w) (a .j) (c .union .result) (omega (arith, s .pre .0 .few)) (o .0)
           (λ k. (λ t. ⊎-elim inl (λ q. inr (one k .0 q)) (new k .0 t), λ t. new k .1 (⊎-elim inl (λ q. inr (one k .1 q)) t)))
           (o .1 (bs (a .j)) (es (a .w)) (u .0) (omega arith) (omega arith) (v .2) (ends (a .w) (a .j) (s .pre .1) l)) have,
     )
@@ -29,7 +35,7 @@ returns-3 c =
 pub fill-tied-spec : {M : Type 1} → statement M
 fill-tied-spec =
     tie.close
-    (tie.spec (λ c. (c .before .before .pre .4, λ bs es within ends have. have)) (λ c. (c .before .before .before .pre .4, λ bs es within ends have. have))
+    (tie.spec (λ c. (c .before .before .pre .0 .long, λ bs es within ends have. have)) (λ c. (c .before .before .before .pre .0 .long, λ bs es within ends have. have))
     (λ c κs. search needs) (λ c. search needs) (λ c. search needs) (λ c κs. search needs) (λ c. search needs) (λ c. search needs) (λ c. search needs)
     (λ c. search needs) (λ c κs. search needs) (λ c κs. search needs) (λ c. search needs) (λ c. search needs) (λ c. search needs) returns-3
-    (λ c. (c .before .before .before .before .before .pre .4, λ bs es within ends have. have)))
+    (λ c. (entry c .pre .0 .long, λ bs es within ends have. have)))

@@ -2,6 +2,7 @@
 use Prim.Native.Nat.{ℕ, _+_, _-_, _≤_, _<_}
 use mathlib.Core.Path.{_≡_, subst}
 use mathlib.Core.Logic.{inl, inr, by-cases}
+use mathlib.Core.List.{List}
 use native.Mathlib.Decide.{ℕ-discrete}
 use native.Mathlib.Omega.{arith}
 use lib.ListN.{getD}
@@ -13,41 +14,54 @@ use borrow.Author.Needs.{needs}
 use Rattle.sets.proofs.bounds.join_down.Statement.{statement}
 use Rattle.sets.proofs.bounds.join_down.Tie as tie
 
+-- the entries from e on have what those after them have
+record JoinedTo (base : ℕ) (old bounds : List ℕ) (e : ℕ) : Type 0 where
+  upto : e ≤ 63
+  grows : Grows old bounds
+  above : (d f y : ℕ) → e ≤ d → d ≤ f → f < 64 → In (getD old (base + f) 0) y → In (getD bounds (base + d) 0) y
+
 abbrev Inv-loop : tie.InvT-loop
-Inv-loop base bounds₀ e₀ bounds e =
-    (e ≤ 63) × Grows bounds₀ bounds × ((d f y : ℕ) → e ≤ d → d ≤ f → f < 64 → In (getD bounds₀ (base + f) 0) y → In (getD bounds (base + d) 0) y)
+Inv-loop base bounds₀ e₀ bounds e = JoinedTo base bounds₀ bounds e
 
 abbrev μ-loop : tie.MeasureT-loop
 μ-loop base bounds₀ e₀ bounds e = e
 
+abbrev entry : tie.After-union Inv-loop μ-loop → tie.Start Inv-loop μ-loop
+entry c = c .before .before .before .before .before
+
+abbrev head : tie.After-union Inv-loop μ-loop → tie.At-loop Inv-loop μ-loop
+head c = c .before .before .before .before
+
 loop-holds : tie.Need-loop-holds Inv-loop μ-loop
-loop-holds c = (
-  omega arith,
-  grows-none (c .pre .1),
-  λ d f y m k n t. let q : f ≡ d = omega arith in subst (λ (k : ℕ). In (getD (c .args .bounds .now) (c .args .base + k) 0) y) q t,
-)
+loop-holds c =
+    record {
+      upto = omega arith;
+      grows = grows-none (c .pre .1);
+      above = λ d f y m k n t. let q : f ≡ d = omega arith in subst (λ (k : ℕ). In (getD (c .args .bounds .now) (c .args .base + k) 0) y) q t;
+    }
 
 loop-again : tie.Need-loop-again Inv-loop μ-loop
 loop-again c =
-    let l = c .before .before .before .before .loop in
-    let s = c .before .before .before .before .before in
+    let l = head c .loop in
+    let s = entry c in
     let base = s .args .base in
     let e = l .e - 1 in
     let new = in-union (c .union .ensures) in
-    let b : base + e < 2048 = omega (arith, s .pre .0, l .inv .0, c .before .before .before .loop-test .taken) in
-    let g = grows-set {l = l .bounds} (base + e) (c .union .result) (l .inv .1 .long) b (λ y t. new y .1 (inl t)) in (
-      omega arith,
-      grows-more (l .inv .1) g,
-      λ d f y m k n t. by-cases (ℕ-discrete d e)
-          (λ q. in-new (l .bounds) (base + e) (c .union .result) (omega (arith, l .inv .1 .long)) (omega arith) (new y .1 (by-cases (ℕ-discrete f e)
-          (λ r. inl (l .inv .1 .kept _ _ (subst (λ (f : ℕ). In (getD (s .args .bounds .now) (base + f) 0) y) r t)))
-          (λ r. inr (l .inv .2 (l .e) f y (omega arith) (omega arith) n t)))))
-          (λ q. g .kept _ _ (l .inv .2 d f y (omega arith) k n t)),
-    )
+    let b : base + e < 2048 = omega (arith, s .pre .0, l .inv .upto, c .before .before .before .loop-test .taken) in
+    let g = grows-set {l = l .bounds} (base + e) (c .union .result) (l .inv .grows .long) b (λ y t. new y .1 (inl t)) in
+    record {
+      upto = omega arith;
+      grows = grows-more (l .inv .grows) g;
+      above = λ d f y m k n t. by-cases (ℕ-discrete d e)
+          (λ q. in-new (l .bounds) (base + e) (c .union .result) (omega (arith, l .inv .grows .long)) (omega arith) (new y .1 (by-cases (ℕ-discrete f e)
+          (λ r. inl (l .inv .grows .kept _ _ (subst (λ (f : ℕ). In (getD (s .args .bounds .now) (base + f) 0) y) r t)))
+          (λ r. inr (l .inv .above (l .e) f y (omega arith) (omega arith) n t)))))
+          (λ q. g .kept _ _ (l .inv .above d f y (omega arith) k n t));
+    }
 
 pub join-down-spec : {M : Type 1} → statement M
 join-down-spec =
     tie.close
     (tie.spec Inv-loop μ-loop loop-holds (λ c. search needs) (λ c. search needs) (λ c. search needs) (λ c. search needs) (λ c. search needs)
     (λ c. search needs) (λ c. search needs) (λ c κs. search needs) (λ c. search needs) (λ c. search needs) (λ c. search needs) (λ c. search needs)
-    loop-again (λ c. let l = c .before .loop in (l .inv .1, λ d f y m n t. l .inv .2 d f y (omega arith) m n t)))
+    loop-again (λ c. let l = c .before .loop in (l .inv .grows, λ d f y m n t. l .inv .above d f y (omega arith) m n t)))

@@ -11,10 +11,13 @@ use borrow.Author.Needs.{needs}
 use Rattle.sets.proofs.bounds.mark.Statement.{statement}
 use Rattle.sets.proofs.bounds.mark.Tie as tie
 
+abbrev entry : tie.After-union → tie.Start
+entry c = c .before .before .before .before .before
+
 returns-2 : tie.Need-returns-2
 returns-2 c =
     let f = c .before .before .before in
-    let s = f .before .before .before .before .before in
+    let s = entry f in
     let a = s .args in
     let high = f .before .before .highest in
     let low = c .before .before .lowest in

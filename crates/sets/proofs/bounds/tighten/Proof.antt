@@ -40,12 +40,18 @@ Inv-loop bounds count from last left begins₀ ends j₀ begins j = (j ≤ count
 abbrev μ-loop : tie.MeasureT-loop
 μ-loop bounds count from last left begins₀ ends j₀ begins j = count - j
 
+abbrev entry : tie.In-loop Inv-loop μ-loop → tie.Start Inv-loop μ-loop
+entry c = c .before .before .before .before
+
+abbrev turn : tie.Then2 Inv-loop μ-loop → tie.In-loop Inv-loop μ-loop
+turn c = c .before .before .before .before
+
 loop-holds : tie.Need-loop-holds Inv-loop μ-loop
 loop-holds c = (omega arith, record { four = search needs; kept = λ bs es b o e. o; fewer = λ i x t. t })
 
 returns : tie.Need-returns Inv-loop μ-loop
 returns c =
-    let k = c .before .before .before .before in
+    let k = turn c in
     let l = k .before .loop in (
       refl,
       refl,
@@ -58,7 +64,7 @@ loop-again : tie.Need-loop-again Inv-loop μ-loop
 loop-again c =
     let k = c .before .before in
     let l = k .before .loop in
-    let s = k .before .before .before .before in
+    let s = entry k in
     let o = s .args .state in (
       omega (arith, k .loop-test .taken),
       ⊎-elim

@@ -6,7 +6,7 @@ use Rattle.sets.proofs.conditions.ends_at.Statement.{statement}
 use Rattle.sets.proofs.conditions.ends_at.Tie as tie
 
 narrow-requires : tie.Need-narrow-requires
-narrow-requires c κs = let s = c .before .before in record { few = s .pre .1; named = s .pre .2; moments = s .pre .3; small = c .own-ends .ensures .1 }
+narrow-requires c κs = let p = c .before .before .pre in record { few = p .conditions; named = p .named; moments = p .moments; small = c .own-ends .ensures .1 }
 
 returns : tie.Need-returns
 returns c = λ i e l.
@@ -17,4 +17,4 @@ returns c = λ i e l.
     )
 
 pub ends-at-spec : {M : Type 1} → statement M
-ends-at-spec = tie.close (tie.spec (λ c κs. (c .before .pre .0, c .before .pre .3)) narrow-requires returns)
+ends-at-spec = tie.close (tie.spec (λ c κs. (c .before .pre .few, c .before .pre .moments)) narrow-requires returns)

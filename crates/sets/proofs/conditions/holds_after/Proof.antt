@@ -22,14 +22,14 @@ inside c t = (
 )
 
 returns-3 : tie.Need-returns-3
-returns-3 c = λ value k x f.
-    let a = entry c .args in
-    let h = through value k f (a .y + a .first) (a .y + a .last) (c .inter .ok) (omega arith) (inside c) in
+returns-3 c = λ value k a z x l u f.
+    let s = entry c .args in
+    let h = through value k _ f (s .y + s .first) (s .y + s .last) (c .inter .ok) (λ t v w. (omega arith, omega arith, omega arith)) (inside c) in
     (λ z. (omega arith, h .0 z), λ m. h .1 (m .1))
 
 pub holds-after-spec : {M : Type 1} → statement M
 holds-after-spec =
     tie.close
-    (tie.spec (λ c. search needs) (λ c. λ value k x f. (λ z. absurd (false≢true z), λ m. let g = m .0 in absurd (omega arith)))
-    (λ c. λ value k x f. (λ z. (omega arith, λ t g m. absurd (omega arith)), λ m. refl)) (λ c. search needs) (λ c. search needs)
+    (tie.spec (λ c. search needs) (λ c. λ value k a z x l u f. (λ z. absurd (false≢true z), λ m. let g = m .0 in absurd (omega arith)))
+    (λ c. λ value k a z x l u f. (λ z. (omega arith, λ t g m. absurd (omega arith)), λ m. refl)) (λ c. search needs) (λ c. search needs)
     (λ c κs. search needs) (λ c κs. search needs) returns-3)

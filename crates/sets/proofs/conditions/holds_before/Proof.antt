@@ -22,9 +22,9 @@ inside c t = (
 )
 
 returns-3 : tie.Need-returns-3
-returns-3 c = λ value k n x l f.
-    let a = entry c .args in
-    let h = through value k f (a .y - a .last) (a .y - a .first) (c .inter .ok) (omega arith) (inside c) in (
+returns-3 c = λ value k n a z x l u f.
+    let s = entry c .args in
+    let h = through value k _ f (s .y - s .last) (s .y - s .first) (c .inter .ok) (λ t v w. (omega arith, omega arith)) (inside c) in (
       λ z. (omega arith, λ t g m. h .0 z t (omega arith) (omega arith)),
       λ m. h .1 (λ t g u. m .1 t (omega arith) (omega arith)),
     )
@@ -32,5 +32,5 @@ returns-3 c = λ value k n x l f.
 pub holds-before-spec : {M : Type 1} → statement M
 holds-before-spec =
     tie.close
-    (tie.spec (λ c. λ value k n x l f. (λ z. absurd (false≢true z), λ m. let g = m .0 in absurd (omega arith)))
-    (λ c. λ value k n x l f. (λ z. (omega arith, λ t g m. absurd (omega arith)), λ m. refl)) (λ c κs. search needs) (λ c κs. search needs) returns-3)
+    (tie.spec (λ c. λ value k n a z x l u f. (λ z. absurd (false≢true z), λ m. let g = m .0 in absurd (omega arith)))
+    (λ c. λ value k n a z x l u f. (λ z. (omega arith, λ t g m. absurd (omega arith)), λ m. refl)) (λ c κs. search needs) (λ c κs. search needs) returns-3)

@@ -16,11 +16,15 @@ use borrow.Author.Needs.{needs}
 use Rattle.sets.proofs.conditions.own_moments.Statement.{statement}
 use Rattle.sets.proofs.conditions.own_moments.Tie as tie
 
+-- the moments before y at which a condition of the form is met
+record MetTo (form fails first last a z n mask y : ℕ) : Type 0 where
+  from : a ≤ y
+  upto : y ≤ z + 1
+  holds-before : form ≡ 2 → (value : ℕ → ℕ → ℕ) (k x : ℕ) → Failing HoldsBefore value n k last a z fails → Before (λ v. MetAs HoldsBefore value n k first last v v x) a y mask
+  holds-after : form ≡ 3 → (value : ℕ → ℕ → ℕ) (k x : ℕ) → Failing HoldsAfter value n k last a z fails → Before (λ v. MetAs HoldsAfter value n k first last v v x) a y mask
+
 abbrev Inv-loop : tie.InvT-loop
-Inv-loop form fails first last a z n mask₀ y₀ mask y =
-    (a ≤ y) × (y ≤ z + 1)
-    × (form ≡ 2 → (value : ℕ → ℕ → ℕ) (k x : ℕ) → Failing value k n fails → Before (λ v. MetAs HoldsBefore value n k first last v v x) a y mask)
-    × (form ≡ 3 → (value : ℕ → ℕ → ℕ) (k x : ℕ) → Failing value k n fails → Before (λ v. MetAs HoldsAfter value n k first last v v x) a y mask)
+Inv-loop form fails first last a z n mask₀ y₀ mask y = MetTo form fails first last a z n mask y
 
 abbrev μ-loop : tie.MeasureT-loop
 μ-loop form fails first last a z n mask₀ y₀ mask y = z + 1 - y
@@ -39,16 +43,17 @@ head c = c .before .before .before
 step : (c : Turn) (M : ℕ → Type 0) → (c .before .if1 .met ≡ true) ↔ M (head c .loop .y)
     → Before M (head c .before .args .a) (head c .loop .y) (head c .loop .mask) → Before M (head c .before .args .a) (head c .loop .y + 1) (c .if2 .mask)
 step c M m old = let l = head c .loop in ⊎-elim
-    (λ w. subst (Before M _ (l .y + 1)) (sym (w .3)) (turn-yes M (l .inv .0) old (w .1 .result) (m .0 (w .0 .taken)) (w .1 .ensures) (w .2 .ensures)))
-    (λ w. subst (Before M _ (l .y + 1)) (sym (w .1)) (turn-no M (l .inv .0) old (λ h. not-both (m .1 h) (w .0 .left)))) (c .if2 .came)
+    (λ w. subst (Before M _ (l .y + 1)) (sym (w .3)) (turn-yes M (l .inv .from) old (w .1 .result) (m .0 (w .0 .taken)) (w .1 .ensures) (w .2 .ensures)))
+    (λ w. subst (Before M _ (l .y + 1)) (sym (w .1)) (turn-no M (l .inv .from) old (λ h. not-both (m .1 h) (w .0 .left)))) (c .if2 .came)
 
 loop-again : tie.Need-loop-again Inv-loop μ-loop
-loop-again c = let l = head c in let came = c .before .if1 .came in (
-  omega arith,
-  omega arith,
-  λ q value k x f. step c _ (⊎-elim (λ w. told (w .2) (w .1 .ensures value k (l .before .args .n) x (omega arith) f)) (λ w. absurd (w .0 .left q)) came) (l .loop .inv .2 q value k x f),
-  λ q value k x f. step c _ (⊎-elim (λ w. let g = w .0 .taken in absurd (omega arith)) (λ w. told (w .2) (w .1 .ensures value k x f)) came) (l .loop .inv .3 q value k x f),
-)
+loop-again c = let l = head c in let came = c .before .if1 .came in
+    record {
+      from = omega arith;
+      upto = omega arith;
+      holds-before = λ q value k x f. step c _ (⊎-elim (λ w. told (w .2) (w .1 .ensures value k (l .before .args .n) (l .before .args .a) (l .before .args .z) x (omega arith) (omega arith) f)) (λ w. absurd (w .0 .left q)) came) (l .loop .inv .holds-before q value k x f);
+      holds-after = λ q value k x f. step c _ (⊎-elim (λ w. let g = w .0 .taken in absurd (omega arith)) (λ w. told (w .2) (w .1 .ensures value k (l .before .args .a) (l .before .args .z) x (omega arith) (omega arith) f)) came) (l .loop .inv .holds-after q value k x f);
+    }
 
 -- at the end they are those of a..z
 all : {M : ℕ → Type 0} {a y z mask : ℕ} → y ≡ z + 1 → Before M a y mask → (v : ℕ) → In mask v ↔ ((a ≤ v) × (v ≤ z) × M v)
@@ -59,17 +64,18 @@ all q h v = (
 
 returns : tie.Need-returns Inv-loop μ-loop
 returns c = let l = c .before .loop in (
-  λ q value k x f. all (omega arith) (l .inv .2 q value k x f),
-  λ q value k x f. all (omega arith) (l .inv .3 q value k x f),
+  λ q value k x f. all (omega arith) (l .inv .holds-before q value k x f),
+  λ q value k x f. all (omega arith) (l .inv .holds-after q value k x f),
 )
 
 loop-holds : tie.Need-loop-holds Inv-loop μ-loop
-loop-holds c = (
-  omega arith,
-  omega arith,
-  λ q value k x f. in-none (λ v o. let l = o .0 in let g = o .1 in omega arith),
-  λ q value k x f. in-none (λ v o. let l = o .0 in let g = o .1 in omega arith),
-)
+loop-holds c =
+    record {
+      from = omega arith;
+      upto = omega arith;
+      holds-before = λ q value k x f. in-none (λ v o. let l = o .0 in let g = o .1 in omega arith);
+      holds-after = λ q value k x f. in-none (λ v o. let l = o .0 in let g = o .1 in omega arith);
+    }
 
 pub own-moments-spec : {M : Type 1} → statement M
 own-moments-spec =

@@ -1,18 +1,20 @@
 -- `sets::covering::need` meets its contract. Assumes nothing.
-use Prim.Native.Nat.{_-_}
 use native.Mathlib.Omega.{arith}
 use Rattle.sets.proofs.Needs.{reaches, bridges, needed-own, needed-both}
 use borrow.Author.Needs.{needs}
 use Rattle.sets.proofs.covering.need.Statement.{statement}
 use Rattle.sets.proofs.covering.need.Tie as tie
 
+abbrev after-least-from : tie.After-least-from2 → tie.After-least-from
+after-least-from c = c .before .before .before
+
 returns : tie.Need-returns
-returns c = λ e l. let o = c .before .before .before .before in let m = c .before .before .ends-before in
+returns c = λ e l. let o = after-least-from (c .before) in let m = c .before .before .ends-before in
     needed-both (c .before .before .before .if1 .taken) (reaches (o .least-from .ensures e l)) (bridges (m .result) (m .ensures) (c .before .least-from2 .ensures e l))
     (λ h. (omega arith, h), λ s. s .1)
 
 returns-2 : tie.Need-returns-2
-returns-2 c = λ e l. let o = c .before .before .before .before in let m = c .before .before .ends-before in
+returns-2 c = λ e l. let o = after-least-from (c .before) in let m = c .before .before .ends-before in
     needed-both (c .before .before .before .if1 .taken) (reaches (o .least-from .ensures e l)) (bridges (m .result) (m .ensures) (c .before .least-from2 .ensures e l))
     (λ h. (h, omega arith), λ s. s .0)
 

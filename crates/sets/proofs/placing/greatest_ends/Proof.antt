@@ -1,6 +1,7 @@
 -- `sets::placing::greatest_ends` meets its contract. Assumes nothing.
 use Prim.Native.Nat.{ℕ, _-_, _≤_, _<_}
 use mathlib.Core.Path.{_≡_, refl}
+use mathlib.Core.List.{List}
 use native.Mathlib.Omega.{arith}
 use borrow.Author.Count.{below-more}
 use lib.ListN.{length, set, length-set}
@@ -11,8 +12,14 @@ use borrow.Author.Needs.{needs}
 use Rattle.sets.proofs.placing.greatest_ends.Statement.{statement}
 use Rattle.sets.proofs.placing.greatest_ends.Tie as tie
 
+-- the greatest ends of the first i masks
+record Taken (count e : ℕ) (sets ends : List ℕ) (i : ℕ) : Type 0 where
+  upto : i ≤ count
+  four : length ends ≡ 4
+  highest : (j : ℕ) → j < i → Highest (entryAt sets j) e (entryAt ends j)
+
 abbrev Inv-loop : tie.InvT-loop
-Inv-loop count e sets ends₀ i₀ ends i = (i ≤ count) × (length ends ≡ 4) × ((j : ℕ) → j < i → Highest (entryAt sets j) e (entryAt ends j))
+Inv-loop count e sets ends₀ i₀ ends i = Taken count e sets ends i
 
 abbrev μ-loop : tie.MeasureT-loop
 μ-loop count e sets ends₀ i₀ ends i = count - i
@@ -20,17 +27,18 @@ abbrev μ-loop : tie.MeasureT-loop
 loop-again : tie.Need-loop-again Inv-loop μ-loop
 loop-again c =
     let l = c .before .before .loop in
-    let s = c .before .before .before in (
-      omega arith,
-      simp length-set (l .inv .1),
-      below-more (λ j. Highest (entryAt (s .args .t1) j) (s .args .e) (entryAt (set (l .ends) (l .i) (c .greatest-upto .result)) j)) (l .i)
-          (λ j g. rw (getD-set-other (l .ends) (l .i) j (c .greatest-upto .result) 0 (omega arith)) (l .inv .2 j g))
-          (rw (getD-set-same (l .ends) (l .i) (c .greatest-upto .result) 0 (omega (arith, l .inv .1, s .pre .1, c .before .loop-test .taken))) (c .greatest-upto .ensures)),
-    )
+    let s = c .before .before .before in
+    record {
+      upto = omega arith;
+      four = simp length-set (l .inv .four);
+      highest = below-more (λ j. Highest (entryAt (s .args .t1) j) (s .args .e) (entryAt (set (l .ends) (l .i) (c .greatest-upto .result)) j)) (l .i)
+          (λ j g. rw (getD-set-other (l .ends) (l .i) j (c .greatest-upto .result) 0 (omega arith)) (l .inv .highest j g))
+          (rw (getD-set-same (l .ends) (l .i) (c .greatest-upto .result) 0 (omega (arith, l .inv .four, s .pre .1, c .before .loop-test .taken))) (c .greatest-upto .ensures));
+    }
 
 pub greatest-ends-spec : {M : Type 1} → statement M
 greatest-ends-spec =
     tie.close
-    (tie.spec Inv-loop μ-loop (λ c. (omega arith, refl, λ j l. absurd (omega arith))) (λ c. search needs) (λ c. search needs)
+    (tie.spec Inv-loop μ-loop (λ c. record { upto = omega arith; four = refl; highest = λ j l. absurd (omega arith) }) (λ c. search needs) (λ c. search needs)
     (λ c κs. let s = c .before .before in (s .pre .0, s .pre .2 (c .before .loop .i) (c .loop-test .taken))) (λ c. search needs) (λ c. search needs)
-    (λ c. search needs) (λ c. search needs) loop-again (λ c. λ i l. c .before .loop .inv .2 i (omega arith)))
+    (λ c. search needs) (λ c. search needs) loop-again (λ c. λ i l. c .before .loop .inv .highest i (omega arith)))

@@ -2,8 +2,9 @@
 -- measures are 2 * left + 1 and 2 * left. The loops' invariant: each placement that is sought is found, or has a member or a begin that is
 -- still to be tried. Assumes nothing.
 use Prim.Native.Nat.{ℕ, _+_, _*_, _≤_, _<_}
-use mathlib.Core.Path.{_≡_, refl, sym, ap, _∙_, subst}
-use mathlib.Core.Logic.{inr, ⊎-elim}
+use mathlib.Core.Path.{_≡_, sym, ap, subst}
+use mathlib.Core.Logic.{inr}
+use mathlib.Core.List.{List}
 use native.Mathlib.Omega.{arith}
 use borrow.Author.Needs.{needs}
 use borrow.Fn.Kinds.{In}
@@ -11,7 +12,9 @@ use borrow.Fn.PlainCycle.{Measures, is, falls, and}
 use Rattle.bitset.specs.Code.Members.{In as In-mask, popCount}
 use Rattle.bitset.proofs.In.{in-both, in-zero, in-without}
 use Rattle.sets.specs.Code.Rows.{entryAt}
-use Rattle.sets.specs.Code.Search.{pairAt, SearchReady, Grown, Sought, FindsAll}
+use Rattle.sets.specs.Code.Search.{pairAt, Grown, SoughtPlacement}
+use Rattle.sets.specs.declared.search.Open.{Open}
+use Rattle.sets.specs.declared.search.Found.{Found}
 use Rattle.sets.proofs.Growth.{fewer, kept-in, grown-none, grown-more, grown-as, ready-as, Untried, Begin, tried, skipped, Over, over-both, tried-over, all-tried, finds-none}
 use Rattle.sets.proofs.search.search.Reads as search′
 use Rattle.sets.proofs.search.search.Kinds as search-kinds
@@ -83,10 +86,14 @@ tries-calls t = (
   search′.Post,
 )
 
+-- each placement that is sought is found, or has a member of `rest` over the gaps
+record Gapped (conds allow ends goes later bounds : List ℕ) (count : ℕ) (state : Open) (g h : ℕ) (old r : Found) (rest : ℕ) : Type 0 where
+  grown : Grown conds allow ends count (state .from) old r
+  untried : Untried conds allow ends goes later bounds count state r (Over rest g h)
+  left : (i : ℕ) → In-mask rest i → In-mask (state .left) i
+
 abbrev Inv-search : search-lts.InvT-loop
-Inv-search conds allow ends goes later bounds count state gaps g h r₀ rest₀ r rest =
-    Grown conds allow ends count (state .from) r₀ r × ((i : ℕ) → In-mask rest i → In-mask (state .left) i)
-    × Untried conds allow ends goes later bounds count state r (Over rest g h)
+Inv-search conds allow ends goes later bounds count state gaps g h r₀ rest₀ r rest = Gapped conds allow ends goes later bounds count state g h r₀ r rest
 
 abbrev μ-loop-search : search-lts.MeasureT-loop
 μ-loop-search conds allow ends goes later bounds count state gaps g h r₀ rest₀ r rest = popCount rest
@@ -118,19 +125,19 @@ module _ (t : ℕ) where
   entry l = opened (gapped l)
 
   leaf-requires : search-lts.Need-leaf-requires (search-calls t) (search-at t) search′.Post Inv-search μ-loop-search
-  leaf-requires c κs = let p = c .before .before .before .pre .1 in (p .0, c .if1 .taken, p .1)
+  leaf-requires c κs = let p = c .before .before .before .pre .1 in record { state = p; placed = c .if1 .taken }
 
   returns : search-lts.Need-returns (search-calls t) (search-at t) search′.Post Inv-search μ-loop-search
   returns c = let e = c .leaf .ensures in (e .0, e .1 _ _ _)
 
   gaps-requires : search-lts.Need-gaps-requires (search-calls t) (search-at t) search′.Post Inv-search μ-loop-search
-  gaps-requires c κs = let p = c .before .before .before .pre .1 in (p .0 .few, p .1, omega (arith, p .0 .forward, p .0 .moments))
+  gaps-requires c κs = let p = c .before .before .before .pre .1 in (p .ready .few, p .last, omega (arith, p .ready .forward, p .ready .moments))
 
   choose-requires : search-lts.Need-choose-requires (search-calls t) (search-at t) search′.Post Inv-search μ-loop-search
-  choose-requires c κs = let p = opened (c .before) .pre .1 in (p .0 .few, p .1, omega (arith, c .before .before .if1 .left), p .2)
+  choose-requires c κs = let p = opened (c .before) .pre .1 in (p .ready .few, p .last, omega (arith, c .before .before .if1 .left), p .left)
 
   tries-requires : search-lts.Need-tries-requires (search-calls t) (search-at t) search′.Post Inv-search μ-loop-search
-  tries-requires c κs = let s = opened (c .before .before) in let p = s .pre in (omega (arith, p .0), (p .1 .0, p .1 .1, p .1 .2, c .choose .ensures))
+  tries-requires c κs = let s = opened (c .before .before) in let p = s .pre in (omega (arith, p .0), record { state = p .1; next = c .choose .ensures })
 
   returns-2 : search-lts.Need-returns-2 (search-calls t) (search-at t) search′.Post Inv-search μ-loop-search
   returns-2 c = c .tries .ensures
@@ -141,7 +148,7 @@ module _ (t : ℕ) where
 
   -- some member that is left covers a gap
   left-over : (c : search-lts.After-gaps (search-calls t) (search-at t) search′.Post Inv-search μ-loop-search) (g e : ℕ) (bs es : ℕ → ℕ) → let a = opened c .args in
-      In-mask (c .gaps .result) g → Sought (a .conds .now) (a .allow .now) (a .ends .now) (a .goes .now) (a .later .now) (a .bounds .now) (a .count) (a .state) e bs es
+      In-mask (c .gaps .result) g → SoughtPlacement (a .conds .now) (a .allow .now) (a .ends .now) (a .goes .now) (a .later .now) (a .bounds .now) (a .count) (a .state) e bs es
       → (i : ℕ) × In-mask (a .state .left) i × (bs i ≤ g) × (g ≤ es i)
   left-over c g e bs es u s =
       let o = c .gaps .ensures g bs es u (s .fits) in
@@ -152,18 +159,19 @@ module _ (t : ℕ) where
   loop-holds c =
       let l = c .before in
       let g = l .before .before in
-      let h = c .last-gap .ensures in (
-        grown-none,
-        λ i u. u,
-        record { each = λ e bs es m s. inr (over-both (h .2) (left-over g _ e bs es (record { yes = l .lowest .ensures .member }) s) (left-over g _ e bs es (h .0) s)) },
-      )
+      let h = c .last-gap .ensures in
+      record {
+        grown = grown-none;
+        untried = record { each = λ e bs es m s. inr (over-both (h .2) (left-over g _ e bs es (record { yes = l .lowest .ensures .member }) s) (left-over g _ e bs es (h .0) s)) };
+        left = λ i u. u;
+      }
 
   over-requires : search-lts.Need-over-requires (search-calls t) (search-at t) search′.Post Inv-search μ-loop-search
   over-requires c κs =
       let l = c .before .before in
       let p = entry l .pre .1 in
-      let m = p .2 (c .lowest2 .result) (l .loop .inv .1 (c .lowest2 .result) (record { yes = c .lowest2 .ensures .member })) in
-      (omega (arith, m, p .0 .few), l .before .before .lowest .ensures .below, l .before .last-gap .ensures .1)
+      let m = p .left (c .lowest2 .result) (l .loop .inv .left (c .lowest2 .result) (record { yes = c .lowest2 .ensures .member })) in
+      (omega (arith, m, p .ready .few), l .before .before .lowest .ensures .below, l .before .last-gap .ensures .1)
 
   tries-requires-2 : search-lts.Need-tries-requires-2 (search-calls t) (search-at t) search′.Post Inv-search μ-loop-search
   tries-requires-2 c κs =
@@ -174,12 +182,14 @@ module _ (t : ℕ) where
       let v = l .loop .inv in
       let same = ap (λ (x : ℕ). popCount x) (o .2) in (
         omega (arith, p .0, same),
-        (
-          ready-as (sym (o .0)) (sym (v .0 .upto)) (p .1 .0),
-          omega (arith, o .1, p .1 .1),
-          λ i u. p .1 .2 i (subst (λ (x : ℕ). In-mask x i) (o .2) u),
-          subst (λ (x : ℕ). In-mask x (k .lowest2 .result)) (sym (o .2)) (v .1 (k .lowest2 .result) (record { yes = k .lowest2 .ensures .member })),
-        ),
+        record {
+          state = record {
+            ready = ready-as (sym (o .0)) (sym (v .grown .upto)) (p .1 .ready);
+            last = omega (arith, o .1, p .1 .last);
+            left = λ i u. p .1 .left i (subst (λ (x : ℕ). In-mask x i) (o .2) u);
+          };
+          next = subst (λ (x : ℕ). In-mask x (k .lowest2 .result)) (sym (o .2)) (v .left (k .lowest2 .result) (record { yes = k .lowest2 .ensures .member }));
+        },
       )
 
   loop-again : search-lts.Need-loop-again (search-calls t) (search-at t) search′.Post Inv-search μ-loop-search
@@ -191,14 +201,15 @@ module _ (t : ℕ) where
       let v = l .loop .inv in
       let w = o .over .ensures in
       let n = d .tries2 .ensures in
-      let grown = grown-as (w .0) (n .0) in (
-        grown-more (v .0) grown,
-        λ i u. v .1 i (kept-in (k .lowest2 .ensures) (c .drop-lowest .ensures) u),
-        tried-over (w .0) (w .1) (k .lowest2 .ensures) (c .drop-lowest .ensures) (w .3 (entry l .args .count)) grown (n .1) (v .2),
-      )
+      let grown = grown-as (w .0) (n .0) in
+      record {
+        grown = grown-more (v .grown) grown;
+        left = λ i u. v .left i (kept-in (k .lowest2 .ensures) (c .drop-lowest .ensures) u);
+        untried = tried-over (w .0) (w .1) (k .lowest2 .ensures) (c .drop-lowest .ensures) (w .3 (entry l .args .count)) grown (n .1) (v .untried);
+      }
 
   returns-3 : search-lts.Need-returns-3 (search-calls t) (search-at t) search′.Post Inv-search μ-loop-search
-  returns-3 c = let v = c .before .loop .inv in (v .0, all-tried (λ bs es p. in-zero (omega (arith, c .loop-test .left)) (p .1)) (v .2))
+  returns-3 c = let v = c .before .loop .inv in (v .grown, all-tried (λ bs es p. in-zero (omega (arith, c .loop-test .left)) (p .1)) (v .untried))
 
   -- ---- tries
 
@@ -221,8 +232,11 @@ module _ (t : ℕ) where
   abbrev kept : Placed → Kept
   kept c = c .before .before
 
+  member : (s : tries-lts.Start (tries-calls t) (tries-at t) tries.Post Inv-tries μ-loop-tries) → s .args .i < s .args .count
+  member s = s .pre .1 .state .left _ (s .pre .1 .next)
+
   small : (s : tries-lts.Start (tries-calls t) (tries-at t) tries.Post Inv-tries μ-loop-tries) → (s .args .i < 4) × (s .args .state .last < 4)
-  small s = let p = s .pre .1 in (omega (arith, p .2 _ (p .3), p .0 .few), omega (arith, p .1, p .0 .few))
+  small s = let p = s .pre .1 .state in (omega (arith, member s, p .ready .few), omega (arith, p .last, p .ready .few))
 
   -- the index of the member's own row
   index : (c : tries-lts.After-lowest (tries-calls t) (tries-at t) tries.Post Inv-tries μ-loop-tries) →
@@ -230,7 +244,7 @@ module _ (t : ℕ) where
   index c = (small (begun (c .before .before)) .0, c .lowest .ensures .below)
 
   loop-holds-tries : tries-lts.Need-loop-holds (tries-calls t) (tries-at t) tries.Post Inv-tries μ-loop-tries
-  loop-holds-tries c = let p = c .before .before .before .pre .1 in (grown-none, record { each = λ e bs es l s. inr (s .fits .begins _ (p .2 _ (p .3))) })
+  loop-holds-tries c = (grown-none, record { each = λ e bs es l s. inr (s .fits .begins _ (member (c .before .before .before))) })
 
   -- a begin from which the member has no end
   loop-again-tries : tries-lts.Need-loop-again (tries-calls t) (tries-at t) tries.Post Inv-tries μ-loop-tries
@@ -238,7 +252,7 @@ module _ (t : ℕ) where
       let k = c .before in
       let s = begun (round k) in
       let a = s .args in
-      let l = s .pre .1 .2 _ (s .pre .1 .3) in
+      let l = member s in
       let v = round k .loop .inv in (
         v .0,
         skipped (k .before .before .before .lowest .ensures) (k .before .drop-lowest .ensures)
@@ -247,24 +261,29 @@ module _ (t : ℕ) where
       )
 
   placed-requires : tries-lts.Need-placed-requires (tries-calls t) (tries-at t) tries.Post Inv-tries μ-loop-tries
-  placed-requires c κs = let k = c .before in let p = begun (round k) .pre .1 in
-      (p .0 .few, p .2 _ (p .3), k .before .before .before .lowest .ensures .below, p .1, omega (arith, p .0 .forward, p .0 .moments))
+  placed-requires c κs = let k = c .before in let s = begun (round k) in let p = s .pre .1 .state in
+      record {
+        few = p .ready .few;
+        member = member s;
+        moment = k .before .before .before .lowest .ensures .below;
+        last = p .last;
+        from = omega (arith, p .ready .forward, p .ready .moments);
+      }
 
   search-requires : tries-lts.Need-search-requires (tries-calls t) (tries-at t) tries.Post Inv-tries μ-loop-tries
   search-requires c κs =
       let k = c .before .before in
       let l = round (kept k) in
       let s = begun l in
-      let p = s .pre in
+      let p = s .pre .1 in
       let w = k .placed .ensures in
-      let i = p .1 .2 _ (p .1 .3) in
-      let f = fewer (s .args .state .left) (k .placed .result .left) (s .args .i) (w .2) (p .1 .3) (omega (arith, i, p .1 .0 .few)) in (
-        omega (arith, p .0, f),
-        (
-          ready-as (sym (w .0)) (sym (l .loop .inv .0 .upto)) (p .1 .0),
-          omega (arith, w .1, p .1 .1),
-          λ j u. p .1 .2 j (in-without (w .2) j .0 u .0),
-        ),
+      let f = fewer (s .args .state .left) (k .placed .result .left) (s .args .i) (w .2) (p .next) (omega (arith, member s, p .state .ready .few)) in (
+        omega (arith, s .pre .0, f),
+        record {
+          ready = ready-as (sym (w .0)) (sym (l .loop .inv .0 .upto)) (p .state .ready);
+          last = omega (arith, w .1, p .state .last);
+          left = λ j u. p .state .left j (in-without (w .2) j .0 u .0);
+        },
       )
 
   -- a begin that is tried
@@ -289,7 +308,7 @@ module _ (t : ℕ) where
       = subst (λ (x : ℕ). entryAt (k .placed .result .ends) x ≡ 0) (sym (w .1)) (omega (arith, c .if2 .left)) in (
         v .0,
         tried (w .0) (w .1) (n .before .before .before .lowest .ensures) (n .before .drop-lowest .ensures) (w .3) grown-none
-            (finds-none (k .placed .result) (round n .loop .r) (omega (arith, w .1, s .pre .1 .1)) none) (v .1),
+            (finds-none (k .placed .result) (round n .loop .r) (omega (arith, w .1, s .pre .1 .state .last)) none) (v .1),
       )
 
   returns-tries : tries-lts.Need-returns (tries-calls t) (tries-at t) tries.Post Inv-tries μ-loop-tries

@@ -29,6 +29,9 @@ Inv-loop count a z begins window r₀ i₀ r i = (i ≤ count) × Firsts begins 
 abbrev μ-loop : tie.MeasureT-loop
 μ-loop count a z begins window r₀ i₀ r i = count - i
 
+abbrev head : tie.After-lowest Inv-loop μ-loop → tie.At-loop Inv-loop μ-loop
+head c = c .before .before .before .before
+
 module _ (masks : List ℕ) (a z : ℕ) where
   none : a ≤ z → Firsts masks a z 0 (replicate 4 a)
   none l = record { four = refl; after = λ j g. rw (getD-replicate 4 j a 0 g) (omega arith); upto = upto; members = λ j g. absurd (omega arith) }
@@ -97,4 +100,4 @@ first-begins-spec =
     tie.close
     (tie.spec Inv-loop μ-loop (λ c κs. search needs) (λ c. (omega arith, none _ _ _ (c .before .pre .1))) (λ c. search needs) (λ c. search needs)
     (λ c κs. search needs) (λ c κs. search needs) (λ c. search needs)
-    (λ c. omega (arith, c .before .before .before .before .loop .inv .1 .four)) (λ c. search needs) (λ c. search needs) loop-again returns)
+    (λ c. omega (arith, head c .loop .inv .1 .four)) (λ c. search needs) (λ c. search needs) loop-again returns)

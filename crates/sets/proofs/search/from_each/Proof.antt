@@ -1,5 +1,5 @@
 -- `sets::search::from_each` meets its contract. The invariant: the placements are found in which a member before `last` ends last. Assumes nothing.
-use Prim.Native.Nat.{ℕ, _+_, _-_, _*_, _≤_, _<_}
+use Prim.Native.Nat.{ℕ, _-_, _≤_, _<_}
 use mathlib.Core.Path.{_≡_, refl, sym, subst}
 use mathlib.Core.Logic.{by-cases}
 use native.Mathlib.Decide.{decLt}
@@ -21,6 +21,9 @@ Inv-loop conds allow ends goes later bounds count a first goal r₀ last₀ r la
 abbrev μ-loop : tie.MeasureT-loop
 μ-loop conds allow ends goes later bounds count a first goal r₀ last₀ r last = count - last
 
+abbrev entry : tie.At-loop Inv-loop μ-loop → tie.Start Inv-loop μ-loop
+entry c = c .before .before .before .before
+
 -- the index of the first member's own row
 index : (s : tie.Start Inv-loop μ-loop) → (s .args .first < 4) × (s .args .a < 64)
 index s = let p = s .pre in (omega (arith, p .1, p .0 .few), omega (arith, p .0 .forward, p .0 .moments))
@@ -33,7 +36,7 @@ returns c = let s = c .before .before .before in let a = s .args in (
 )
 
 from-first-requires : tie.Need-from-first-requires Inv-loop μ-loop
-from-first-requires c κs = let l = c .before in let p = l .before .before .before .before .pre in
+from-first-requires c κs = let l = c .before in let p = entry l .pre in
     (ready-as refl (sym (l .loop .inv .1 .upto)) (p .0), p .1, c .loop-test .taken)
 
 loop-again : tie.Need-loop-again Inv-loop μ-loop
@@ -51,7 +54,7 @@ loop-again c =
 returns-2 : tie.Need-returns-2 Inv-loop μ-loop
 returns-2 c =
     let l = c .before in
-    let r = l .before .before .before .before .pre .0 in
+    let r = entry l .pre .0 in
     let v = l .loop .inv in (
       v .1,
       λ e bs es m t b o q g.

@@ -1,14 +1,13 @@
 -- `sets::search::from_first` meets its contract. Assumes nothing.
-use Prim.Native.Nat.{ℕ, _≤_, _<_}
+use Prim.Native.Nat.{ℕ, _≤_}
 use mathlib.Core.Path.{_≡_, refl, sym, _∙_, subst}
 use mathlib.Core.Logic.{_⊎_, inl, inr, ⊎-elim}
 use native.Mathlib.Omega.{arith}
 use Rattle.bitset.specs.Code.Members.{In}
 use Rattle.bitset.proofs.In.{in-without, in-zero}
 use Rattle.sets.specs.Code.Rows.{entryAt}
-use Rattle.sets.specs.Code.Search.{Masked, InTables, BoundsHave, Sought}
+use Rattle.sets.specs.Code.Search.{Masked, InTables, BoundsHave, SoughtPlacement}
 use Rattle.sets.proofs.Growth.{grown-none, grown-as, ready-as}
-use borrow.Author.Needs.{needs}
 use Rattle.sets.proofs.search.from_first.Statement.{statement}
 use Rattle.sets.proofs.search.from_first.Tie as tie
 
@@ -23,7 +22,7 @@ same c = let u = c .before .unplaced .ensures in let p = c .placed .ensures in (
 sought : (c : tie.After-placed) (e : ℕ) (bs es : ℕ → ℕ) → let a = entry (c .before) .args in
     Masked (a .conds .now) (a .allow .now) (a .ends .now) (a .count) (a .a) e bs es → InTables (a .ends .now) (a .goes .now) (a .later .now) (a .count) (a .a) bs es
     → BoundsHave (a .count) (a .bounds .now) bs es → e ≤ a .found .upto → bs (a .first) ≡ a .a → es (a .last) ≡ e → In (a .goal) e
-    → In (a .found .ends) e ⊎ Sought (a .conds .now) (a .allow .now) (a .ends .now) (a .goes .now) (a .later .now) (a .bounds .now) (a .count) (c .placed .result) e bs es
+    → In (a .found .ends) e ⊎ SoughtPlacement (a .conds .now) (a .allow .now) (a .ends .now) (a .goes .now) (a .later .now) (a .bounds .now) (a .count) (c .placed .result) e bs es
 sought c e bs es m t d l q r g =
     let s = entry (c .before) in
     let a = s .args in
@@ -44,11 +43,18 @@ sought c e bs es m t d l q r g =
     (c .placed .ensures .3 bs es t′ d f q)
 
 unplaced-requires : tie.Need-unplaced-requires
-unplaced-requires c κs = let p = c .before .pre in let r = p .0 in (r .some, r .few, p .2, r .forward, r .moments)
+unplaced-requires c κs = let p = c .before .pre in let r = p .0 in
+    record { some = r .some; few = r .few; member = p .2; forward = r .forward; moments = r .moments }
 
 placed-requires : tie.Need-placed-requires
 placed-requires c κs = let p = entry c .pre in let r = p .0 in let u = c .unplaced .ensures in
-    (r .few, p .1, omega (arith, r .forward, r .moments), omega (arith, u .1, p .2), omega (arith, u .0, r .forward, r .moments))
+    record {
+      few = r .few;
+      member = p .1;
+      moment = omega (arith, r .forward, r .moments);
+      last = omega (arith, u .1, p .2);
+      from = omega (arith, u .0, r .forward, r .moments);
+    }
 
 returns : tie.Need-returns
 returns c = let k = c .before .before in (
@@ -59,11 +65,11 @@ returns c = let k = c .before .before in (
 )
 
 search-requires : tie.Need-search-requires
-search-requires c κs = let k = c .before .before in let p = entry (k .before) .pre in let z = same k in (
-  ready-as (sym (z .0)) refl (p .0),
-  omega (arith, z .1, p .2),
-  λ i t. k .before .unplaced .ensures .2 i .0 (in-without (k .placed .ensures .2) i .0 t .0),
-)
+search-requires c κs = let k = c .before .before in let p = entry (k .before) .pre in let z = same k in record {
+  ready = ready-as (sym (z .0)) refl (p .0);
+  last = omega (arith, z .1, p .2);
+  left = λ i t. k .before .unplaced .ensures .2 i .0 (in-without (k .placed .ensures .2) i .0 t .0);
+}
 
 returns-2 : tie.Need-returns-2
 returns-2 c = let k = c .before .before .before in let n = c .search .ensures in (

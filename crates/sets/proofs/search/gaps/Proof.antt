@@ -8,7 +8,7 @@ use borrow.Author.Tests.{not-false}
 use Rattle.bitset.specs.Code.Members.{In}
 use Rattle.bitset.proofs.Ends.{lowest-le}
 use Rattle.bitset.proofs.In.{in-between, in-minus, in-zero}
-use Rattle.sets.specs.Code.Search.{Fits}
+use Rattle.sets.specs.Code.Search.{InDomains}
 use Rattle.sets.specs.declared.search.Open.{Open}
 use borrow.Author.Needs.{needs}
 use Rattle.sets.proofs.search.gaps.Statement.{statement}
@@ -25,10 +25,13 @@ more {i = i} {g} {o} {bs} {es} new h =
     record { after = h .after; upto = h .upto; left = below-more (λ j. bs j ≤ g → g ≤ es j → In (o .left) j) i (h .left) new }
 
 abbrev Inv-loop : tie.InvT-loop
-Inv-loop count state last begins ends r₀ i₀ r i = (i ≤ count) × ((g : ℕ) (bs es : ℕ → ℕ) → In r g → Fits count state bs es → Gap i state bs es g)
+Inv-loop count state last begins ends r₀ i₀ r i = (i ≤ count) × ((g : ℕ) (bs es : ℕ → ℕ) → In r g → InDomains count state bs es → Gap i state bs es g)
 
 abbrev μ-loop : tie.MeasureT-loop
 μ-loop count state last begins ends r₀ i₀ r i = count - i
+
+abbrev entry : tie.After-lowest Inv-loop μ-loop → tie.Start Inv-loop μ-loop
+entry c = c .before .before .before .before .before .before
 
 loop-holds : tie.Need-loop-holds Inv-loop μ-loop
 loop-holds c = (
@@ -36,7 +39,7 @@ loop-holds c = (
   λ g bs es t f.
       let w = in-between (c .between .ensures) g .0 t in
       let l = c .before in
-      let s = l .before .before .before .before .before .before in
+      let s = entry l in
       let e = lowest-le (l .lowest .ensures) (f .ends (s .args .state .last) (s .pre .1) .yes) in
       record { after = w .0; upto = omega (arith, w .1, e); left = λ j l. absurd (omega arith) },
 )

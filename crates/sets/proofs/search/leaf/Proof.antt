@@ -8,7 +8,7 @@ use Rattle.bitset.specs.Code.Members.{In}
 use Rattle.bitset.proofs.Bools.{not-both}
 use Rattle.bitset.proofs.In.{in-union, in-zero}
 use Rattle.sets.specs.Code.Rows.{entryAt}
-use Rattle.sets.specs.Code.Search.{Sought, ReadsWith, BeginsKept, Grown}
+use Rattle.sets.specs.Code.Search.{SoughtPlacement, ReadsWith, BeginsKept, Grown}
 use Rattle.sets.specs.declared.search.Found.{Found}
 use Rattle.sets.proofs.Leaves.{onward, reads-with, covers-all}
 use borrow.Author.Needs.{needs}
@@ -21,34 +21,42 @@ entry c = c .before .before .before .before
 -- the set reads to what is covered, with these begins
 reads : (c : tie.After-covered) (e : ℕ) → let f = c .before .before in let a = entry f .args in
     In (c .covered .result) e → ReadsWith (a .conds .now) (a .allow .now) (a .ends .now) (a .count) (a .state .from) e (entryAt (f .first-begins .result))
-reads c e t = let f = c .before .before in reads-with (entry f .pre .0) (c .before .ends-at .ensures) (f .first-begins .ensures .0) (c .covered .ensures e .0 t)
+reads c e t = let f = c .before .before in reads-with (entry f .pre .state .ready) (c .before .ends-at .ensures) (f .first-begins .ensures .0) (c .covered .ensures e .0 t)
 
 -- and what is sought is covered
 finds : (c : tie.After-covered) (goes later bounds : List ℕ) (e : ℕ) (bs es : ℕ → ℕ) → let a = entry (c .before .before) .args in e ≤ a .found .upto
-    → Sought (a .conds .now) (a .allow .now) (a .ends .now) goes later bounds (a .count) (a .state) e bs es → In (c .covered .result) e
+    → SoughtPlacement (a .conds .now) (a .allow .now) (a .ends .now) goes later bounds (a .count) (a .state) e bs es → In (c .covered .result) e
 finds c goes later bounds e bs es u h =
     let f = c .before .before in
     let s = entry f in
     let same : (i : ℕ) → i < s .args .count → bs i ≡ entryAt (f .first-begins .result) i
     = λ i l. let o = h .masked .inside i l in
-    sym (h .fits .fixed i _ l (λ t. in-zero (s .pre .1) t) (f .first-begins .ensures .2 i (bs i) l (h .fits .begins i l) (o .0) (omega (arith, o, u)))) in
-    c .covered .ensures e .1 (covers-all (s .pre .0) (c .before .ends-at .ensures) (f .first-begins .ensures .0) same (h .masked))
+    sym (h .fits .fixed i _ l (λ t. in-zero (s .pre .placed) t) (f .first-begins .ensures .2 i (bs i) l (h .fits .begins i l) (o .0) (omega (arith, o, u)))) in
+    c .covered .ensures e .1 (covers-all (s .pre .state .ready) (c .before .ends-at .ensures) (f .first-begins .ensures .0) same (h .masked))
 
--- which is a moment
-small : (c : tie.After-covered) (e : ℕ) → In (c .covered .result) e → e < 64
-small c e t =
+-- which is not after the last moment
+within : (c : tie.After-covered) (e : ℕ) → In (c .covered .result) e → e ≤ entry (c .before .before) .args .found .upto
+within c e t =
     let f = c .before .before in
-    let r = entry f .pre .0 in
     let k = c .covered .ensures e .0 t .last in
-    omega (arith, onward r (c .before .ends-at .ensures) (f .first-begins .ensures .0) (k .at) e (k .below) (k .is), r .moments)
+    onward (entry f .pre .state .ready) (c .before .ends-at .ensures) (f .first-begins .ensures .0) (k .at) e (k .below) (k .is) .1
 
 covered-requires : tie.Need-covered-requires
-covered-requires c κs = let f = c .before in let r = entry f .pre .0 in
-    (r .few, f .first-begins .ensures .1, λ i e l t. omega (arith, onward r (c .ends-at .ensures) (f .first-begins .ensures .0) i e l t, r .moments))
+covered-requires c κs = let f = c .before in let r = entry f .pre .state .ready in
+    record {
+      few = r .few;
+      begins = f .first-begins .ensures .1;
+      ends = λ i e l t. omega (arith, onward r (c .ends-at .ensures) (f .first-begins .ensures .0) i e l t, r .moments);
+    }
 
 ends-at-requires : tie.Need-ends-at-requires
-ends-at-requires c κs = let r = entry c .pre .0 in
-    (r .few, r .conditions, λ d l. let n = r .named d l in (omega (arith, n .0, r .few), omega (arith, n .1, r .few)), c .first-begins .ensures .1)
+ends-at-requires c κs = let r = entry c .pre .state .ready in
+    record {
+      few = r .few;
+      conditions = r .conditions;
+      named = λ d l. let n = r .named d l in (omega (arith, n .0, r .few), omega (arith, n .1, r .few));
+      moments = c .first-begins .ensures .1;
+    }
 
 -- what is added, with the begins that are kept
 grown : (u : tie.After-union) (kept : List ℕ) → let a = entry (u .before .before .before) .args in
@@ -62,12 +70,12 @@ grown u kept begins moments = let all = in-union (u .union .ensures) in record {
   kept = λ e t. all e .1 (inl t);
   reads = λ e t. ⊎-elim inl (λ v. let r = reads (u .before) e v in inr (record { bs = _; es = r .es; masked = r .masked })) (all e .0 t);
   begins = begins;
-  small = λ h e t. ⊎-elim (h e) (small (u .before) e) (all e .0 t);
+  within = λ h e t. ⊎-elim (h e) (within (u .before) e) (all e .0 t);
   moments = moments;
 }
 
 found : (u : tie.After-union) (goes later bounds : List ℕ) (e : ℕ) (bs es : ℕ → ℕ) → let a = entry (u .before .before .before) .args in e ≤ a .found .upto
-    → Sought (a .conds .now) (a .allow .now) (a .ends .now) goes later bounds (a .count) (a .state) e bs es → In (u .union .result) e
+    → SoughtPlacement (a .conds .now) (a .allow .now) (a .ends .now) goes later bounds (a .count) (a .state) e bs es → In (u .union .result) e
 found u goes later bounds e bs es l h = in-union (u .union .ensures) e .1 (inr (finds (u .before) goes later bounds e bs es l h))
 
 returns : tie.Need-returns
@@ -85,5 +93,5 @@ returns-2 c = let u = c .before .before in (
 pub leaf-spec : {M : Type 1} → statement M
 leaf-spec =
     tie.close
-    (tie.spec (λ c κs. let r = c .before .before .before .pre .0 in (r .few, r .forward, r .moments)) ends-at-requires covered-requires
-    (λ c κs. search needs) (λ c κs. let r = entry (c .before .before .before) .pre .0 in r .moments) returns returns-2)
+    (tie.spec (λ c κs. let r = c .before .before .before .pre .state .ready in (r .few, r .forward, r .moments)) ends-at-requires covered-requires
+    (λ c κs. search needs) (λ c κs. let r = entry (c .before .before .before) .pre .state .ready in r .moments) returns returns-2)

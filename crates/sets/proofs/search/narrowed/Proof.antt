@@ -1,7 +1,6 @@
 -- `sets::search::narrowed` meets its contract. Assumes nothing.
-use Prim.Native.Nat.{ℕ, _+_, _*_, _≤_, _<_}
+use Prim.Native.Nat.{ℕ}
 use mathlib.Core.Logic.{_↔_}
-use native.Mathlib.Omega.{arith}
 use Rattle.bitset.specs.Code.Members.{In}
 use Rattle.sets.specs.Code.Search.{pairAt}
 use Rattle.bitset.proofs.Ends.{lowest-le}
@@ -9,6 +8,12 @@ use Rattle.bitset.proofs.In.{in-both, in-zero}
 use borrow.Author.Needs.{needs}
 use Rattle.sets.proofs.search.narrowed.Statement.{statement}
 use Rattle.sets.proofs.search.narrowed.Tie as tie
+
+abbrev after-inter2 : tie.After-inter5 → tie.After-inter2
+after-inter2 c = c .before .before .before .before .before .before .before
+
+abbrev after-lowest : tie.After-inter5 → tie.After-lowest
+after-lowest c = c .before .before .before .before .before
 
 -- the begins that member j keeps
 begins-kept : (c : tie.After-inter2) → let a = c .before .before .before .args in (y : ℕ) → In (c .inter2 .result) y
@@ -21,9 +26,9 @@ returns c = let k = begins-kept (c .before) in (λ y e b g w o m v l. in-zero (c
 
 returns-2 : tie.Need-returns-2
 returns-2 c =
-    let f = c .before .before .before .before .before .before .before in
+    let f = after-inter2 c in
     let k = begins-kept f in
-    let l = c .before .before .before .before .before .lowest in (
+    let l = after-lowest c .lowest in (
       λ y e b g w o m v later. let t = k y .1 (b, g, w) in (
         t,
         in-both (c .inter5 .ensures) e .1 (

@@ -9,6 +9,9 @@ use borrow.Author.Needs.{needs}
 use Rattle.sets.proofs.search.over.Statement.{statement}
 use Rattle.sets.proofs.search.over.Tie as tie
 
+abbrev entry : tie.After-inter → tie.Start
+entry c = c .before .before .before .before
+
 returns : tie.Need-returns
 returns c = (
   refl,
@@ -16,7 +19,7 @@ returns c = (
   refl,
   λ count bs es f b d.
       let k = c .before .before in
-      let s = k .before .before .before .before in
+      let s = entry k in
       let i = s .args .i in
       let o = s .args .state in
       let low = in-both (k .inter .ensures) in

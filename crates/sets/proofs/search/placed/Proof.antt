@@ -1,21 +1,21 @@
 -- `sets::search::placed` meets its contract. Assumes nothing.
-use Prim.Native.Nat.{ℕ, _≤_, _<_}
-use mathlib.Core.Path.{_≡_, sym, ap, _∙_, subst}
+use Prim.Native.Nat.{ℕ}
+use mathlib.Core.Path.{sym, ap, _∙_, subst}
 use mathlib.Core.Bool.{not, _&&_}
 use mathlib.Core.Logic.{inl, inr, ⊎-elim}
 use native.Mathlib.Omega.{arith}
 use lib.Dec.{eqb}
 use Rattle.bitset.specs.Code.Members.{has}
 use Rattle.sets.specs.Code.Search.{InTables}
-use borrow.Author.Needs.{needs}
 use Rattle.sets.proofs.search.placed.Statement.{statement}
 use Rattle.sets.proofs.search.placed.Tie as tie
 
 put-requires : tie.Need-put-requires
-put-requires c κs = let p = c .before .pre in let b = c .beyond .ensures in (p .0, p .1, p .2, omega (arith, b .1, p .3), omega (arith, b .0, p .4))
+put-requires c κs = let p = c .before .pre in let b = c .beyond .ensures in
+    record { few = p .few; member = p .member; moment = p .moment; last = omega (arith, b .1, p .last); from = omega (arith, b .0, p .from) }
 
 tighten-requires : tie.Need-tighten-requires
-tighten-requires c κs = let p = c .before .before .pre in (p .0, omega (arith, c .put .ensures .1, c .before .beyond .ensures .1, p .3))
+tighten-requires c κs = let p = c .before .before .pre in (p .few, omega (arith, c .put .ensures .1, c .before .beyond .ensures .1, p .last))
 
 returns : tie.Need-returns
 returns c =
@@ -29,7 +29,7 @@ returns c =
       λ k. ap (λ (x : ℕ). has x k) (t .2) ∙ p .2 k ∙ ap (λ (x : ℕ). has x k && not (eqb k (a .i))) (b .2),
       λ bs es h d f q. ⊎-elim inl
           (λ g. inr (t .3 bs es d (p .3 bs es (subst (λ (x : ℕ). InTables (a .ends .now) (a .goes .now) (a .later .now) (a .count) x bs es) (sym (b .0)) h) g q)))
-          (b .4 (a .count) bs es (s .pre .3) f),
+          (b .4 (a .count) bs es (s .pre .last) f),
     )
 
 pub placed-spec : {M : Type 1} → statement M

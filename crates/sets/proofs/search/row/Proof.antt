@@ -1,5 +1,5 @@
 -- `sets::search::row` meets its contract. The invariant: the placements are found in which a member before `first` begins first. Assumes nothing.
-use Prim.Native.Nat.{ℕ, _+_, _-_, _≤_, _<_}
+use Prim.Native.Nat.{ℕ, _-_, _≤_, _<_}
 use mathlib.Core.Path.{_≡_, refl, sym, subst}
 use mathlib.Core.Logic.{by-cases}
 use native.Mathlib.Decide.{decLt}

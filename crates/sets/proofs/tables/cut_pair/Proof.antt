@@ -1,46 +1,58 @@
 -- `sets::tables::cut_pair` meets its contract. The invariant: the tables have what they had of each placement, and no end more. Assumes nothing.
 use Prim.Native.Nat.{ℕ, _+_, _-_, _*_, _≤_, _<_}
+use mathlib.Core.List.{List}
 use native.Mathlib.Omega.{arith}
 use Rattle.bitset.proofs.In.{in-both}
-use Rattle.sets.specs.Code.Search.{Have, Fewer, Within}
+use Rattle.sets.specs.Code.Search.{Have, Fewer, InSpan}
 use Rattle.sets.proofs.Pairs.{pair-more, fewer-more}
 use borrow.Author.Needs.{needs}
 use Rattle.sets.proofs.tables.cut_pair.Statement.{statement}
 use Rattle.sets.proofs.tables.cut_pair.Tie as tie
 
+-- the tables have what they had of each placement, and no end more
+record PairsCut (i j a z : ℕ) (ends₀ goes₀ ends goes : List ℕ) (x : ℕ) : Type 0 where
+  from : a ≤ x
+  upto : x ≤ z + 1
+  fewer : Fewer ends₀ ends
+  kept : (count : ℕ) (bs es : ℕ → ℕ) → i < count → j < count → count ≤ 4 → InSpan count a z bs es → Have ends₀ goes₀ count bs es → Have ends goes count bs es
+
 abbrev Inv-loop : tie.InvT-loop
-Inv-loop i j a z ends₀ goes₀ x₀ ends goes x =
-    (a ≤ x) × (x ≤ z + 1) × Fewer ends₀ ends
-    × ((count : ℕ) (bs es : ℕ → ℕ) → i < count → j < count → count ≤ 4 → Within count a z bs es → Have ends₀ goes₀ count bs es
-    → Have ends goes count bs es)
+Inv-loop i j a z ends₀ goes₀ x₀ ends goes x = PairsCut i j a z ends₀ goes₀ ends goes x
 
 abbrev μ-loop : tie.MeasureT-loop
 μ-loop i j a z ends₀ goes₀ x₀ ends goes x = z + 1 - x
 
+abbrev turn : tie.After-inter Inv-loop μ-loop → tie.In-loop Inv-loop μ-loop
+turn c = c .before .before .before .before .before .before .before
+
+abbrev after-partners : tie.After-inter Inv-loop μ-loop → tie.After-partners Inv-loop μ-loop
+after-partners c = c .before .before .before .before
+
 loop-again : tie.Need-loop-again Inv-loop μ-loop
 loop-again c =
-    let t = c .before .before .before .before .before .before .before in
+    let t = turn c in
     let l = t .before .loop in
     let s = t .before .before in
     let i = s .args .i in
     let j = s .args .j in
-    let r = c .before .before .before .before .partners in
+    let r = after-partners c .partners in
     let k = (i * 4 + i) * 64 + l .x in
-    let both = in-both (c .inter .ensures) in (
-      omega arith,
-      omega arith,
-      fewer-more (s .args .ends .now) (l .ends) k (c .inter .result) both (l .inv .2),
-      λ count bs es first second few within have. pair-more i j (l .x) (s .args .a) (s .args .z) (r .result) (c .before .some-ends .result)
+    let both = in-both (c .inter .ensures) in
+    record {
+      from = omega arith;
+      upto = omega arith;
+      fewer = fewer-more (s .args .ends .now) (l .ends) k (c .inter .result) both (l .inv .fewer);
+      kept = λ count bs es first second few within have. pair-more i j (l .x) (s .args .a) (s .args .z) (r .result) (c .before .some-ends .result)
           (c .inter .result) few (s .pre .3)
           (t .loop-test .taken) first second within (r .ensures) (c .before .some-ends .ensures) both
-          (l .inv .3 count bs es first second few within have),
-    )
+          (l .inv .kept count bs es first second few within have);
+    }
 
 pub cut-pair-spec : {M : Type 1} → statement M
 cut-pair-spec =
     tie.close
-    (tie.spec Inv-loop μ-loop (λ c. (omega arith, omega arith, λ p e t. t, λ count bs es first second few within have. have))
+    (tie.spec Inv-loop μ-loop (λ c. record { from = omega arith; upto = omega arith; fewer = λ p e t. t; kept = λ count bs es first second few within have. have })
     (λ c κs. search needs) (λ c. search needs) (λ c. search needs) (λ c. search needs) (λ c. search needs) (λ c. search needs) (λ c. search needs)
     (λ c. search needs) (λ c. search needs) (λ c. search needs) (λ c. search needs) (λ c. search needs) (λ c. search needs) (λ c. search needs)
     (λ c. search needs) (λ c κs. search needs) (λ c κs. search needs) (λ c. search needs) (λ c. search needs) (λ c. search needs)
-    (λ c. search needs) loop-again (λ c. (c .before .loop .inv .2, c .before .loop .inv .3)))
+    (λ c. search needs) loop-again (λ c. (c .before .loop .inv .fewer, c .before .loop .inv .kept)))

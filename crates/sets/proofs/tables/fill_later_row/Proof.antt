@@ -3,6 +3,7 @@
 use Prim.Native.Nat.{ℕ, _+_, _-_, _*_, _≤_, _<_}
 use mathlib.Core.Path.{_≡_, refl, subst, _∙_}
 use mathlib.Core.Logic.{inl, inr, by-cases}
+use mathlib.Core.List.{List}
 use native.Mathlib.Decide.{ℕ-discrete}
 use native.Mathlib.Omega.{arith}
 use lib.ListN.{length, getD, length-set}
@@ -15,19 +16,28 @@ use borrow.Author.Needs.{needs}
 use Rattle.sets.proofs.tables.fill_later_row.Statement.{statement}
 use Rattle.sets.proofs.tables.fill_later_row.Tie as tie
 
+-- `all` and the masks from x on have the ends begun from there on
+record Later (ends : List ℕ) (i a z : ℕ) (old later : List ℕ) (all x : ℕ) : Type 0 where
+  from : a ≤ x
+  upto : x ≤ z + 1
+  long : length later ≡ 256
+  reached : (y e : ℕ) → x ≤ y → y ≤ z → In (pairAt ends i i y) e → In all e
+  masks : (v y e : ℕ) → x ≤ v → v ≤ y → y ≤ z → In (pairAt ends i i y) e → In (getD later (i * 64 + v) 0) e
+  others : (p : ℕ) → p < i * 64 → getD later p 0 ≡ getD old p 0
+
 abbrev Inv-loop : tie.InvT-loop
-Inv-loop ends i a z later₀ all₀ x₀ later all x =
-    (a ≤ x) × (x ≤ z + 1) × (length later ≡ 256) × ((y e : ℕ) → x ≤ y → y ≤ z → In (pairAt ends i i y) e → In all e)
-    × ((v y e : ℕ) → x ≤ v → v ≤ y → y ≤ z → In (pairAt ends i i y) e → In (getD later (i * 64 + v) 0) e)
-    × ((p : ℕ) → p < i * 64 → getD later p 0 ≡ getD later₀ p 0)
+Inv-loop ends i a z later₀ all₀ x₀ later all x = Later ends i a z later₀ later all x
 
 abbrev μ-loop : tie.MeasureT-loop
 μ-loop ends i a z later₀ all₀ x₀ later all x = x
 
+abbrev entry : tie.After-union Inv-loop μ-loop → tie.Start Inv-loop μ-loop
+entry c = c .before .before .before .before
+
 loop-again : tie.Need-loop-again Inv-loop μ-loop
 loop-again c =
     let l = c .before .before .before .loop in
-    let s = c .before .before .before .before in
+    let s = entry c in
     let g = c .before .before .loop-test .taken in
     let x = l .x - 1 in
     let i = s .args .i in
@@ -35,23 +45,24 @@ loop-again c =
     let all : (y e : ℕ) → x ≤ y → y ≤ s .args .z → In (pairAt (s .args .ends .now) i i y) e → In r e
     = λ y e m k t. by-cases (ℕ-discrete y x)
     (λ q. in-union (c .union .ensures) e .1 (inr (subst (λ (y : ℕ). In (pairAt (s .args .ends .now) i i y) e) q t)))
-    (λ q. in-union (c .union .ensures) e .1 (inl (l .inv .3 y e (omega arith) k t))) in (
-      omega arith,
-      omega arith,
-      simp length-set (l .inv .2),
-      all,
-      λ v y e m k n t. in-stored (l .later) (i * 64 + x) r (omega (arith, l .inv .2, s .pre .0)) (λ q. all y e (omega arith) n t)
-          (λ q. l .inv .4 v y e (omega arith) k n t),
-      λ p m. getD-set-other (l .later) (i * 64 + x) p r 0 (omega arith) ∙ l .inv .5 p m,
-    )
+    (λ q. in-union (c .union .ensures) e .1 (inl (l .inv .reached y e (omega arith) k t))) in
+    record {
+      from = omega arith;
+      upto = omega arith;
+      long = simp length-set (l .inv .long);
+      reached = all;
+      masks = λ v y e m k n t. in-stored (l .later) (i * 64 + x) r (omega (arith, l .inv .long, s .pre .0)) (λ q. all y e (omega arith) n t)
+          (λ q. l .inv .masks v y e (omega arith) k n t);
+      others = λ p m. getD-set-other (l .later) (i * 64 + x) p r 0 (omega arith) ∙ l .inv .others p m;
+    }
 
 returns : tie.Need-returns Inv-loop μ-loop
-returns c = let l = c .before .loop in (λ x y e g m k t. l .inv .4 x y e (omega arith) m k t, l .inv .5, l .inv .2)
+returns c = let l = c .before .loop in (λ x y e g m k t. l .inv .masks x y e (omega arith) m k t, l .inv .others, l .inv .long)
 
 pub fill-later-row-spec : {M : Type 1} → statement M
 fill-later-row-spec =
     tie.close
     (tie.spec Inv-loop μ-loop (λ c. search needs)
-    (λ c. (omega arith, omega arith, c .pre .3, λ y e l g. absurd (omega arith), λ v y e l g m. absurd (omega arith), λ p l. refl))
+    (λ c. record { from = omega arith; upto = omega arith; long = c .pre .1 .long; reached = λ y e l g. absurd (omega arith); masks = λ v y e l g m. absurd (omega arith); others = λ p l. refl })
     (λ c. search needs) (λ c. search needs) (λ c. search needs) (λ c. search needs) (λ c. search needs) (λ c. search needs) (λ c. search needs)
     (λ c κs. search needs) (λ c. search needs) (λ c. search needs) (λ c. search needs) (λ c. search needs) (λ c. search needs) loop-again returns)

@@ -1,6 +1,5 @@
 -- `sets::tables::own_row` meets its contract. Assumes nothing.
 use mathlib.Core.Path.{sym, _∙_}
-use native.Mathlib.Omega.{arith}
 use borrow.Author.Tests.{not-true, not-false}
 use Rattle.bitset.proofs.Bools.{not-both}
 use Rattle.bitset.proofs.In.{in-none, in-both, in-between}
@@ -8,21 +7,24 @@ use borrow.Author.Needs.{needs}
 use Rattle.sets.proofs.tables.own_row.Statement.{statement}
 use Rattle.sets.proofs.tables.own_row.Tie as tie
 
-returns-3 : tie.Need-returns-3
-returns-3 c = λ e.
+abbrev begun : tie.After-inter2 → tie.Else1
+begun c = c .before .before .before .before .before
+
+returns-2 : tie.Need-returns-2
+returns-2 c = λ e.
     let row = in-both (c .before .before .inter .ensures) e in
     let upto = in-between (c .before .before .before .between .ensures) e in
     let both = in-both (c .inter2 .ensures) e in
-    let h = c .before .before .before .before .before in (
+    let h = begun c in (
       λ t. let u = both .0 t in let v = row .0 (u .0) in let w = upto .0 (v .1) in
-          (v .0, w .0, w .1, u .1, record { yes = sym (h .before .has .ensures) ∙ not-false _ (h .if2 .left) }),
+          (v .0, w .0, w .1, u .1, record { yes = sym (h .before .has .ensures) ∙ not-false _ (h .if1 .left) }),
       λ t. both .1 (row .1 (t .0, upto .1 (t .1, t .2)), t .3),
     )
 
 pub own-row-spec : {M : Type 1} → statement M
 own-row-spec =
     tie.close
-    (tie.spec (λ c. let g = c .if1 .taken in in-none (λ e h. omega (arith, h .1, h .2))) (λ c. search needs) (λ c. search needs) (λ c. search needs) (λ c. search needs) (λ c. search needs) (λ c. search needs)
-    (λ c κs. search needs) (λ c. in-none (λ e h. not-both (h .4 .yes) (sym (c .before .has .ensures) ∙ not-true _ (c .if2 .taken))))
+    (tie.spec (λ c. search needs) (λ c. search needs) (λ c. search needs) (λ c. search needs) (λ c. search needs) (λ c. search needs)
+    (λ c κs. search needs) (λ c. in-none (λ e h. not-both (h .4 .yes) (sym (c .before .has .ensures) ∙ not-true _ (c .if1 .taken))))
     (λ c. search needs) (λ c. search needs) (λ c. search needs) (λ c. search needs) (λ c κs. search needs) (λ c κs. search needs)
-    (λ c. search needs) (λ c. search needs) (λ c κs. search needs) returns-3)
+    (λ c. search needs) (λ c. search needs) (λ c κs. search needs) returns-2)

@@ -22,15 +22,21 @@ Inv-loop ends goes i x j r₀ rest₀ r rest =
 abbrev μ-loop : tie.MeasureT-loop
 μ-loop ends goes i x j r₀ rest₀ r rest = popCount rest
 
+abbrev entry : tie.After-drop-lowest Inv-loop μ-loop → tie.Start Inv-loop μ-loop
+entry c = c .before .before .before .before .before .before .before .before .before
+
+abbrev head : tie.After-drop-lowest Inv-loop μ-loop → tie.At-loop Inv-loop μ-loop
+head c = c .before .before .before .before .before
+
 -- where y is m
 begun-at : (t : List ℕ) (i j : ℕ) {x y m : ℕ} → y ≡ m → In (pairAt t i j y) x → In (pairAt t i j m) x
 begun-at t i j {x} k = subst (λ (y : ℕ). In (pairAt t i j y) x) k
 
 loop-again : tie.Need-loop-again Inv-loop μ-loop
 loop-again c =
-    let l = c .before .before .before .before .before .loop in
+    let l = head c .loop in
     let m = c .before .before .before .lowest in
-    let a = c .before .before .before .before .before .before .before .before .before .args in
+    let a = entry c .args in
     let E = a .ends .now in
     let G = a .goes .now in
     let i = a .i in

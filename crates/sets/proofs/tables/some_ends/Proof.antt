@@ -17,10 +17,16 @@ Inv-loop ends i j begins r₀ rest₀ r rest = (y e : ℕ) → In begins y → I
 abbrev μ-loop : tie.MeasureT-loop
 μ-loop ends i j begins r₀ rest₀ r rest = popCount rest
 
+abbrev entry : tie.After-drop-lowest Inv-loop μ-loop → tie.Start Inv-loop μ-loop
+entry c = c .before .before .before .before .before .before
+
+abbrev head : tie.After-drop-lowest Inv-loop μ-loop → tie.At-loop Inv-loop μ-loop
+head c = c .before .before .before .before .before
+
 loop-again : tie.Need-loop-again Inv-loop μ-loop
 loop-again c =
-    let l = c .before .before .before .before .before .loop in
-    let a = c .before .before .before .before .before .before .args in
+    let l = head c .loop in
+    let a = entry c .args in
     let m = c .before .before .before .lowest in
     let more = in-union (c .before .union .ensures) in
     let drop = in-without (c .drop-lowest .ensures .rest (m .result) (m .ensures)) in

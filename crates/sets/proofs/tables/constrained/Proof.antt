@@ -1,9 +1,9 @@
--- `sets::tables::tied` meets its contract. Assumes nothing.
+-- `sets::tables::constrained` meets its contract. Assumes nothing.
 use Prim.Native.Nat.{_-_, _≤_}
 use lib.ListN.{length}
 use borrow.Author.Needs.{needs}
-use Rattle.sets.proofs.tables.tied.Statement.{statement}
-use Rattle.sets.proofs.tables.tied.Tie as tie
+use Rattle.sets.proofs.tables.constrained.Statement.{statement}
+use Rattle.sets.proofs.tables.constrained.Tie as tie
 
 abbrev Inv-loop : tie.InvT-loop
 Inv-loop conds i j c₀ c = c ≤ length conds
@@ -11,8 +11,8 @@ Inv-loop conds i j c₀ c = c ≤ length conds
 abbrev μ-loop : tie.MeasureT-loop
 μ-loop conds i j c₀ c = length conds - c
 
-pub tied-spec : {M : Type 1} → statement M
-tied-spec =
+pub constrained-spec : {M : Type 1} → statement M
+constrained-spec =
     tie.close
     (tie.spec Inv-loop μ-loop (λ c. search needs) (λ c. search needs) (λ c. search needs) (λ c κs. search needs) (λ c κs. search needs)
     (λ c κs. search needs) (λ c κs. search needs) (λ c. search needs) (λ c. search needs) (λ c. search needs) (λ c. search needs)
