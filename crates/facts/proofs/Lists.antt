@@ -8,7 +8,7 @@ use native.Mathlib.Numerals.{add-one}
 use native.Mathlib.Omega.{arith}
 use lib.Dec.{eqb}
 use lib.ListN.{length, getD, length-append}
-use lib.Seq.{sets, length-sets}
+use lib.Seq.{length-sets}
 use Rattle.words.specs.Scan.{concatBelow}
 use Rattle.words.specs.Lists.{insert}
 use Rattle.words.proofs.Copies.{sets-append}
@@ -16,7 +16,7 @@ use Rattle.words.specs.Fields.{unknown, startMoment, startAction, factWord}
 use Rattle.job.specs.Parts.{headWord, fluents, lastMoment, duration}
 use Rattle.job.specs.Code.WellFormed.{WellFormed}
 use Rattle.history.specs.Values.{valueAt}
-use Rattle.history.specs.Code.Tables.{History}
+use Rattle.history.specs.Code.Tables.{HistoryUpto}
 use Rattle.history.proofs.Before.{value-before}
 use Rattle.facts.specs.Facts.{factOf, factsAt, factsUpto, factsAfter, factsOf}
 use Rattle.facts.specs.Code.Written.{rowFacts, Written, Filled}
@@ -96,17 +96,17 @@ module _ (history : List ℕ) (head n : ℕ) where
   rows-most l t = gather-most (λ (u : ℕ). rowFacts history head u n) 64 t (λ u. omega (arith, row-most history head u n))
 
 -- by the history of a plan they are its facts
-rows-facts : {job starts history : List ℕ} → History job starts history → (t : ℕ) → t ≤ lastMoment job
+rows-facts : {job starts history : List ℕ} {t : ℕ} → HistoryUpto job starts t history
     → rowsFacts history (headWord job) (fluents job) (t + 1) ≡ factsUpto job starts t
 unfolding rowsFacts rowFacts factsUpto factsAt
-rows-facts {job} h t l =
+rows-facts {job} {t = t} h =
     gather-same _ _ (t + 1)
     (λ u m. gather-same _ _ (fluents job) (λ f k. ap (factOf (headWord job) u f) (h .entry u f (omega arith) k)))
 
-pub rows-filled : {job starts history old new : List ℕ} {last n t end : ℕ} → History job starts history → last ≤ lastMoment job → n ≡ fluents job → t ≡ last + 1
+pub rows-filled : {job starts history old new : List ℕ} {last n t end : ℕ} → HistoryUpto job starts last history → n ≡ fluents job → t ≡ last + 1
     → Written old 0 (rowsFacts history (headWord job) n t) end new → Filled old (factsUpto job starts last) end new
-rows-filled {last = last} h l e q w =
-    let facts = rw (e, q, rows-facts h last l) at w in
+rows-filled h e q w =
+    let facts = rw (e, q, rows-facts h) at w in
     record { count = omega (arith, facts .next); held = facts .held }
 
 module _ (job starts : List ℕ) where

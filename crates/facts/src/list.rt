@@ -3,7 +3,7 @@ ghost use mathlib.Core.List.{List};
 ghost use Prim.Native.Nat.{ℕ, _+_, _<_, _≤_};
 ghost use lib.ListN.{length};
 ghost use Rattle.job.specs.Code.WellFormed.{WellFormed};
-ghost use Rattle.history.specs.Code.Tables.{History};
+ghost use Rattle.history.specs.Code.Tables.{HistoryUpto, History};
 ghost use Rattle.facts.specs.Facts.{factOf, factsUpto, factsOf};
 ghost use Rattle.facts.specs.Code.Written.{rowFacts, Written, Filled, Fillable};
 use words::FLUENTS;
@@ -48,7 +48,7 @@ fn write_facts(
 // Writes the facts of the moments up to `last` to the front of the buffer, and answers how many they are.
 pub fn fill_upto(job: &[u32], history: &[u8; 4096], last: usize, buffer: &mut [u32]) -> usize
     requires { ⌜ Fillable (now job) last (now buffer) ⌝ }
-    ensures { λ r. ⌜ ((starts : List ℕ) → History (now (job .entry)) starts (now (history .entry))
+    ensures { λ r. ⌜ ((starts : List ℕ) → HistoryUpto (now (job .entry)) starts last (now (history .entry))
         → Filled (now (buffer .entry)) (factsUpto (now (job .entry)) starts last) r (now (buffer .exit))) ⌝ }
 {
     let head = job[0];

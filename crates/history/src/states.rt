@@ -9,7 +9,7 @@ ghost use Rattle.words.specs.Fields.{knownValue};
 ghost use Rattle.job.specs.Parts.{fluents};
 ghost use Rattle.job.specs.Code.WellFormed.{WellFormed};
 ghost use Rattle.history.specs.Values.{lists};
-ghost use Rattle.history.specs.Code.Tables.{Walkable, StateAt, Steppable, History};
+ghost use Rattle.history.specs.Code.Tables.{Walkable, StateAt, Steppable, HistoryUpto};
 ghost use Rattle.history.specs.Code.Stores.{Overlaid, Mapped};
 ghost use Rattle.history.specs.Code.Passes.{changed, changedBy, AfterPass};
 use crate::tables::store_row;
@@ -20,7 +20,6 @@ use words::fluent_of;
 use words::fluents_of;
 use words::kind_of;
 use words::known_value;
-use words::last_of;
 use words::start_action;
 use words::start_moment;
 
@@ -141,17 +140,17 @@ fn step(
     apply_starts(job, durations, effects, starts, true, t + 1, state);
 }
 
-// The one walk of the states.
+// The one walk of the states, up to moment `last`.
 pub fn history(
     job: &[u32],
     durations: &[usize; 64],
     effects: &[u8; 4096],
     starts: &[u32],
+    last: usize,
 ) -> [u8; 4096]
-    requires { ⌜ Walkable (now job) (now durations) (now effects) (now starts) ⌝ }
-    ensures { λ r. ⌜ History (now (job .entry)) (now (starts .entry)) r ⌝ }
+    requires { ⌜ Walkable (now job) (now durations) (now effects) (now starts) × (last < 64) ⌝ }
+    ensures { λ r. ⌜ HistoryUpto (now (job .entry)) (now (starts .entry)) last r ⌝ }
 {
-    let last = last_of(job[0]);
     let mut table = [OPEN; 4096];
     let mut state = initial_state(job);
     let mut t = 0;

@@ -2,14 +2,14 @@
 use mathlib.Core.Bool.{Bool, true, false, cond, _||_}
 use mathlib.Core.List.{List, [], _∷_}
 use mathlib.Core.Path.{_≡_, refl, sym, _∙_}
-use Prim.Native.Nat.{ℕ, zero, suc, _+_, _^_, _<_, _≤_}
+use Prim.Native.Nat.{ℕ, zero, suc, _^_, _<_, _≤_}
 use native.Mathlib.Omega.{arith}
 use borrow.Author.Tests.{leb-false, ltb-false, le-ltb, eqb-true}
 use lib.Dec.{eqb, leb, ltb}
 use lib.ListN.{length, getD}
 use Rattle.words.specs.Fields.{startMoment, startWord}
 use Rattle.words.specs.Scan.{any}
-use Rattle.words.specs.Lists.{Each, each-none, each-more, pairs-none}
+use Rattle.words.specs.Lists.{Each, each-none, each-more, pairs-none, sorted}
 use Rattle.words.proofs.Choices.{true-false}
 use Rattle.words.proofs.Lists.{each-map, any-none, none-any}
 use Rattle.words.proofs.Insert.{each-insert}
@@ -23,7 +23,7 @@ use Rattle.starts.specs.Rows.{startsRefusal}
 use Rattle.starts.specs.Lawful.{Lawful}
 use Rattle.starts.proofs.StartsFormed.{few-words}
 use Rattle.starts.proofs.Lawful.{lawful, lawful-formed}
-use Rattle.moves.specs.Trials.{Trial, Move, Start, On, fresh, outside, trialRefusal, onRefusal, ownRefusal, moveRefusal, moved, after, played, started, accepted, sorted}
+use Rattle.moves.specs.Trials.{Trial, Move, Start, On, fresh, outside, trialRefusal, onRefusal, ownRefusal, moveRefusal, moved, after, played, started, accepted}
 use Rattle.moves.specs.Promises.{PlayedPasses, PlayedStarts}
 use Rattle.moves.proofs.Accept.{startable, accept, word-moment}
 

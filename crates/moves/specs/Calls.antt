@@ -12,7 +12,7 @@ use Rattle.answers.specs.Packed.{answerOf}
 use Rattle.job.specs.Refusal.{jobRefusal}
 use Rattle.facts.specs.Facts.{factsUpto}
 use Rattle.theory.specs.Answers.{bufferRefusal}
-use Rattle.moves.specs.Trials.{Trial, Move, trialRefusal, ownRefusal}
+use Rattle.moves.specs.Trials.{Trial, Move, fresh, trialRefusal, moveRefusal, after}
 
 -- a trial's words: its moment, the number of its starts, the starts; the trial that the first 4,098 words say, where those that are not
 -- there count as 0
@@ -22,7 +22,7 @@ trialWords T = T .moment ∷ length (T .starts) ∷ T .starts
 abbrev pub trialIn : List ℕ → Trial
 trialIn words = record { moment = getD words 0 0; starts = firstWords (getD words 1 0) (take 4096 (drop 2 words)) }
 
--- fewer words than a trial may need are a trial that no moves could give
+-- fewer than 4,098 words are a trial that no moves could give
 abbrev pub roomRefusal : ℕ → Refusal
 roomRefusal room = row (ltb room 4098) 14 0
 
@@ -31,8 +31,7 @@ unfoldable pub beginAnswer : ℕ → List ℕ → Answer
 beginAnswer room job = answerOf (firstRow (jobRefusal job ∷ roomRefusal room ∷ [])) 0 0
 
 unfoldable pub moveAnswer : List ℕ → List ℕ → Move → Answer
-moveAnswer job words m =
-    answerOf (firstRow (jobRefusal job ∷ roomRefusal (length words) ∷ trialRefusal job (trialIn words) ∷ ownRefusal job (trialIn words) m ∷ [])) 0 0
+moveAnswer job words m = answerOf (firstRow (jobRefusal job ∷ roomRefusal (length words) ∷ moveRefusal job (trialIn words) m ∷ [])) 0 0
 
 -- the facts that a trial shows: those of moments 0 to the present one
 abbrev pub shownFacts : List ℕ → Trial → List ℕ
@@ -48,3 +47,9 @@ showAnswer room job words =
 abbrev pub handedBack : Answer → Trial → List ℕ → List ℕ
 handedBack (Accepted l c) T words = trialWords T ++ drop (length (trialWords T)) words
 handedBack (Refused n p c) T words = words
+
+-- the lent words after trial_begin and then a list of moves, the latest first, by what the calls hand back
+unfoldable pub calledWords : List ℕ → List ℕ → List Move → List ℕ
+calledWords job words [] = handedBack (beginAnswer (length words) job) fresh words
+calledWords job words (m ∷ ms) =
+    let before = calledWords job words ms in handedBack (moveAnswer job before m) (after job (trialIn before) m) before

@@ -1,16 +1,16 @@
--- What every list of moves from a fresh trial gives, as statements: with one job throughout, which no row on jobs fits.
-use mathlib.Core.List.{List, _∷_, _++_}
+-- What every list of moves from a fresh trial gives, as statements: with one job throughout. Lists have the latest move first.
+use mathlib.Core.List.{List, _++_}
 use mathlib.Core.Logic.{_↔_}
 use mathlib.Core.Path.{_≡_}
 use Prim.Native.Nat.{ℕ, _^_, _≤_, _<_}
 use lib.ListN.{length}
-use Rattle.words.specs.Lists.{Each}
+use Rattle.words.specs.Lists.{Each, sorted}
 use Rattle.answers.specs.declared.Answer.the-variants.{Accepted}
 use Rattle.job.specs.Refusal.{jobRefusal}
 use Rattle.facts.specs.Facts.{factsAfter, factsOf}
 use Rattle.theory.specs.Answers.{fillAnswer}
-use Rattle.moves.specs.Trials.{Trial, Move, trialRefusal, moveRefusal, after, played, accepted, sorted}
-use Rattle.moves.specs.Calls.{shownFacts}
+use Rattle.moves.specs.Trials.{Trial, Move, trialRefusal, moveRefusal, after, played, accepted}
+use Rattle.moves.specs.Calls.{trialIn, shownFacts, showAnswer, calledWords}
 
 -- each trial so reached passes the tests
 abbrev pub PlayedPasses : Type 0
@@ -55,3 +55,14 @@ abbrev pub GivenExactly : Type 0
 GivenExactly =
     (job : List ℕ) → jobRefusal job .number ≡ 0 → (T : Trial) → Each (λ s. s < 2 ^ 32) (T .starts)
     → trialRefusal job T .number ≡ 0 ↔ GivenBy job T
+
+-- the calls do the same: after trial_begin and a list of moves, the lent words say the trial that these moves give, and trial_show accepts it
+abbrev pub CalledSay : Type 0
+CalledSay =
+    (job : List ℕ) → jobRefusal job .number ≡ 0 → (words : List ℕ) → 4098 ≤ length words → (ms : List Move)
+    → trialIn (calledWords job words ms) ≡ played job ms
+
+abbrev pub ShowAccepts : Type 0
+ShowAccepts =
+    (job : List ℕ) → jobRefusal job .number ≡ 0 → (words : List ℕ) → 4098 ≤ length words → (ms : List Move) (room : ℕ) → 4096 ≤ room
+    → showAnswer room job (calledWords job words ms) ≡ Accepted (length (shownFacts job (played job ms))) 0

@@ -32,7 +32,7 @@ abbrev pub outside : List ℕ → Trial → Bool
 outside job T =
     ltb 4096 (length (T .starts)) || ltb (lastMoment job) (T .moment) || any (λ s. ltb (T .moment) (startMoment s)) (T .starts)
 
--- a trial that no moves could give: 14, or the number that check gives its starts
+-- a trial that no moves could give: 14, or the number that check gives its starts, at position 0
 unfoldable pub trialRefusal : List ℕ → Trial → Refusal
 trialRefusal job T = firstRow (row (outside job T) 14 0 ∷ refusalAt 0 (startsRefusal job (T .starts) .number) ∷ [])
 
@@ -40,8 +40,9 @@ trialRefusal job T = firstRow (row (outside job T) 14 0 ∷ refusalAt 0 (startsR
 abbrev pub busy : List ℕ → ℕ → ℕ → ℕ → Bool
 busy job u a s = eqb (startAction s) a && inHand job u s
 
--- starting action a now: 6, no such action; 7, it would end after n; 8, it is in hand; 9, it clashes with a start of the trial, whatever its
--- action number; 10, its needs are not known now
+-- starting action a now: 6, no such action; 7, it would end after n; 8, it is in hand, also where it was started at this moment; 9, it clashes
+-- with a start of the trial, both in hand at some moment, also with one of this moment that has a higher action number; 10, its needs are not
+-- known now
 unfoldable pub startRefusal : List ℕ → Trial → ℕ → Refusal
 startRefusal job T a =
     firstRow (
@@ -86,8 +87,3 @@ unfoldable pub accepted : List ℕ → List Move → List ℕ
 accepted job [] = []
 accepted job (m ∷ ms) =
     cond (eqb (moveRefusal job (played job ms) m .number) 0) (started (played job ms) m (accepted job ms)) (accepted job ms)
-
--- those words, ascending
-unfoldable pub sorted : List ℕ → List ℕ
-sorted [] = []
-sorted (w ∷ ws) = insert w (sorted ws)

@@ -3,7 +3,7 @@ ghost use mathlib.Core.Path.{_≡_};
 ghost use lib.ListN.{length};
 ghost use Rattle.answers.specs.Packed.{packed, Unpacked};
 ghost use Rattle.theory.specs.Answers.{written};
-ghost use Rattle.moves.specs.Trials.{Start, On, fresh, moved};
+ghost use Rattle.moves.specs.Trials.{Start, On, fresh, after};
 ghost use Rattle.moves.specs.Calls.{trialIn, beginAnswer, moveAnswer, shownFacts, showAnswer, handedBack};
 use answers::pack;
 use trial::calls::begin_words;
@@ -24,7 +24,7 @@ pub extern "C" fn trial_begin(job: &[u32], trial: &mut [u32]) -> u64
 pub extern "C" fn trial_start(job: &[u32], trial: &mut [u32], action: u32) -> u64
     ensures answer { λ r. ⌜ r ≡ packed (moveAnswer (now (job .entry)) (now (trial .entry)) (Start action)) ⌝ }
     ensures fields { λ r. ⌜ Unpacked r (moveAnswer (now (job .entry)) (now (trial .entry)) (Start action)) ⌝ }
-    ensures words { λ _. ⌜ now (trial .exit) ≡ handedBack (moveAnswer (now (job .entry)) (now (trial .entry)) (Start action)) (moved (trialIn (now (trial .entry))) (Start action)) (now (trial .entry)) ⌝ }
+    ensures words { λ _. ⌜ now (trial .exit) ≡ handedBack (moveAnswer (now (job .entry)) (now (trial .entry)) (Start action)) (after (now (job .entry)) (trialIn (now (trial .entry))) (Start action)) (now (trial .entry)) ⌝ }
 {
     pack(start_words(job, trial, action))
 }
@@ -33,7 +33,7 @@ pub extern "C" fn trial_start(job: &[u32], trial: &mut [u32], action: u32) -> u6
 pub extern "C" fn trial_on(job: &[u32], trial: &mut [u32]) -> u64
     ensures answer { λ r. ⌜ r ≡ packed (moveAnswer (now (job .entry)) (now (trial .entry)) On) ⌝ }
     ensures fields { λ r. ⌜ Unpacked r (moveAnswer (now (job .entry)) (now (trial .entry)) On) ⌝ }
-    ensures words { λ _. ⌜ now (trial .exit) ≡ handedBack (moveAnswer (now (job .entry)) (now (trial .entry)) On) (moved (trialIn (now (trial .entry))) On) (now (trial .entry)) ⌝ }
+    ensures words { λ _. ⌜ now (trial .exit) ≡ handedBack (moveAnswer (now (job .entry)) (now (trial .entry)) On) (after (now (job .entry)) (trialIn (now (trial .entry))) On) (now (trial .entry)) ⌝ }
 {
     pack(on_words(job, trial))
 }

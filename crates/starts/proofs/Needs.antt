@@ -42,7 +42,7 @@ module _ {job places history starts : List ℕ} (given : Recorded job places his
           rw (entry .0, same)
           (given .formed .law (p + i) (omega (arith, entry .2, length-drop p job)) (eqb-true (kind (getD job (p + i) 0)) 4 (rw same at (entry .1))))
 
-  pub needs-read : (t : ℕ) → t ≤ lastMoment job → any (unmet (headWord job) (λ f. getD history (t * 64 + f) 0)) (lawsOf job a) ≡ unmetAt job starts t a
+  pub needs-read : (t : ℕ) → t ≤ given .last → any (unmet (headWord job) (λ f. getD history (t * 64 + f) 0)) (lawsOf job a) ≡ unmetAt job starts t a
   needs-read t m = any-agree _ _ (lawsOf job a) agree
     where
       agree : (i : ℕ) → i < length (lawsOf job a)
@@ -56,7 +56,7 @@ pub unmet-read : {job places history starts : List ℕ} → Recorded job places 
 unfolding needsUnmet
 unmet-read given {i} l ea el eu er =
     let right = right-word (given .words) i l in
-    sym (er ∙ rw (el, ea, eu) (needs-read given _ (right .action) _ (right .moment)))
+    sym (er ∙ rw (el, ea, eu) (needs-read given _ (right .action) _ (given .past i l)))
 
 pub unmet-before : (job : List ℕ) (w : ℕ) → 0 < duration job (startAction w) → (starts : List ℕ) (t a : ℕ) → t ≤ startMoment w
     → unmetAt job (insert w starts) t a ≡ unmetAt job starts t a

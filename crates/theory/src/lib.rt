@@ -2,10 +2,8 @@
 ghost use mathlib.Core.Path.{_≡_};
 ghost use lib.ListN.{length};
 ghost use Rattle.facts.specs.Facts.{factsOf};
-ghost use Rattle.job.specs.Refusal.{jobRefusal};
-ghost use Rattle.job.specs.Code.Index.{checkedOf};
 ghost use Rattle.theory.specs.Answers.{bufferRefusal, planRefusal, factsRefusal, checkRefusal, checkAnswer, fillAnswer, written};
-ghost use Rattle.theory.specs.Code.Judged.{Judged};
+ghost use Rattle.theory.specs.Code.Judged.{Judgeable, JudgedUpto, Judged};
 use answers::Answer;
 use answers::Refusal;
 use answers::answer_of;
@@ -19,6 +17,7 @@ use job::Index;
 use job::check_job;
 use starts::check_needs;
 use starts::check_times;
+use words::last_of;
 
 pub mod arrays;
 pub mod moments;
@@ -48,10 +47,10 @@ pub fn refused(refusal: Refusal, index: Index) -> Plan
     }
 }
 
-// Rows 6 to 10 of a job that passes rows 1 to 5.
-pub fn judge_starts(job: &[u32], index: Index, starts: &[u32]) -> Plan
-    requires { ⌜ (jobRefusal (now job) .number ≡ 0) × (index ≡ checkedOf (now job) .index) ⌝ }
-    ensures { λ r. ⌜ Judged (planRefusal (now (job .entry)) (now (starts .entry))) (now (job .entry)) (now (starts .entry)) r ⌝ }
+// Rows 6 to 10 of a job that passes rows 1 to 5, and the history up to moment `last`.
+pub fn judge_starts(job: &[u32], index: Index, starts: &[u32], last: usize) -> Plan
+    requires { ⌜ Judgeable (now job) (now starts) index last ⌝ }
+    ensures { λ r. ⌜ JudgedUpto (planRefusal (now (job .entry)) (now (starts .entry))) (now (job .entry)) (now (starts .entry)) last r ⌝ }
 {
     let actions = index.actions;
     let places = actions.position;
@@ -61,7 +60,7 @@ pub fn judge_starts(job: &[u32], index: Index, starts: &[u32]) -> Plan
     if times.number != 0 {
         return refused(times, index);
     }
-    let history = history::history(job, &durations, &effects, starts);
+    let history = history::history(job, &durations, &effects, starts, last);
     let refusal = check_needs(job, &places, &history, starts);
     Plan {
         refusal,
@@ -81,7 +80,7 @@ pub fn judge(job: &[u32], starts: &[u32]) -> Plan
     if refusal.number != 0 {
         return refused(refusal, index);
     }
-    judge_starts(job, index, starts)
+    judge_starts(job, index, starts, last_of(job[0]))
 }
 
 // Row 11: the first difference of two lists.

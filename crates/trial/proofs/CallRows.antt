@@ -1,26 +1,25 @@
 -- The rows of the four calls, and what they leave in the lent words. Assumes nothing.
 use mathlib.Core.Bool.{Bool, true, false, cond}
 use mathlib.Core.List.{List, [], _∷_}
-use mathlib.Core.Path.{_≡_, refl, ap, sym, _∙_}
+use mathlib.Core.Path.{_≡_, refl, ap, _∙_}
 use Prim.Native.Nat.{ℕ, _≤_, _<_}
 use native.Mathlib.Omega.{arith}
-use borrow.Author.Tests.{lt-ltb, le-ltb, eq-eqb, ne-eqb, eqb-true}
+use borrow.Author.Tests.{lt-ltb, le-ltb, ne-eqb}
 use lib.Dec.{eqb, ltb}
 use lib.ListN.{length}
 use Rattle.answers.specs.declared.Refusal.{Refusal}
 use Rattle.answers.specs.declared.Answer.{Answer}
-use Rattle.answers.specs.declared.Answer.the-variants.{Accepted, Refused}
 use Rattle.answers.specs.Rows.{refusal, passed, row, firstRow, firstRefusal}
 use Rattle.answers.specs.Packed.{answerOf}
 use Rattle.answers.proofs.Rows.{or-none, answer-refused}
 use Rattle.job.specs.Refusal.{jobRefusal}
 use Rattle.theory.specs.Answers.{written}
 use Rattle.moves.specs.Trials as trials
-use Rattle.moves.specs.Trials.{Move, fresh, moveRefusal, moved, after}
+use Rattle.moves.specs.Trials.{Move, fresh, moveRefusal, after}
 use Rattle.moves.specs.Calls.{trialIn, beginAnswer, moveAnswer, shownFacts, showAnswer, handedBack}
 use Rattle.trial.specs.declared.Trial.{Trial}
 use Rattle.trial.specs.declared.Moved.{Moved}
-use Rattle.trial.specs.Stepped.{trialOf, Stepped, shownAnswer}
+use Rattle.trial.specs.Stepped.{trialOf, Stepped, showAnswerOf}
 
 -- a last row that does not fit leaves the answer
 answer-last : (r : Refusal) (l c : ℕ) → answerOf r l c ≡ answerOf (firstRefusal r passed) l c
@@ -34,15 +33,11 @@ answer-last r l c = cases (eqb (r .number) 0) refl
 never-short : (job : List ℕ) → firstRow (jobRefusal job ∷ refusal 14 0 ∷ []) .number ≡ 0 → ⊥
 never-short job z = let p = or-none (jobRefusal job) (refusal 14 0) z in let q : _≡_ {A = ℕ} 14 0 = p .1 in omega arith
 
--- an accepted move hands back the trial after it, and a refused one writes nothing
-handed-after : (job words : List ℕ) (T : trials.Trial) (m : Move) (R : Refusal) {r : Answer} → r ≡ answerOf R 0 0 → R .number ≡ moveRefusal job T m .number
-    → handedBack r (after job T m) words ≡ handedBack r (moved T m) words
-unfolding after
-handed-after job words T m R is number = rw (is, number) (cases (eqb (moveRefusal job T m .number) 0))
+-- the job's row a second time says nothing new
+same-first : (a b : Refusal) → firstRefusal a b ≡ firstRefusal a (firstRefusal a b)
+same-first a b = cases (eqb (a .number) 0)
   where
-    cases : (b : Bool)
-        → handedBack (cond b (Accepted 0 0) (Refused (moveRefusal job T m .number) (R .position) 0)) (cond b (moved T m) T) words
-        ≡ handedBack (cond b (Accepted 0 0) (Refused (moveRefusal job T m .number) (R .position) 0)) (moved T m) words
+    cases : (t : Bool) → cond t b a ≡ cond t (cond t b a) a
     cases true = refl
     cases false = refl
 
@@ -56,9 +51,9 @@ module _ (job words : List ℕ) {r : Answer} where
     unfolding beginAnswer
     short-begin = (is ∙ rw (lt-ltb (length words) 4098 short), short-left fresh)
 
-    pub short-move : (m : Move) → (r ≡ moveAnswer job words m) × (words ≡ handedBack r (moved (trialIn words) m) words)
+    pub short-move : (m : Move) → (r ≡ moveAnswer job words m) × (words ≡ handedBack r (after job (trialIn words) m) words)
     unfolding moveAnswer
-    short-move m = (is ∙ rw (lt-ltb (length words) 4098 short), short-left (moved (trialIn words) m))
+    short-move m = (is ∙ rw (lt-ltb (length words) 4098 short), short-left (after job (trialIn words) m))
 
   -- enough words: what the method handed back
   module _ (room : 4098 ≤ length words) (M : Moved) (is : r ≡ answerOf (M .refusal) 0 0) {left : List ℕ} (put : left ≡ handedBack r (trialOf (M .trial)) words) where
@@ -70,12 +65,12 @@ module _ (job words : List ℕ) {r : Answer} where
     )
 
     pub stepped : {t : Trial} {m : Move} → Stepped job t m M → trialOf t ≡ trialIn words
-        → (r ≡ moveAnswer job words m) × (left ≡ handedBack r (moved (trialIn words) m) words)
+        → (r ≡ moveAnswer job words m) × (left ≡ handedBack r (after job (trialIn words) m) words)
     unfolding moveAnswer moveRefusal
     stepped {t} {m} h said = (
-      is ∙ ap (λ (x : Refusal). answerOf x 0 0) (h .refusal) ∙ ap (λ (T : trials.Trial). answerOf (moveRefusal job T m) 0 0) said ∙ rw (le-ltb (length words) 4098 room),
-      put ∙ ap (λ (T : trials.Trial). handedBack r T words) (h .trial) ∙ ap (λ (T : trials.Trial). handedBack r (after job T m) words) said
-          ∙ handed-after job words (trialIn words) m (M .refusal) is (ap (λ (x : Refusal). x .number) (h .refusal) ∙ ap (λ (T : trials.Trial). moveRefusal job T m .number) said),
+      is ∙ ap (λ (x : Refusal). answerOf x 0 0) (h .refusal) ∙ ap (λ (T : trials.Trial). answerOf (moveRefusal job T m) 0 0) said
+          ∙ ap (λ (x : Refusal). answerOf x 0 0) (same-first (jobRefusal job) _) ∙ rw (le-ltb (length words) 4098 room),
+      put ∙ ap (λ (T : trials.Trial). handedBack r T words) (h .trial) ∙ ap (λ (T : trials.Trial). handedBack r (after job T m) words) said,
     )
 
 -- showing
@@ -91,10 +86,10 @@ module _ (job words buffer : List ℕ) {r : Answer} where
         rw (is, ne-eqb _ 0 never),
       )
 
-  pub shown : 4098 ≤ length words → (t : Trial) → trialOf t ≡ trialIn words → r ≡ shownAnswer (length buffer) job (trialOf t) → {left : List ℕ}
+  pub shown : 4098 ≤ length words → (t : Trial) → trialOf t ≡ trialIn words → r ≡ showAnswerOf (length buffer) job (trialOf t) → {left : List ℕ}
       → left ≡ written r (shownFacts job (trialOf t)) buffer → (r ≡ showAnswer (length buffer) job words) × (left ≡ written r (shownFacts job (trialIn words)) buffer)
-  unfolding showAnswer shownAnswer
+  unfolding showAnswer showAnswerOf
   shown room t said is put = (
-    is ∙ ap (λ (T : trials.Trial). shownAnswer (length buffer) job T) said ∙ rw (le-ltb (length words) 4098 room),
+    is ∙ ap (λ (T : trials.Trial). showAnswerOf (length buffer) job T) said ∙ rw (le-ltb (length words) 4098 room),
     put ∙ ap (λ (T : trials.Trial). written r (shownFacts job T) buffer) said,
   )

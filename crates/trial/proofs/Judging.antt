@@ -1,27 +1,25 @@
 -- The rows of the job and of the trial, one after the other, by the struct. Assumes nothing.
-use mathlib.Core.Bool.{Bool, true, false, _||_}
+use mathlib.Core.Bool.{true, false}
 use mathlib.Core.List.{List, [], _∷_}
-use mathlib.Core.Path.{_≡_, refl, ap, sym, _∙_}
+use mathlib.Core.Path.{_≡_}
 use Prim.Native.Nat.{ℕ, _≤_, _<_}
 use native.Mathlib.Omega.{arith}
-use borrow.Author.Tests.{le-ltb, lt-ltb, ltb-false, eq-eqb, eqb-true}
+use borrow.Author.Tests.{le-ltb, lt-ltb, eq-eqb}
 use lib.Dec.{ltb}
 use lib.ListN.{length, take}
 use Rattle.words.specs.Fields.{startMoment}
 use Rattle.words.specs.Scan.{any}
-use Rattle.words.specs.Lists.{Each}
-use Rattle.words.proofs.Choices.{true-false}
-use Rattle.words.proofs.Lists.{each-map, none-any, firstWords-length, firstWords-take}
+use Rattle.words.proofs.Lists.{each-at, firstWords-length, firstWords-take}
 use Rattle.answers.specs.declared.Refusal.{Refusal}
 use Rattle.answers.specs.Rows.{refusal, refusalAt, firstRow}
-use Rattle.answers.proofs.Rows.{or-refused, or-passed, or-none, at-number}
+use Rattle.job.specs.declared.Index.{Index}
+use Rattle.job.specs.Code.Index.{checkedOf}
 use Rattle.job.specs.Parts.{lastMoment}
 use Rattle.job.specs.Refusal.{jobRefusal}
 use Rattle.job.proofs.WellFormed.{well-formed}
-use Rattle.starts.specs.Rows.{startsRefusal}
 use Rattle.theory.specs.Answers.{planRefusal}
 use Rattle.theory.specs.declared.Plan.{Plan}
-use Rattle.theory.specs.Code.Judged.{Passed}
+use Rattle.theory.specs.Code.Judged.{PassedUpto, Judgeable}
 use Rattle.moves.specs.Trials.{outside, trialRefusal}
 use Rattle.moves.proofs.Passing.{InBounds, in-bounds}
 use Rattle.trial.specs.declared.Trial.{Trial}
@@ -81,8 +79,16 @@ module _ (job : List ℕ) (t : Trial) where
             eq-eqb (jobRefusal job .number) 0 good,
           )
 
-      pub judged-present : {plan : Plan} → Passed job (take (t .length) (t .starts)) plan → Present job (take (t .length) (t .starts)) (t .moment) plan
+      pub judged-present : {plan : Plan} → PassedUpto job (take (t .length) (t .starts)) (t .moment) plan → Present job (take (t .length) (t .starts)) (t .moment) plan
       judged-present p = record { passed = p; present = inside size within .present; past = inside size within .past }
+
+      pub judgeable : {index : Index} → index ≡ checkedOf job .index → Judgeable job (take (t .length) (t .starts)) index (t .moment)
+      judgeable e = record {
+        good = good;
+        index = e;
+        soon = omega (arith, inside size within .present, well-formed job good .few-moments);
+        past = λ i l m. each-at (inside size within .past) i l;
+      }
 
       pub judged-sized : Sized t
       judged-sized = record {

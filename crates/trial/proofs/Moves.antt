@@ -5,7 +5,7 @@ use Prim.Native.Nat.{ℕ, _+_, _<_, _≤_}
 use native.Mathlib.Numerals.{add-one}
 use native.Mathlib.Omega.{arith}
 use borrow.Author.Tests.{eq-eqb, ne-eqb, leb-false}
-use lib.Dec.{eqb, leb}
+use lib.Dec.{leb}
 use lib.ListN.{length, take}
 use lib.Seq.{sets, sets-eq, length-sets, length-take-le, take-at}
 use Rattle.words.specs.Fields.{startWord}
@@ -24,7 +24,6 @@ use Rattle.moves.specs.Calls.{shownFacts}
 use Rattle.moves.proofs.Accept.{startable}
 use Rattle.moves.proofs.Shown.{refused-keeps}
 use Rattle.trial.specs.declared.Trial.{Trial}
-use Rattle.trial.specs.declared.Moved.{Moved}
 use Rattle.trial.specs.Stepped.{trialOf, Stepped}
 use Rattle.trial.specs.Code.Given.{Sized, WithWord}
 use Rattle.trial.proofs.Judging.{starts-taken}

@@ -9,7 +9,7 @@ use lib.ListN.{length, getD}
 use Rattle.words.specs.Fields.{startWord}
 use Rattle.words.specs.Scan.{any}
 use Rattle.words.specs.Lists.{Each, insert}
-use Rattle.words.proofs.Lists.{each-map}
+use Rattle.words.proofs.Lists.{each-at, each-map}
 use Rattle.words.proofs.Insert.{each-insert, insert-length}
 use Rattle.answers.specs.declared.Refusal.{Refusal}
 use Rattle.answers.specs.Rows.{refusal}
@@ -64,8 +64,15 @@ module _ {job starts : List ℕ} {u : ℕ} {plan : Plan} (given : Present job st
       → {r : Bool} → r ≡ any (unmet (headWord job) (λ f. getD (plan .history) (u * 64 + f) 0)) laws → r ≡ unmetAt job starts u a
   present-unmet {a} k el er =
       let recorded : Recorded job (plan .index .actions .position) (plan .history) starts =
-      record { formed = present-formed; indexed = present-indexed; values = given .passed .history; words = present-words } in
-      er ∙ rw el (needs-read recorded a k u (given .present))
+      record {
+        formed = present-formed;
+        indexed = present-indexed;
+        words = present-words;
+        last = u;
+        past = each-at (given .past);
+        values = given .passed .history;
+      } in
+      er ∙ rw el (needs-read recorded a k u (omega arith))
 
   -- a start that is accepted is one more lawful start, of which there are 4,096 at most
   new-room : (a : ℕ) → Each (λ s. s < 2 ^ 32) starts → startRefusal job (record { moment = u; starts = starts }) a .number ≡ 0 → length starts < 4096

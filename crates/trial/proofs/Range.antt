@@ -18,8 +18,8 @@ use Rattle.starts.specs.Rows.{clashing, unmetAt, startsRefusal}
 use Rattle.starts.proofs.RefusalFits.{starts-number}
 use Rattle.facts.proofs.Lists.{facts-few}
 use Rattle.theory.specs.Answers.{bufferRefusal}
-use Rattle.moves.specs.Trials.{Trial, Move, Start, On, outside, busy, trialRefusal, startRefusal, onRefusal, ownRefusal}
-use Rattle.moves.specs.Calls.{trialIn, roomRefusal, beginAnswer, moveAnswer, shownFacts, showAnswer}
+use Rattle.moves.specs.Trials.{Trial, Move, Start, On, outside, busy, trialRefusal, startRefusal, onRefusal, ownRefusal, moveRefusal}
+use Rattle.moves.specs.Calls.{trialIn, roomRefusal, beginAnswer, moveAnswer, showAnswer}
 use Rattle.moves.proofs.Passing.{bounds}
 
 room-fits : (room : ℕ) → Fitting (roomRefusal room)
@@ -46,12 +46,13 @@ unfolding beginAnswer
 begin-range room job = answer-fits _ 0 0 (or-fits (jobRefusal job) (roomRefusal room) (job-fits job) (room-fits room)) (λ e. (omega arith, omega arith))
 
 pub move-range : (job words : List ℕ) (m : Move) → InRange (moveAnswer job words m)
-unfolding moveAnswer
+unfolding moveAnswer moveRefusal
 move-range job words m =
     answer-fits _ 0 0
     (or-fits (jobRefusal job) _ (job-fits job)
     (or-fits (roomRefusal (length words)) _ (room-fits (length words))
-    (or-fits (trialRefusal job (trialIn words)) (ownRefusal job (trialIn words) m) (trial-fits job (trialIn words)) (own-fits job (trialIn words) m))))
+    (or-fits (jobRefusal job) _ (job-fits job)
+    (or-fits (trialRefusal job (trialIn words)) (ownRefusal job (trialIn words) m) (trial-fits job (trialIn words)) (own-fits job (trialIn words) m)))))
     (λ e. (omega arith, omega arith))
 
 pub show-range : (room : ℕ) (job words : List ℕ) → InRange (showAnswer room job words)

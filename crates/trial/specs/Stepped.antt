@@ -15,7 +15,7 @@ use Rattle.moves.specs.Calls.{shownFacts}
 use Rattle.trial.specs.declared.Trial.{Trial}
 use Rattle.trial.specs.declared.Moved.{Moved}
 
--- the trial that the struct stands for: the words after the first `length` say nothing
+-- the trial that the struct stands for: its first `length` words, and zeros where the array has fewer; the words after them say nothing
 abbrev pub trialOf : Trial → trials.Trial
 trialOf t = record { moment = t .moment; starts = firstWords (t .length) (t .starts) }
 
@@ -26,5 +26,5 @@ pub record Stepped (job : List ℕ) (before : Trial) (m : Move) (r : Moved) : Ty
   pub same : (r .refusal .number ≡ 0 → ⊥) → r .trial ≡ before
 
 -- showing: as fill answers, with the facts shown
-unfoldable pub shownAnswer : ℕ → List ℕ → trials.Trial → Answer
-shownAnswer room job T = answerOf (firstRow (bufferRefusal room ∷ jobRefusal job ∷ trialRefusal job T ∷ [])) (length (shownFacts job T)) 0
+unfoldable pub showAnswerOf : ℕ → List ℕ → trials.Trial → Answer
+showAnswerOf room job T = answerOf (firstRow (bufferRefusal room ∷ jobRefusal job ∷ trialRefusal job T ∷ [])) (length (shownFacts job T)) 0

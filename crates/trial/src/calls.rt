@@ -8,7 +8,7 @@ ghost use Rattle.answers.specs.Rows.{refusal, firstRow};
 ghost use Rattle.answers.specs.Packed.{answerOf};
 ghost use Rattle.job.specs.Refusal.{jobRefusal};
 ghost use Rattle.theory.specs.Answers.{written};
-ghost use Rattle.moves.specs.Trials.{Start, On, fresh, moved};
+ghost use Rattle.moves.specs.Trials.{Start, On, fresh, after};
 ghost use Rattle.moves.specs.Calls.{trialWords, trialIn, beginAnswer, moveAnswer, shownFacts, showAnswer, handedBack};
 ghost use Rattle.trial.specs.Stepped.{trialOf};
 ghost use Rattle.trial.specs.Code.Given.{Sized, Storable};
@@ -84,7 +84,7 @@ pub fn begin_words(job: &[u32], words: &mut [u32]) -> Answer
 
 // Starts an action now.
 pub fn start_words(job: &[u32], words: &mut [u32], action: u32) -> Answer
-    ensures { λ r. ⌜ (r ≡ moveAnswer (now (job .entry)) (now (words .entry)) (Start action)) × (now (words .exit) ≡ handedBack r (moved (trialIn (now (words .entry))) (Start action)) (now (words .entry))) ⌝ }
+    ensures { λ r. ⌜ (r ≡ moveAnswer (now (job .entry)) (now (words .entry)) (Start action)) × (now (words .exit) ≡ handedBack r (after (now (job .entry)) (trialIn (now (words .entry))) (Start action)) (now (words .entry))) ⌝ }
 {
     if words.len() < 4098 {
         return answer_of(short_refusal(job), 0, 0);
@@ -94,7 +94,7 @@ pub fn start_words(job: &[u32], words: &mut [u32], action: u32) -> Answer
 
 // Goes on one moment.
 pub fn on_words(job: &[u32], words: &mut [u32]) -> Answer
-    ensures { λ r. ⌜ (r ≡ moveAnswer (now (job .entry)) (now (words .entry)) On) × (now (words .exit) ≡ handedBack r (moved (trialIn (now (words .entry))) On) (now (words .entry))) ⌝ }
+    ensures { λ r. ⌜ (r ≡ moveAnswer (now (job .entry)) (now (words .entry)) On) × (now (words .exit) ≡ handedBack r (after (now (job .entry)) (trialIn (now (words .entry))) On) (now (words .entry))) ⌝ }
 {
     if words.len() < 4098 {
         return answer_of(short_refusal(job), 0, 0);

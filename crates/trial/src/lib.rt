@@ -7,7 +7,7 @@ ghost use Rattle.job.specs.Refusal.{jobRefusal};
 ghost use Rattle.theory.specs.Answers.{written};
 ghost use Rattle.moves.specs.Trials.{Start, On, fresh};
 ghost use Rattle.moves.specs.Calls.{shownFacts};
-ghost use Rattle.trial.specs.Stepped.{trialOf, Stepped, shownAnswer};
+ghost use Rattle.trial.specs.Stepped.{trialOf, Stepped, showAnswerOf};
 ghost use Rattle.trial.specs.Code.Given.{Sized, Measured, TrialJudged, WithWord, Storable};
 use crate::rows::some_later;
 use crate::rows::start_refusal;
@@ -100,9 +100,10 @@ impl Trial {
         if self.is_outside(job) {
             return refused(refuse(14, 0), index);
         }
+        let moment = self.moment;
         let length = self.length;
         let starts = self.starts;
-        let plan = judge_starts(job, index, &starts[..length]);
+        let plan = judge_starts(job, index, &starts[..length], moment);
         let durations = plan.durations;
         let history = plan.history;
         let refusal = at_zero(plan.refusal);
@@ -195,7 +196,7 @@ impl Trial {
 
     // Writes the facts of moments 0 to the present one to the front of the buffer.
     pub fn show(self, job: &[u32], buffer: &mut [u32]) -> Answer
-        ensures { λ r. ⌜ r ≡ shownAnswer (length (now (buffer .entry))) (now (job .entry)) (trialOf self) ⌝ }
+        ensures { λ r. ⌜ r ≡ showAnswerOf (length (now (buffer .entry))) (now (job .entry)) (trialOf self) ⌝ }
         ensures { λ r. ⌜ now (buffer .exit) ≡ written r (shownFacts (now (job .entry)) (trialOf self)) (now (buffer .entry)) ⌝ }
     {
         if buffer.len() < 4096 {

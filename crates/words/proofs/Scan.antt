@@ -13,7 +13,7 @@ use lib.Seq.{drop-cons}
 use Rattle.words.specs.Scan.{any, every, findOr, takeWhile, dropWhile, count}
 use Rattle.words.specs.Tests.{indicator}
 use Rattle.words.proofs.Choices.{both-true}
-use borrow.Author.Tests.{eq-eqb, eqb-true}
+use borrow.Author.Tests.{eqb-true}
 use lib.Dec.{eqb}
 
 module _ (ws : List ℕ) (i : ℕ) where

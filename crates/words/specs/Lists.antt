@@ -20,6 +20,11 @@ unfoldable pub insert : ℕ → List ℕ → List ℕ
 insert w [] = w ∷ []
 insert w (s ∷ ss) = cond (ltb w s) (w ∷ s ∷ ss) (s ∷ insert w ss)
 
+-- the words of a list, ascending
+unfoldable pub sorted : List ℕ → List ℕ
+sorted [] = []
+sorted (w ∷ ws) = insert w (sorted ws)
+
 -- the first n words, and zeros where there are fewer
 abbrev pub firstWords : ℕ → List ℕ → List ℕ
 firstWords n ws = take n (ws ++ replicate n 0)

@@ -45,7 +45,10 @@ pub record Steppable (job durations effects starts : List ℕ) (t : ℕ) (bytes 
   pub soon : t < 64
   pub state : StateAt job starts t bytes
 
--- the history of a plan: entry t * 64 + f has the value of fluent f at moment t
-pub record History (job starts table : List ℕ) : Type 0 where
+-- the history of a plan up to moment k: entry t * 64 + f has the value of fluent f at moment t; the whole history
+pub record HistoryUpto (job starts : List ℕ) (k : ℕ) (table : List ℕ) : Type 0 where
   pub size : length table ≡ 4096
-  pub entry : (t f : ℕ) → t ≤ lastMoment job → f < fluents job → getD table (t * 64 + f) 0 ≡ valueAt job starts t f
+  pub entry : (t f : ℕ) → t ≤ k → f < fluents job → getD table (t * 64 + f) 0 ≡ valueAt job starts t f
+
+abbrev pub History : List ℕ → List ℕ → List ℕ → Type 0
+History job starts table = HistoryUpto job starts (lastMoment job) table

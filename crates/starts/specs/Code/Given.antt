@@ -2,11 +2,12 @@
 use mathlib.Core.Bool.{Bool, false}
 use mathlib.Core.List.{List}
 use mathlib.Core.Path.{_≡_}
-use Prim.Native.Nat.{ℕ, _<_}
-use lib.ListN.{length, take}
+use Prim.Native.Nat.{ℕ, _≤_, _<_}
+use lib.ListN.{length, getD, take}
+use Rattle.words.specs.Fields.{startMoment}
 use Rattle.job.specs.Parts.{actions}
 use Rattle.job.specs.Code.WellFormed.{WellFormed, Indexed}
-use Rattle.history.specs.Code.Tables.{Durations, Effects, History}
+use Rattle.history.specs.Code.Tables.{Durations, Effects, HistoryUpto}
 use Rattle.starts.specs.Rows.{wrongWord, startRows}
 use Rattle.starts.specs.Code.Latest.{Clashes}
 
@@ -42,9 +43,11 @@ pub record Compared (job table : List ℕ) (b : ℕ) : Type 0 where
   pub entries : Clashes job table
   pub action : b < actions job
 
--- row 10: once row 6 fits no start, the positions of the job's actions and the history of the plan
+-- row 10: once row 6 fits no start, the positions of the job's actions and the history of the plan, up to a moment that no start is after
 pub record Recorded (job places history starts : List ℕ) : Type 0 where
   pub formed : WellFormed job
   pub indexed : Indexed job 3 places
-  pub values : History job starts history
   pub words : StartsFormed job starts
+  pub last : ℕ
+  pub past : (i : ℕ) → i < length starts → startMoment (getD starts i 0) ≤ last
+  pub values : HistoryUpto job starts last history

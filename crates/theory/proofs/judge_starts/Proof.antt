@@ -5,7 +5,7 @@ use Rattle.job.specs.Refusal.{jobRefusal}
 use Rattle.job.proofs.WellFormed.{well-formed}
 use Rattle.starts.specs.Rows.{startsRefusal}
 use Rattle.starts.proofs.Rows.{starts-found, starts-next}
-use Rattle.starts.proofs.StartsFormed.{times-passed, named}
+use Rattle.starts.proofs.StartsFormed.{times-passed, named, right-word}
 use Rattle.theory.specs.Answers.{planRefusal}
 use Rattle.answers.proofs.Rows.{or-passed}
 use Rattle.theory.proofs.Passing.{actions-indexed}
@@ -33,23 +33,23 @@ told c = c .before .before .before
 -- rows 1 to 5 pass, so that the rows on starts are the answer
 starts-rows : (s : tie.Start) → startsRefusal (s .args .job .now) (s .args .starts .now) ≡ planRefusal (s .args .job .now) (s .args .starts .now)
 unfolding planRefusal
-starts-rows s = or-passed (jobRefusal (s .args .job .now)) (startsRefusal (s .args .job .now) (s .args .starts .now)) (s .pre .0)
+starts-rows s = or-passed (jobRefusal (s .args .job .now)) (startsRefusal (s .args .job .now) (s .args .starts .now)) (s .pre .good)
 
 durations-requires : tie.Need-durations-requires
 durations-requires c κs =
     let s = placed c in
-    (well-formed _ (s .pre .0), actions-indexed _ (s .pre .0) (s .pre .1))
+    (well-formed _ (s .pre .good), actions-indexed _ (s .pre .good) (s .pre .index))
 
 effects-requires : tie.Need-effects-requires
 effects-requires c κs =
     let s = placed (c .before .before) in
-    (well-formed _ (s .pre .0), actions-indexed _ (s .pre .0) (s .pre .1))
+    (well-formed _ (s .pre .good), actions-indexed _ (s .pre .good) (s .pre .index))
 
 check-times-requires : tie.Need-check-times-requires
 check-times-requires c κs =
     let e = c .before .before in
     record {
-      formed = well-formed _ (placed (tabled e .before) .pre .0);
+      formed = well-formed _ (placed (tabled e .before) .pre .good);
       lasts = tabled e .durations .ensures;
       makes = e .effects .ensures;
     }
@@ -64,23 +64,28 @@ returns c =
 history-requires : tie.Need-history-requires
 history-requires c κs =
     let passing = c .before .before in
-    let times = passing .before .before in
-    record {
-      well = well-formed _ (timed times .pre .0);
-      tables = record { durations = tabled (made times) .durations .ensures; effects = made times .effects .ensures };
-      named = named (times-passed (times .check-times .ensures) (passing .if1 .left));
-    }
+    let times = passing .before .before in (
+      record {
+        well = well-formed _ (timed times .pre .good);
+        tables = record { durations = tabled (made times) .durations .ensures; effects = made times .effects .ensures };
+        named = named (times-passed (times .check-times .ensures) (passing .if1 .left));
+      },
+      timed times .pre .soon,
+    )
 
 check-needs-requires : tie.Need-check-needs-requires
 check-needs-requires c κs =
     let passing = told (c .before .before) in
     let times = passing .before .before in
     let s = timed times in
+    let words = times-passed (times .check-times .ensures) (passing .if1 .left) in
     record {
-      formed = well-formed _ (s .pre .0);
-      indexed = actions-indexed _ (s .pre .0) (s .pre .1);
+      formed = well-formed _ (s .pre .good);
+      indexed = actions-indexed _ (s .pre .good) (s .pre .index);
+      words = words;
+      last = s .args .last;
+      past = λ i l. s .pre .past i l (right-word words i l .moment);
       values = c .before .before .history .ensures;
-      words = times-passed (times .check-times .ensures) (passing .if1 .left);
     }
 
 returns-2 : tie.Need-returns-2
@@ -91,7 +96,7 @@ returns-2 c =
       refusal = starts-next _ _ (times .check-times .ensures) (passing .if1 .left) (c .check-needs .ensures) ∙ starts-rows (timed times);
       passed = λ z. record {
         clear = z;
-        index = timed times .pre .1;
+        index = timed times .pre .index;
         durations = tabled (made times) .durations .ensures;
         history = c .before .before .before .history .ensures;
       };

@@ -19,7 +19,7 @@ use Rattle.trial.specs.declared.Trial.{Trial}
 use Rattle.trial.specs.declared.Moved.{Moved}
 use Rattle.trial.specs.Stepped.{trialOf}
 use Rattle.theory.specs.declared.Plan.{Plan}
-use Rattle.theory.specs.Code.Judged.{Passed}
+use Rattle.theory.specs.Code.Judged.{PassedUpto}
 
 -- a start of the job, not later than moment u, and an action that may start then
 pub record Facing (job durations effects : List ℕ) (s u a : ℕ) : Type 0 where
@@ -37,9 +37,9 @@ pub record FacingAll (job durations effects starts : List ℕ) (u a : ℕ) : Typ
   pub present : u ≤ lastMoment job
   pub new : a < actions job
 
--- a plan that rows 1 to 10 pass, up to its present moment u
+-- a plan that rows 1 to 10 pass, with its history up to its present moment u
 pub record Present (job starts : List ℕ) (u : ℕ) (plan : Plan) : Type 0 where
-  pub passed : Passed job starts plan
+  pub passed : PassedUpto job starts u plan
   pub present : u ≤ lastMoment job
   pub past : Each (λ s. startMoment s ≤ u) starts
 

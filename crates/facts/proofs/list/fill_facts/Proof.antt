@@ -9,7 +9,9 @@ after-last-of c = c .before .before .before .before
 
 returns : tie.Need-returns
 unfolding factsOf
-returns c starts h = rw (← after-last-of c .last-of .ensures .0) (c .before .before .fill-upto .ensures starts h)
+returns c starts h =
+    let last = after-last-of c .last-of .ensures .0 in
+    rw (← last) (c .before .before .fill-upto .ensures starts (rw (← last) at h))
 
 pub fill-facts-spec : {M : Type 1} → statement M
 fill-facts-spec =

@@ -62,10 +62,7 @@ loop-again c =
 
 returns : tie.Need-returns Inv-loop μ-loop
 returns c starts h =
-    let start = entry (c .before .before) in
-    let p = start .pre in
-    let a = start .args in
-    rows-filled h (p .moment) (c .before .before .fluents-of .ensures .0) (omega arith) (c .before .loop .inv .written)
+    rows-filled h (c .before .before .fluents-of .ensures .0) (omega arith) (c .before .loop .inv .written)
 
 pub fill-upto-spec : {M : Type 1} → statement M
 fill-upto-spec =

@@ -24,36 +24,34 @@ Inv-loop job durations effects starts last table₀ state₀ t₀ table state t 
 abbrev μ-loop : tie.MeasureT-loop
 μ-loop job durations effects starts last table₀ state₀ t₀ table state t = last + 1 - t
 
-abbrev start : tie.After-last-of Inv-loop μ-loop → tie.Start Inv-loop μ-loop
-start c = c .before .before .before .before
+abbrev start : tie.After-initial-state Inv-loop μ-loop → tie.Start Inv-loop μ-loop
+start c = c .before .before .before
 
 abbrev turn : tie.After-state2 Inv-loop μ-loop → tie.At-loop Inv-loop μ-loop
 turn c = c .before .before .before .before .before
 
 loop-holds : tie.Need-loop-holds Inv-loop μ-loop
-loop-holds c =
-    let p = start (c .before) .pre in
-    record {
-      bound = omega arith;
-      few = rw (c .before .last-of .ensures .0) (p .well .few-moments);
-      reached = state-start (c .initial-state .ensures);
-      stored = rows-none;
-    }
+loop-holds c = record {
+  bound = omega arith;
+  few = omega (arith, start c .pre .1);
+  reached = state-start (c .initial-state .ensures);
+  stored = rows-none;
+}
 
 loop-again : tie.Need-loop-again Inv-loop μ-loop
 loop-again c =
     let here = turn (c .before) in
-    let few = start (here .before .before) .pre .well .few-fluents in
+    let few = start (here .before) .pre .0 .well .few-fluents in
     let old = here .loop .inv in
     record { bound = omega arith; few = old .few; reached = c .step .ensures; stored = rows-more few (old .stored) (c .before .before .store-row .ensures) (old .reached .value) }
 
 returns : tie.Need-returns Inv-loop μ-loop
 returns c =
     let rows = c .before .loop .inv .stored in
-    record { size = rows .size; entry = λ t f l m. rows .entry t f (omega (arith, c .before .before .before .last-of .ensures .0)) m }
+    record { size = rows .size; entry = λ t f l m. rows .entry t f (omega arith) m }
 
 pub history-spec : {M : Type 1} → statement M
 history-spec =
     tie.close
-    (tie.spec Inv-loop μ-loop (λ c. search needs) (λ c κs. search needs) (λ c κs. search needs) loop-holds (λ c κs. search needs)
-    (λ c κs. search needs) (λ c. search needs) (λ c. search needs) loop-again returns)
+    (tie.spec Inv-loop μ-loop (λ c κs. search needs) loop-holds (λ c κs. search needs) (λ c κs. search needs) (λ c. search needs)
+    (λ c. search needs) loop-again returns)

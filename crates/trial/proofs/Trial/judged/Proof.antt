@@ -1,7 +1,6 @@
 -- `trial::Trial::judged` meets its contract: the job is refused, the trial is outside its bounds, or the rows on its starts decide. Assumes
 -- nothing.
 use mathlib.Core.Bool.{false}
-use mathlib.Core.List.{[], _∷_}
 use mathlib.Core.Path.{_≡_, sym, ap, _∙_}
 use Prim.Native.Nat.{_≤_}
 use native.Mathlib.Omega.{arith}
@@ -17,7 +16,7 @@ use Rattle.theory.specs.Answers.{planRefusal}
 use Rattle.theory.proofs.Passing.{checked-refusal}
 use Rattle.moves.specs.Trials.{outside, trialRefusal}
 use Rattle.trial.specs.Stepped.{trialOf}
-use Rattle.trial.proofs.Judging.{inside-few, row-14, start-rows, judged-present, judged-sized}
+use Rattle.trial.proofs.Judging.{inside-few, row-14, start-rows, judgeable, judged-present, judged-sized}
 use Rattle.trial.proofs.Trial.judged.Statement.{statement}
 use Rattle.trial.proofs.Trial.judged.Tie as tie
 
@@ -72,8 +71,11 @@ few c =
 
 judge-starts-requires : tie.Need-judge-starts-requires
 judge-starts-requires c κs =
-    let p = passed (c .before .before .before) in
-    (good p, ap (λ (r : Checked). r .index) (checked p .check-job .ensures))
+    let b = c .before .before in
+    let p = passed (b .before) in
+    let s = entry (checked p) in
+    judgeable (s .args .job .now) (s .args .self) (good p) (b .before .is-outside .ensures .size) (in-bounds b)
+    (ap (λ (r : Checked). r .index) (checked p .check-job .ensures))
 
 returns-3 : tie.Need-returns-3
 returns-3 c =

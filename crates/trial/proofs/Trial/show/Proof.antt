@@ -1,6 +1,6 @@
 -- `trial::Trial::show` meets its contract: a row refuses and leaves the buffer, or the facts up to the present moment are written. Assumes
 -- nothing.
-use mathlib.Core.Path.{_≡_, sym, ap, _∙_}
+use mathlib.Core.Path.{ap, _∙_}
 use Prim.Native.Nat.{ℕ, _≤_}
 use native.Mathlib.Omega.{arith}
 use borrow.Author.Needs.{needs}
@@ -14,7 +14,7 @@ use Rattle.facts.specs.Code.Written.{Filled}
 use Rattle.facts.proofs.Lists.{facts-few}
 use Rattle.theory.proofs.Laws.{filled-front}
 use Rattle.moves.specs.Calls.{shownFacts}
-use Rattle.trial.specs.Stepped.{trialOf, shownAnswer}
+use Rattle.trial.specs.Stepped.{trialOf, showAnswerOf}
 use Rattle.trial.proofs.NewStart.{present-formed}
 use Rattle.trial.proofs.Moves.{facts-shown}
 use Rattle.trial.proofs.Trial.show.Statement.{statement}
@@ -47,13 +47,13 @@ fill-upto-requires c κs =
     record { well = present-formed plan; moment = plan .present; room = j .before .if1 .left }
 
 returns : tie.Need-returns
-unfolding shownAnswer
+unfolding showAnswerOf
 returns c =
     let made = c .answer-of .ensures ∙ ap (λ (r : Refusal). answerOf r 0 0) (c .before .refuse .ensures) in
     (made ∙ rw (lt-ltb _ _ (c .before .before .if1 .taken)), rw made)
 
 returns-2 : tie.Need-returns-2
-unfolding shownAnswer
+unfolding showAnswerOf
 returns-2 c =
     let j = c .before .before .before .before in
     let a = entry j .args in
@@ -62,7 +62,7 @@ returns-2 c =
     (made ∙ rw (le-ltb _ _ (j .before .if1 .left), ← j .judged .ensures .refusal), rw (c .answer-of2 .ensures, ne-eqb _ 0 never))
 
 returns-3 : tie.Need-returns-3
-unfolding shownAnswer
+unfolding showAnswerOf
 returns-3 c =
     let f = c .before .before .before in
     let e = ahead f in

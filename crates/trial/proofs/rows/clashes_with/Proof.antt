@@ -1,6 +1,5 @@
 -- `trial::rows::clashes_with` meets its contract: the start has finished, or the actions decide. Assumes nothing.
 use mathlib.Core.Path.{_≡_, sym, _∙_}
-use native.Mathlib.Omega.{arith}
 use borrow.Author.Needs.{needs}
 use Rattle.history.specs.Actions.{finish}
 use Rattle.history.proofs.Moments.{finish-tabled}

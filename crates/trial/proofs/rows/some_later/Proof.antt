@@ -1,6 +1,5 @@
 -- `trial::rows::some_later` meets its contract. The invariant: no word before `i` is later. Assumes nothing.
-use mathlib.Core.Path.{sym}
-use Prim.Native.Nat.{_-_, _<_}
+use Prim.Native.Nat.{_-_}
 use native.Mathlib.Omega.{arith}
 use borrow.Author.Needs.{needs}
 use borrow.Author.Tests.{lt-ltb, le-ltb}

@@ -1,5 +1,5 @@
 -- `trial::rows::state_refusal` meets its contract: row 9 fits, or row 10 decides. Assumes nothing.
-use mathlib.Core.Path.{_≡_, sym, ap, _∙_}
+use mathlib.Core.Path.{sym, _∙_}
 use native.Mathlib.Omega.{arith}
 use borrow.Author.Needs.{needs}
 use Rattle.trial.proofs.NewStart.{present-formed, present-indexed, present-facing, present-unmet}
