@@ -146,6 +146,29 @@ fn largest(random: &mut Random, calls: &Calls, report: &mut Report) {
     }
 }
 
+/// One run of trials that moves give, of which one word is damaged: its moment, its number of starts, each start and the
+/// first word after them, with each bit turned, and with numbers at the limits in its place.
+pub fn each_word(seed: u64, rounds: usize, calls: &Calls) -> Report {
+    let mut random = Random::new(seed);
+    let mut report = Report::new();
+    for _ in 0..rounds {
+        let plan = plans::lawful(&mut random);
+        let job = plan.draft.words();
+        let lawful = trials::lawful(&mut random, &plan);
+        let words = Trial { length: 4_098, ..lawful }.slice(&mut random);
+        for place in 0..3 + words[1] as usize {
+            let turned = (0..32).map(|bit| words[place] ^ 1 << bit);
+            let at_limits = [plan.draft.last as u32 + 1, 4_096, 4_097, u32::MAX];
+            for word in turned.chain(at_limits) {
+                let mut damaged = words.clone();
+                damaged[place] = word;
+                each_call_on(&mut random, &plan, &job, &damaged, calls, &mut report);
+            }
+        }
+    }
+    report
+}
+
 /// A damaged job, words that no job writer meant, or a job of a length at the limits.
 fn bad_job(random: &mut Random, job: &[u32]) -> Vec<u32> {
     match random.below(20) {
@@ -180,7 +203,19 @@ fn beside_bad_job(random: &mut Random, plan: &LawfulPlan, lawful: &Trial) -> Tri
 
 /// All four calls on one trial.
 fn each_call(random: &mut Random, plan: &LawfulPlan, job: &[u32], trial: &Trial, calls: &Calls, report: &mut Report) {
-    let words = Lent::new(&trial.slice(random));
+    let words = trial.slice(random);
+    each_call_on(random, plan, job, &words, calls, report);
+}
+
+fn each_call_on(
+    random: &mut Random,
+    plan: &LawfulPlan,
+    job: &[u32],
+    trial: &[u32],
+    calls: &Calls,
+    report: &mut Report,
+) {
+    let words = Lent::new(trial);
     let none = Lent::new(&[]);
     let action = trials::action(random, plan.draft.actions.len());
     for call in [Call::Begin, Call::Start(action), Call::On] {
@@ -226,6 +261,15 @@ pub fn possible() -> Vec<(String, String)> {
     add("show to 100000 words", &[0]);
     trial_features::NEEDED.iter().for_each(|(situation, numbers)| add(situation, numbers));
     places
+}
+
+/// What trials with one word damaged must have met.
+pub fn possible_of_each_word() -> Vec<(String, String)> {
+    let situations = ["moment n + 1", "moment 2^32 - 1", "4,096 starts", "4,097 starts", "2^32 - 1 starts"];
+    let refused = situations.map(|situation| (situation.to_string(), "14".to_string()));
+    let calls = ["start", "on", "show"].iter();
+    let outcomes = calls.flat_map(|call| ["0", "6", "14"].map(|number| (call.to_string(), number.to_string())));
+    refused.into_iter().chain(outcomes).collect()
 }
 
 #[cfg(test)]
