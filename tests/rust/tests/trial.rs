@@ -17,6 +17,7 @@ const CALLS: Calls = Calls {
     start: &host::trial_start,
     on: &host::trial_on,
     show: &host::trial_show,
+    check: &host::check,
     fill: &host::fill,
 };
 
@@ -42,7 +43,7 @@ fn trials_with_each_word_damaged_get_the_checker_s_answers() {
 fn generated_lists_of_moves_keep_the_laws() {
     let report = trial_moves::run(MOVES_SEED, 1_500, &CALLS);
     report.print(MOVES_SEED, "moves by their answer, and what the lists came to", &trial_moves::COLUMNS);
-    assert!(report.cases >= 50_000);
+    assert!(report.cases >= 100_000);
     assert_eq!(report.differences, 0);
     assert_eq!(report.tally.missing(&trial_moves::possible()), [], "what no list had");
 }

@@ -1,8 +1,8 @@
 //! The four calls on trials: the checker's answers, and every word that it leaves, against others, case by case.
 
 use crate::checker::answer::Answer;
-use crate::checker::trial;
-use crate::compare::plan::Fill;
+use crate::checker::{calls as paper, trial};
+use crate::compare::plan::{Check, Fill};
 use crate::compare::report::{shown, Report};
 use crate::compare::trial_features;
 use crate::compare::trial_order;
@@ -17,12 +17,13 @@ pub type Start = dyn Fn(&[u32], &mut [u32], u32) -> Answer;
 pub type On = dyn Fn(&[u32], &mut [u32]) -> Answer;
 pub type Show = dyn Fn(&[u32], &[u32], &mut [u32]) -> Answer;
 
-/// The calls to be held against the checker, and the filler whose facts are shown.
+/// The calls to be held against the checker, and the check and the filler that are asked after each move.
 pub struct Calls<'a> {
     pub begin: &'a Begin,
     pub start: &'a Start,
     pub on: &'a On,
     pub show: &'a Show,
+    pub check: &'a Check,
     pub fill: &'a Fill,
 }
 
@@ -33,6 +34,7 @@ pub fn right_calls(fill: &Fill) -> Calls<'_> {
         start: &trial::trial_start,
         on: &trial::trial_on,
         show: &trial::trial_show,
+        check: &paper::check,
         fill,
     }
 }
@@ -427,6 +429,17 @@ mod tests {
             is_seen(with_start(&planted));
             is_seen_in_moves(with_start(&planted));
         }
+    }
+
+    #[test]
+    fn moves_that_check_does_not_bear_out_are_seen() {
+        let check = |_: &[u32], _: &[u32], _: &[u32]| Answer::success(0, 0);
+        is_seen_in_moves(Calls { check: &check, ..right_calls(&right_fill) });
+        let check = |job: &[u32], starts: &[u32], facts: &[u32]| match calls::check(job, starts, facts) {
+            right if right.number == 0 && starts.len() == 2 => Answer { number: 9, ..right },
+            right => right,
+        };
+        is_seen_in_moves(Calls { check: &check, ..right_calls(&right_fill) });
     }
 
     #[test]
