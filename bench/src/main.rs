@@ -1,6 +1,6 @@
-//! Times of check, fill and find, beside the independent checker and the yardstick, and instructions counted by callgrind. Exits with 1
-//! where a limit is broken or answers differ.
-use planreader_bench::{agreement, calls, finds, instructions, plain, time};
+//! Times of check, fill, trials and find, beside the independent checker and the yardstick, and instructions counted by callgrind. Exits
+//! with 1 where a limit is broken or answers differ.
+use planreader_bench::{agreement, calls, finds, instructions, plain, time, trials};
 
 fn main() {
     let arguments: Vec<String> = std::env::args().skip(1).collect();
@@ -14,6 +14,7 @@ fn main() {
     );
     let parts = [
         calls::within_limits(),
+        trials::within_limits(),
         plain::agrees(),
         finds::within_limits(),
         agreement::within_limits(),
