@@ -1,9 +1,16 @@
 //! The calls on a trial of 4,000 starts, beside check of those starts with their facts and beside the independent checker.
 use crate::calls::{plan, CALL};
+use crate::instructions::count_run;
 use crate::shapes::facts;
 use crate::time::{best, is_within};
 use planreader_tests::checker::{answer::Answer, trial as plain};
 use planreader_tests::host;
+use std::hint::black_box;
+
+/// The argument of a counted run that is about the trial, and those for its two calls.
+pub const COUNTED: &str = "trial";
+const COUNTED_START: &str = "start";
+const COUNTED_CHECK: &str = "check";
 
 /// What a start may take beside check. Both are timed in one run, so this does not grow on a slower machine.
 const START_TO_CHECK: f64 = 1.0;
@@ -75,4 +82,37 @@ fn call_within_limit(name: &str, [call, checker]: [Call; 2], job: &[u32], trial:
     let told = if within { "" } else { "  FAILED" };
     println!("{ms:>9.3} {CALL:>6} {plain_ms:>9.3}  {name}{told}");
     within
+}
+
+/// Prints the instructions of a start and of check, which other work on the machine does not change; whether both were counted.
+pub fn instructions_are_counted() -> bool {
+    println!("start in a trial, instructions; check of the same starts with their facts, instructions; ratio");
+    match [COUNTED_START, COUNTED_CHECK].map(|call| count_run(COUNTED, call)) {
+        [Ok(start), Ok(check)] => {
+            println!("{start:>12} {check:>12} {:>6.3}", start as f64 / check as f64);
+            true
+        }
+        [start, check] => {
+            [start, check].into_iter().filter_map(Result::err).for_each(|told| println!("{told}"));
+            false
+        }
+    }
+}
+
+/// The run that is counted.
+pub fn run(call: &str) {
+    let (job, starts, mut trial) = trial();
+    let facts = facts(&job, &starts);
+    match call {
+        COUNTED_START => counted_call(&mut || host::trial_start(&job, &mut trial, 0)),
+        COUNTED_CHECK => counted_call(&mut || host::check(&job, &starts, &facts)),
+        _ => panic!("no call {call} is counted"),
+    };
+}
+
+/// The only function whose instructions count, with what it calls. Callgrind knows it by this name.
+#[no_mangle]
+#[inline(never)]
+fn counted_call(call: &mut dyn FnMut() -> Answer) -> Answer {
+    black_box(call())
 }
