@@ -3,8 +3,8 @@ use crate::time::{best, is_within};
 use planreader_tests::words::{action, formula, head, initially, law, node, start};
 use planreader_tests::{checker::calls, host};
 
-/// What check and fill may take, and check on the job alone, in milliseconds.
-const CALL: f64 = 10.0;
+/// What check, fill and the calls on a trial may take, and check on the job alone, in milliseconds.
+pub const CALL: f64 = 10.0;
 const JOB: f64 = 3.0;
 
 const LAWS: usize = 29;
@@ -12,7 +12,7 @@ const LAWS: usize = 29;
 /// 64 fluents, all known from the start; 64 actions of duration d, each with 29 laws (12 needs, 17 makes, all true, so that nothing
 /// clashes); every action starts at every d-th moment. With d > 1 the needs would be hidden, so the laws all make. With 62 formulas the
 /// job has 2,048 words, the most there may be.
-fn plan(d: usize) -> (Vec<u32>, Vec<u32>) {
+pub fn plan(d: usize) -> (Vec<u32>, Vec<u32>) {
     let mut job = vec![head(64, 64, 63)];
     job.extend((0..64).map(|f| initially(f, true)));
     for a in 0..64 {

@@ -1,4 +1,4 @@
-//! Instructions of one call, counted by callgrind: this program runs itself under valgrind with a shape and a finder.
+//! Instructions of one call, counted by callgrind: this program runs itself under valgrind with a shape and a finder, or with a trial's call.
 use crate::shapes::{self, facts, Shape};
 use crate::yardstick;
 use planreader_tests::host;
@@ -8,8 +8,13 @@ use std::process::Command;
 /// The first argument of a run that is counted.
 pub const COUNTED: &str = "counted";
 
-const TOOL: [&str; 4] =
-    ["--tool=callgrind", "--callgrind-out-file=/dev/null", "--collect-atstart=no", "--toggle-collect=counted_find"];
+const TOOL: [&str; 5] = [
+    "--tool=callgrind",
+    "--callgrind-out-file=/dev/null",
+    "--collect-atstart=no",
+    "--toggle-collect=counted_find",
+    "--toggle-collect=counted_call",
+];
 
 /// Callgrind counts each byte of `rep stosb` as an instruction, so the C library is told to fill and copy by other ones.
 const TUNABLES: &str = "glibc.cpu.x86_rep_stosb_threshold=1000000000:glibc.cpu.x86_rep_movsb_threshold=1000000000";
@@ -31,9 +36,14 @@ impl Finder {
 
 /// How many instructions a finder takes on a shape.
 pub fn count(shape: &Shape, finder: Finder) -> Result<u64, String> {
+    count_run(&shape.name, finder.name())
+}
+
+/// How many instructions the counted part of a run with these arguments takes.
+pub fn count_run(subject: &str, call: &str) -> Result<u64, String> {
     let program = std::env::current_exe().map_err(|error| error.to_string())?;
     let mut valgrind = Command::new("valgrind");
-    valgrind.args(TOOL).arg(program).args([COUNTED, &shape.name, finder.name()]).env("GLIBC_TUNABLES", TUNABLES);
+    valgrind.args(TOOL).arg(program).args([COUNTED, subject, call]).env("GLIBC_TUNABLES", TUNABLES);
     let output = valgrind.output().map_err(|_| "valgrind missing: Debian package valgrind".to_string())?;
     let told = String::from_utf8_lossy(&output.stderr).into_owned();
     let collected = told.lines().find_map(|line| line.split_once("Collected :")).map(|(_, number)| number.trim());

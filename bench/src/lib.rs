@@ -8,4 +8,5 @@ pub mod plain;
 pub mod shapes;
 pub mod slow;
 pub mod time;
+pub mod trials;
 pub mod yardstick;

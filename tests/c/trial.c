@@ -1,6 +1,7 @@
 /* A host in C that steps plans by hand: trial_begin, trial_start, trial_on and trial_show on small jobs with answers worked out from the
  * scope, each refusal and the order of two that fit, and what each call leaves in the trial and in the buffer, with guard words on both
- * sides of every list. Prints each fault, and exits with 1 if there is one. */
+ * sides of every list; and the door of the examples, whose files it reads: run it in the repository's root. Prints each fault, and exits
+ * with 1 if there is one. */
 #include "planreader.h"
 #include <stdio.h>
 #include <string.h>
@@ -415,6 +416,42 @@ static void example3(void)
     shows("Example 3, show what was put together", states, known[2]);
 }
 
+/* The words of a file of the example, as they are in memory: both are little-endian. */
+static uint32_t words_of(const char *path, uint32_t *words)
+{
+    FILE *file = fopen(path, "rb");
+    if (!file) return 0;
+    size_t len = fread(words, sizeof *words, BUFFER, file);
+    fclose(file);
+    return (uint32_t)len;
+}
+
+/* The door of the examples, each action started by hand at its moment. The starts are those of starts.w32 then; the facts shown are at each
+ * moment those of plan.w32 up to it, and at the end all of them. */
+static void door(void)
+{
+    static uint32_t words[BUFFER], list[BUFFER], plan[BUFFER];
+    const uint32_t moves[][2] = {{0, 0}, {2, 1}, {5, 2}, {6, 3}, {7, 4}, {9, 5}, {10, 6}, {11, 7}};
+    uint32_t job_words = words_of("examples/door/job.w32", words), count = words_of("examples/door/starts.w32", list);
+    uint32_t plan_words = words_of("examples/door/plan.w32", plan), at = 0;
+    const uint32_t *facts = plan + count;
+    unsigned known = 0, all = plan_words - count;
+    if (job_words == 0 || count != 8 || plan_words <= count || memcmp(plan, list, count * sizeof *list)) {
+        fault("door, its files, below the folder in which this runs");
+        return;
+    }
+    take_job(words, job_words);
+    begins("door, begin", TRIAL, 0, 0);
+    for (uint32_t moment = 0; moment <= 12; moment++) {
+        for (; at < sizeof moves / sizeof *moves && moves[at][0] == moment; at++) starts("door, start", moves[at][1], 0);
+        while (known < all && planreader_fact_moment(facts[known]) <= moment) known++;
+        shows("door, show", facts, known);
+        goes_on("door, on", moment < 12 ? 0 : 14);
+    }
+    is("door, the starts of starts.w32", 12, list, count);
+    if (known != all) fault("door, all facts of plan.w32");
+}
+
 /* The largest plan, its last start by hand. */
 static void large(void)
 {
@@ -449,6 +486,7 @@ int main(void)
     order();
     needs();
     example3();
+    door();
     large();
     printf("c trial: %s\n", faults ? "FAILED" : "ok");
     return faults != 0;

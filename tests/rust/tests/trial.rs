@@ -10,12 +10,14 @@ use planreader_tests::vectors;
 const SEED: u64 = 0x5e3a_1071_0010;
 const MOVES_SEED: u64 = 0x5e3a_1071_0011;
 const TINY_SEED: u64 = 0x5e3a_1071_0012;
+const WORDS_SEED: u64 = 0x5e3a_1071_0013;
 
 const CALLS: Calls = Calls {
     begin: &host::trial_begin,
     start: &host::trial_start,
     on: &host::trial_on,
     show: &host::trial_show,
+    check: &host::check,
     fill: &host::fill,
 };
 
@@ -29,10 +31,19 @@ fn generated_trials_get_the_checker_s_answers() {
 }
 
 #[test]
+fn trials_with_each_word_damaged_get_the_checker_s_answers() {
+    let report = trial::each_word(WORDS_SEED, 20, &CALLS);
+    report.print(WORDS_SEED, "outcomes and situations", &trial::COLUMNS);
+    assert!(report.cases >= 20_000);
+    assert_eq!(report.differences, 0);
+    assert_eq!(report.tally.missing(&trial::possible_of_each_word()), [], "what no case had");
+}
+
+#[test]
 fn generated_lists_of_moves_keep_the_laws() {
     let report = trial_moves::run(MOVES_SEED, 1_500, &CALLS);
     report.print(MOVES_SEED, "moves by their answer, and what the lists came to", &trial_moves::COLUMNS);
-    assert!(report.cases >= 50_000);
+    assert!(report.cases >= 100_000);
     assert_eq!(report.differences, 0);
     assert_eq!(report.tally.missing(&trial_moves::possible()), [], "what no list had");
 }

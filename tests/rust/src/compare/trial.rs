@@ -1,8 +1,8 @@
 //! The four calls on trials: the checker's answers, and every word that it leaves, against others, case by case.
 
 use crate::checker::answer::Answer;
-use crate::checker::trial;
-use crate::compare::plan::Fill;
+use crate::checker::{calls as paper, trial};
+use crate::compare::plan::{Check, Fill};
 use crate::compare::report::{shown, Report};
 use crate::compare::trial_features;
 use crate::compare::trial_order;
@@ -17,12 +17,13 @@ pub type Start = dyn Fn(&[u32], &mut [u32], u32) -> Answer;
 pub type On = dyn Fn(&[u32], &mut [u32]) -> Answer;
 pub type Show = dyn Fn(&[u32], &[u32], &mut [u32]) -> Answer;
 
-/// The calls to be held against the checker, and the filler whose facts are shown.
+/// The calls to be held against the checker, and the check and the filler that are asked after each move.
 pub struct Calls<'a> {
     pub begin: &'a Begin,
     pub start: &'a Start,
     pub on: &'a On,
     pub show: &'a Show,
+    pub check: &'a Check,
     pub fill: &'a Fill,
 }
 
@@ -33,6 +34,7 @@ pub fn right_calls(fill: &Fill) -> Calls<'_> {
         start: &trial::trial_start,
         on: &trial::trial_on,
         show: &trial::trial_show,
+        check: &paper::check,
         fill,
     }
 }
@@ -146,6 +148,29 @@ fn largest(random: &mut Random, calls: &Calls, report: &mut Report) {
     }
 }
 
+/// One run of trials that moves give, of which one word is damaged: its moment, its number of starts, each start and the
+/// first word after them, with each bit turned, and with numbers at the limits in its place.
+pub fn each_word(seed: u64, rounds: usize, calls: &Calls) -> Report {
+    let mut random = Random::new(seed);
+    let mut report = Report::new();
+    for _ in 0..rounds {
+        let plan = plans::lawful(&mut random);
+        let job = plan.draft.words();
+        let lawful = trials::lawful(&mut random, &plan);
+        let words = Trial { length: 4_098, ..lawful }.slice(&mut random);
+        for place in 0..3 + words[1] as usize {
+            let turned = (0..32).map(|bit| words[place] ^ 1 << bit);
+            let at_limits = [plan.draft.last as u32 + 1, 4_096, 4_097, u32::MAX];
+            for word in turned.chain(at_limits) {
+                let mut damaged = words.clone();
+                damaged[place] = word;
+                each_call_on(&mut random, &plan, &job, &damaged, calls, &mut report);
+            }
+        }
+    }
+    report
+}
+
 /// A damaged job, words that no job writer meant, or a job of a length at the limits.
 fn bad_job(random: &mut Random, job: &[u32]) -> Vec<u32> {
     match random.below(20) {
@@ -180,7 +205,19 @@ fn beside_bad_job(random: &mut Random, plan: &LawfulPlan, lawful: &Trial) -> Tri
 
 /// All four calls on one trial.
 fn each_call(random: &mut Random, plan: &LawfulPlan, job: &[u32], trial: &Trial, calls: &Calls, report: &mut Report) {
-    let words = Lent::new(&trial.slice(random));
+    let words = trial.slice(random);
+    each_call_on(random, plan, job, &words, calls, report);
+}
+
+fn each_call_on(
+    random: &mut Random,
+    plan: &LawfulPlan,
+    job: &[u32],
+    trial: &[u32],
+    calls: &Calls,
+    report: &mut Report,
+) {
+    let words = Lent::new(trial);
     let none = Lent::new(&[]);
     let action = trials::action(random, plan.draft.actions.len());
     for call in [Call::Begin, Call::Start(action), Call::On] {
@@ -226,6 +263,15 @@ pub fn possible() -> Vec<(String, String)> {
     add("show to 100000 words", &[0]);
     trial_features::NEEDED.iter().for_each(|(situation, numbers)| add(situation, numbers));
     places
+}
+
+/// What trials with one word damaged must have met.
+pub fn possible_of_each_word() -> Vec<(String, String)> {
+    let situations = ["moment n + 1", "moment 2^32 - 1", "4,096 starts", "4,097 starts", "2^32 - 1 starts"];
+    let refused = situations.map(|situation| (situation.to_string(), "14".to_string()));
+    let calls = ["start", "on", "show"].iter();
+    let outcomes = calls.flat_map(|call| ["0", "6", "14"].map(|number| (call.to_string(), number.to_string())));
+    refused.into_iter().chain(outcomes).collect()
 }
 
 #[cfg(test)]
@@ -383,6 +429,17 @@ mod tests {
             is_seen(with_start(&planted));
             is_seen_in_moves(with_start(&planted));
         }
+    }
+
+    #[test]
+    fn moves_that_check_does_not_bear_out_are_seen() {
+        let check = |_: &[u32], _: &[u32], _: &[u32]| Answer::success(0, 0);
+        is_seen_in_moves(Calls { check: &check, ..right_calls(&right_fill) });
+        let check = |job: &[u32], starts: &[u32], facts: &[u32]| match calls::check(job, starts, facts) {
+            right if right.number == 0 && starts.len() == 2 => Answer { number: 9, ..right },
+            right => right,
+        };
+        is_seen_in_moves(Calls { check: &check, ..right_calls(&right_fill) });
     }
 
     #[test]

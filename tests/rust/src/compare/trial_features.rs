@@ -8,15 +8,17 @@ use crate::tally::Tally;
 use crate::words::field;
 
 /// A situation and the numbers that its cases must have had.
-pub const NEEDED: [(&str, &[usize]); 30] = [
+pub const NEEDED: [(&str, &[usize]); 33] = [
     ("moment n", &[0, 14]),
     ("moment n - 1", &[0]),
     ("moment n + 1", &[14]),
     ("moment above 63", &[14]),
+    ("moment 2^32 - 1", &[14]),
     ("moment 0 of n = 0", &[0, 14]),
     ("moment 63 of n = 63", &[0, 14]),
     ("4,096 starts", &[6, 7, 14]),
     ("4,097 starts", &[14]),
+    ("2^32 - 1 starts", &[14]),
     ("more starts than the slice has words", &[14]),
     ("latest start at the moment", &[0, 6, 7, 8, 9, 10]),
     ("latest start one moment later", &[14]),
@@ -25,6 +27,7 @@ pub const NEEDED: [(&str, &[usize]); 30] = [
     ("slice of 4,097 words", &[1, 2, 3, 4, 5, 14]),
     ("slice of 4,098 words", &[0, 6, 7, 8, 9, 10, 14]),
     ("slice of 4,099 words", &[0, 6, 7, 8, 9, 10, 14]),
+    ("slice of 5,000 words", &[0, 6, 7, 8, 9, 10, 14]),
     ("slice of 100,000 words", &[0, 14]),
     ("slice of 1 words", &[14]),
     ("slice of 0 words", &[1, 14]),
@@ -47,7 +50,7 @@ pub fn count(tally: &mut Tally, call: Call, job: &[u32], trial: &[u32], answer: 
     if call == Call::Begin {
         return;
     }
-    if matches!(trial.len(), 0 | 1 | 4_097 | 4_098 | 4_099 | 100_000) {
+    if matches!(trial.len(), 0 | 1 | 4_097 | 4_098 | 4_099 | 5_000 | 100_000) {
         tally.add(&format!("slice of {} words", grouped(trial.len())), &number);
     }
     if matches!(call, Call::Show(length) if length < 4_096) || matches!(answer.number, 1..=5) || trial.len() < 4_098 {
@@ -82,10 +85,12 @@ fn of_words(last: usize, trial: &[u32]) -> Vec<&'static str> {
         (moment + 1 == last, "moment n - 1"),
         (moment == last + 1, "moment n + 1"),
         (moment > 63, "moment above 63"),
+        (trial[0] == u32::MAX, "moment 2^32 - 1"),
         (moment == 0 && last == 0, "moment 0 of n = 0"),
         (moment == 63 && last == 63, "moment 63 of n = 63"),
         (number == 4_096, "4,096 starts"),
         (number == 4_097, "4,097 starts"),
+        (trial[1] == u32::MAX, "2^32 - 1 starts"),
         (number + 2 > trial.len(), "more starts than the slice has words"),
         (sound && latest == Some(moment), "latest start at the moment"),
         (sound && latest == Some(moment + 1), "latest start one moment later"),

@@ -65,6 +65,7 @@ fn one_list(random: &mut Random, job: &[u32], moves: &[Move], calls: &Calls, rep
         if trial.words() != told.over(&noise) {
             report.differs(&|| format!("the trial is what the accepted moves say: {} {moves:?}", shown("job", job)));
         }
+        asked(job, &told, next, answer, calls, report);
         if random.chance(looking) {
             look(random, job, &told, &trial, &mut seen, calls, report);
         }
@@ -77,6 +78,27 @@ fn name(next: Move) -> &'static str {
     match next {
         Move::Start(_) => "a start",
         Move::On => "going on",
+    }
+}
+
+/// After a move: fill takes the accepted starts, and check takes them with fill's facts. Of a start that was refused, where
+/// the action has a word, check gives the number that the move gave, but 6 where that word is there already.
+fn asked(job: &[u32], told: &Told, last: Move, answer: Answer, calls: &Calls, report: &mut Report) {
+    let tell =
+        |law: &str| format!("{law}, {last:?}: {}\n {}", shown("job", job), shown("accepted starts", &told.starts));
+    let mut buffer = vec![0; 4_096];
+    let filled = (calls.fill)(job, &told.starts, &mut buffer);
+    report.judge(0, filled.number, &|| tell("fill takes the accepted starts"));
+    let facts = &buffer[..filled.length];
+    let checked = (calls.check)(job, &told.starts, facts);
+    report.judge(Answer::success(0, 0), checked, &|| tell("check takes them with fill's facts"));
+    if let (Move::Start(action @ 0..=63), 6..=10) = (last, answer.number) {
+        let word = start(told.moment, action as usize);
+        let mut with = told.starts.clone();
+        with.push(word);
+        with.sort();
+        let right = if told.starts.contains(&word) { 6 } else { answer.number };
+        report.judge(right, (calls.check)(job, &with, facts).number, &|| tell("check refuses what the move refused"));
     }
 }
 

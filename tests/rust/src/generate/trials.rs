@@ -141,7 +141,8 @@ fn up_to(starts: &[u32], moment: usize) -> Vec<u32> {
 fn length(random: &mut Random) -> usize {
     match random.below(100) {
         0 => 100_000,
-        1..=20 => 4_099,
+        1..=10 => 4_099,
+        11..=20 => 5_000,
         _ => 4_098,
     }
 }

@@ -70,8 +70,10 @@ fn beginnings() -> Vec<Vector> {
     vec![
         fresh(),
         Vector { name: "one word more", length: 4_099, ..fresh() },
+        Vector { name: "5,000 words", length: 5_000, ..fresh() },
         Vector { name: "100,000 words", length: 100_000, ..fresh() },
         Vector { name: "one word too few", length: 4_097, outcome: refusal(14), ..fresh() },
+        Vector { name: "one word", length: 1, outcome: refusal(14), ..fresh() },
         Vector { name: "no words", length: 0, outcome: refusal(14), ..fresh() },
         Vector { name: "the job comes first, with its position", length: 0, job: bad(), outcome: at_1(), ..fresh() },
         Vector { name: "a refused job begins no trial in the words", job: bad(), outcome: at_1(), ..fresh() },
@@ -91,6 +93,7 @@ fn accepted() -> Vec<Vector> {
         lawful("in between", 2, &[lift, fold], DROP, &[lift, drop, fold]),
         lawful("what starts now hides nothing yet", 2, &[lift, start(2, LIFT)], FOLD, &[lift, start(2, LIFT), fold]),
         lawful("after moments without starts", 4, &[lift], DROP, &[lift, start(4, DROP)]),
+        Vector { length: 5_000, ..lawful("in a slice of 5,000 words", 0, &[], LIFT, &[lift]) },
     ]
 }
 
@@ -152,6 +155,7 @@ fn on() -> Vec<Vector> {
     vec![
         going("from 0", 0, &[]),
         going("to n", 4, &[lift]),
+        Vector { length: 5_000, ..going("in a slice of 5,000 words", 4, &[lift]) },
         going("with a start of this moment", 0, &[lift, start(0, PRESS)]),
         refused("at n", 5, &[lift], Call::On, 14),
         tiny(),
@@ -179,6 +183,7 @@ fn shown() -> Vec<Vector> {
         shown("a restart hides nothing yet", 2, &[lift, start(2, LIFT)], &last[..2]),
         shown("at n", 5, &[lift], &last),
         Vector { call: Call::Show(4_097), ..shown("a longer buffer", 5, &[lift], &last) },
+        Vector { length: 5_000, ..shown("a slice of 5,000 words", 5, &[lift], &last) },
         Vector { call: Call::Show(4_095), outcome: refusal(12), ..shown("one word short", 5, &[lift], &last) },
         Vector { call: Call::Show(0), outcome: refusal(12), ..shown("no buffer", 5, &[lift], &last) },
     ]
@@ -205,7 +210,8 @@ fn no_trial() -> Vec<Vector> {
         asked("a slice one word too short", said(1)).map(|vector| Vector { length: 4_097, ..vector }),
         asked("a slice of one word", said(1)).map(|vector| Vector { length: 1, ..vector }),
         asked("no slice", said(1)).map(|vector| Vector { length: 0, ..vector }),
-        asked("4,097 starts in a slice that has them", said(4_097)).map(|vector| Vector { length: 100_000, ..vector }),
+        asked("4,097 starts in a slice that has them", said(4_097)).map(|vector| Vector { length: 5_000, ..vector }),
+        asked("the same in a longer one", said(4_097)).map(|vector| Vector { length: 100_000, ..vector }),
     ];
     groups.into_iter().flatten().collect()
 }

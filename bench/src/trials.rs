@@ -1,0 +1,118 @@
+//! The calls on a trial of 4,000 starts, beside check of those starts with their facts and beside the independent checker.
+use crate::calls::{plan, CALL};
+use crate::instructions::count_run;
+use crate::shapes::facts;
+use crate::time::{best, is_within};
+use planreader_tests::checker::{answer::Answer, trial as plain};
+use planreader_tests::host;
+use std::hint::black_box;
+
+/// The argument of a counted run that is about the trial, and those for its two calls.
+pub const COUNTED: &str = "trial";
+const COUNTED_START: &str = "start";
+const COUNTED_CHECK: &str = "check";
+
+/// What a start may take beside check. Both are timed in one run, so this does not grow on a slower machine.
+const START_TO_CHECK: f64 = 1.0;
+
+/// A call on a job, a trial and a buffer, which show alone writes to.
+type Call = fn(&[u32], &mut [u32], &mut [u32]) -> Answer;
+
+/// The archive's call and the checker's.
+const BEGIN: [Call; 2] =
+    [|job, trial, _| host::trial_begin(job, trial), |job, trial, _| plain::trial_begin(job, trial)];
+const START: [Call; 2] =
+    [|job, trial, _| host::trial_start(job, trial, 0), |job, trial, _| plain::trial_start(job, trial, 0)];
+const ON: [Call; 2] = [|job, trial, _| host::trial_on(job, trial), |job, trial, _| plain::trial_on(job, trial)];
+const SHOW: [Call; 2] = [
+    |job, trial, buffer| host::trial_show(job, trial, buffer),
+    |job, trial, buffer| plain::trial_show(job, trial, buffer),
+];
+
+/// Prints the times; whether they are within the limits, all moves are accepted, and both say the same.
+pub fn within_limits() -> bool {
+    let (job, starts, trial) = trial();
+    println!("trials of {} starts, ms; limit; independent checker, ms", starts.len());
+    let calls = [("begin", BEGIN), ("start", START), ("on", ON), ("show", SHOW)];
+    let within = calls.map(|(name, call)| call_within_limit(name, call, &job, &trial));
+    start_within_check(&job, &starts, &trial) && !within.contains(&false)
+}
+
+/// Prints the time of a start and of check, by turns so that both meet the same machine; whether a start takes no longer.
+fn start_within_check(job: &[u32], starts: &[u32], trial: &[u32]) -> bool {
+    let facts = facts(job, starts);
+    let (mut start_ms, mut check_ms) = (f64::MAX, f64::MAX);
+    for _ in 0..10 {
+        start_ms = start_ms.min(timed(10, START[0], job, trial).0);
+        check_ms = check_ms.min(best(10, || host::check(job, starts, &facts)).0);
+    }
+    let ratio = start_ms / check_ms;
+    let within = ratio <= START_TO_CHECK && host::check(job, starts, &facts).number == 0;
+    let told = if within { "" } else { "  FAILED" };
+    println!("start, ms; check of the same starts with their facts, ms; ratio; limit");
+    println!("{start_ms:>9.3} {check_ms:>9.3} {ratio:>6.3} {START_TO_CHECK:>6}{told}");
+    within
+}
+
+/// The job of the largest plan, 4,000 of its 4,032 starts, and the trial of these: at its moment, 62, the higher actions are started, so that
+/// action 0 goes in before them.
+fn trial() -> (Vec<u32>, Vec<u32>, Vec<u32>) {
+    let (job, all) = plan(1);
+    let starts = [&all[..62 * 64], &all[62 * 64 + 32..]].concat();
+    let mut trial = [&[62, starts.len() as u32], &starts[..]].concat();
+    trial.resize(plain::TRIAL_WORDS, 0);
+    (job, starts, trial)
+}
+
+/// How long a call takes, its answer, and what it leaves in trial and buffer. Each run has the trial as it was; that copy counts too, a
+/// thousandth of a millisecond.
+fn timed(runs: usize, call: Call, job: &[u32], trial: &[u32]) -> (f64, (Answer, Vec<u32>, Vec<u32>)) {
+    let (mut lent, mut buffer) = (trial.to_vec(), vec![0; 4096]);
+    let (ms, answer) = best(runs, || {
+        lent.copy_from_slice(trial);
+        call(job, &mut lent, &mut buffer)
+    });
+    (ms, (answer, lent, buffer))
+}
+
+fn call_within_limit(name: &str, [call, checker]: [Call; 2], job: &[u32], trial: &[u32]) -> bool {
+    let (ms, given) = timed(10, call, job, trial);
+    let (plain_ms, right) = timed(1, checker, job, trial);
+    let within = given == right && given.0.number == 0 && is_within(ms, CALL);
+    let told = if within { "" } else { "  FAILED" };
+    println!("{ms:>9.3} {CALL:>6} {plain_ms:>9.3}  {name}{told}");
+    within
+}
+
+/// Prints the instructions of a start and of check, which other work on the machine does not change; whether both were counted.
+pub fn instructions_are_counted() -> bool {
+    println!("start in a trial, instructions; check of the same starts with their facts, instructions; ratio");
+    match [COUNTED_START, COUNTED_CHECK].map(|call| count_run(COUNTED, call)) {
+        [Ok(start), Ok(check)] => {
+            println!("{start:>12} {check:>12} {:>6.3}", start as f64 / check as f64);
+            true
+        }
+        [start, check] => {
+            [start, check].into_iter().filter_map(Result::err).for_each(|told| println!("{told}"));
+            false
+        }
+    }
+}
+
+/// The run that is counted.
+pub fn run(call: &str) {
+    let (job, starts, mut trial) = trial();
+    let facts = facts(&job, &starts);
+    match call {
+        COUNTED_START => counted_call(&mut || host::trial_start(&job, &mut trial, 0)),
+        COUNTED_CHECK => counted_call(&mut || host::check(&job, &starts, &facts)),
+        _ => panic!("no call {call} is counted"),
+    };
+}
+
+/// The only function whose instructions count, with what it calls. Callgrind knows it by this name.
+#[no_mangle]
+#[inline(never)]
+fn counted_call(call: &mut dyn FnMut() -> Answer) -> Answer {
+    black_box(call())
+}
