@@ -61,9 +61,10 @@ def saved(folder):
 
 
 def first_error(log, folder):
-    """The place and the kind of the first error, of the gravest kind that the log has."""
+    """The place and the kind of the first error, of the gravest kind that the log has. A line that begins with blanks goes on with the one
+    before."""
     found = []
-    for line in log.replace(f"{folder}/", "").splitlines():
+    for line in log.replace(f"{folder}/", "").replace("\n  ", " ").splitlines():
         at = re.match(r"(\S+?:\d+):\d+: error: (.*)", line) or re.match(r"note: (\S+?:\d+):\d+: (it is not proved .*)", line)
         if at and kind_of(at[2]):
             found.append((at[1], kind_of(at[2])))

@@ -73,11 +73,13 @@ class Suite:
         cargo = ["--offline", "--locked", "--message-format=json", "--target-dir", str(TARGET / "mutation" / "cargo")]
         tests = executables(["cargo", "test", "--no-run", "--manifest-path", str(ROOT / "tests/rust/Cargo.toml"), *cargo], env)
         bench = executables(["cargo", "build", "--release", "--manifest-path", str(ROOT / "bench/Cargo.toml"), *cargo], env)
-        host = WORK / "host"
-        run(["cc", "-std=c11", "-O2", f"-I{ROOT / 'include'}", ROOT / "tests/c/host.c", made, "-lpthread", "-ldl", "-o", host])
+        hosts = {}
+        for name in ("host", "trial"):
+            hosts[name] = WORK / name
+            run(["cc", "-std=c11", "-O2", f"-I{ROOT / 'include'}", ROOT / f"tests/c/{name}.c", made, "-lpthread", "-ldl", "-o", hosts[name]])
         slow = ["generated", "tiny", "crowded"]
-        self.tests = [Test("c-host", [host], "planreader")]
-        for name, crate in (("job", "theory"), ("plan", "theory"), ("find", "finder")):
+        self.tests = [Test("c-host", [hosts["host"]], "planreader"), Test("c-trial", [hosts["trial"]], "trial")]
+        for name, crate in (("job", "theory"), ("plan", "theory"), ("find", "finder"), ("trial", "trial")):
             self.tests += [Test(name, [tests[name], *skipped(slow)], crate), Test(name, [tests[name], *slow], crate)]
         self.tests += [Test("planread", [tests["planread"]], "reader"), Test("bench", [bench["planreader-bench"]], "planreader")]
 
