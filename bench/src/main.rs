@@ -18,7 +18,7 @@ fn main() {
         plain::agrees(),
         finds::within_limits(),
         agreement::within_limits(),
-        trials::instructions_are_counted(),
+        trials::instructions_are_within(),
         finds::instructions_within_limits(),
     ];
     if parts.contains(&false) {

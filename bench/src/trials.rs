@@ -12,7 +12,7 @@ pub const COUNTED: &str = "trial";
 const COUNTED_START: &str = "start";
 const COUNTED_CHECK: &str = "check";
 
-/// What a start may take beside check. Both are timed in one run, so this does not grow on a slower machine.
+/// How many instructions a start may take beside check.
 const START_TO_CHECK: f64 = 1.0;
 
 /// A call on a job, a trial and a buffer, which show alone writes to.
@@ -35,23 +35,21 @@ pub fn within_limits() -> bool {
     println!("trials of {} starts, ms; limit; independent checker, ms", starts.len());
     let calls = [("begin", BEGIN), ("start", START), ("on", ON), ("show", SHOW)];
     let within = calls.map(|(name, call)| call_within_limit(name, call, &job, &trial));
-    start_within_check(&job, &starts, &trial) && !within.contains(&false)
+    print_start_and_check(&job, &starts, &trial);
+    !within.contains(&false)
 }
 
-/// Prints the time of a start and of check, by turns so that both meet the same machine; whether a start takes no longer.
-fn start_within_check(job: &[u32], starts: &[u32], trial: &[u32]) -> bool {
+/// Prints the time of a start and of check, by turns so that both meet the same machine. Nearly all of both is the same work, so that the
+/// times differ by less than they do from run to run: `instructions_are_within` holds the two against each other.
+fn print_start_and_check(job: &[u32], starts: &[u32], trial: &[u32]) {
     let facts = facts(job, starts);
     let (mut start_ms, mut check_ms) = (f64::MAX, f64::MAX);
     for _ in 0..10 {
         start_ms = start_ms.min(timed(10, START[0], job, trial).0);
         check_ms = check_ms.min(best(10, || host::check(job, starts, &facts)).0);
     }
-    let ratio = start_ms / check_ms;
-    let within = ratio <= START_TO_CHECK && host::check(job, starts, &facts).number == 0;
-    let told = if within { "" } else { "  FAILED" };
-    println!("start, ms; check of the same starts with their facts, ms; ratio; limit");
-    println!("{start_ms:>9.3} {check_ms:>9.3} {ratio:>6.3} {START_TO_CHECK:>6}{told}");
-    within
+    println!("start, ms; check of the same starts with their facts, ms; ratio");
+    println!("{start_ms:>9.3} {check_ms:>9.3} {:>6.3}", start_ms / check_ms);
 }
 
 /// The job of the largest plan, 4,000 of its 4,032 starts, and the trial of these: at its moment, 62, the higher actions are started, so that
@@ -84,13 +82,18 @@ fn call_within_limit(name: &str, [call, checker]: [Call; 2], job: &[u32], trial:
     within
 }
 
-/// Prints the instructions of a start and of check, which other work on the machine does not change; whether both were counted.
-pub fn instructions_are_counted() -> bool {
-    println!("start in a trial, instructions; check of the same starts with their facts, instructions; ratio");
+/// Prints the instructions of a start and of check, which other work on the machine does not change; whether a start takes no more.
+pub fn instructions_are_within() -> bool {
+    println!("start in a trial, instructions; check of the same starts with their facts, instructions; ratio; limit");
     match [COUNTED_START, COUNTED_CHECK].map(|call| count_run(COUNTED, call)) {
         [Ok(start), Ok(check)] => {
-            println!("{start:>12} {check:>12} {:>6.3}", start as f64 / check as f64);
-            true
+            let ratio = start as f64 / check as f64;
+            let within = ratio <= START_TO_CHECK;
+            println!(
+                "{start:>12} {check:>12} {ratio:>6.3} {START_TO_CHECK:>6}{}",
+                if within { "" } else { "  FAILED" }
+            );
+            within
         }
         [start, check] => {
             [start, check].into_iter().filter_map(Result::err).for_each(|told| println!("{told}"));
