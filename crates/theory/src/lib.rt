@@ -24,12 +24,13 @@ pub mod moments;
 
 pub use arrays::arrays_of;
 
-// The refusal of the rows that were run, and of a plan that passes them the index of the job's words, the durations of its actions and its
-// history.
+// The refusal of the rows that were run, and of a plan that passes them the index of the job's words, the durations and effects of its
+// actions and its history.
 pub struct Plan {
     pub refusal: Refusal,
     pub index: Index,
     pub durations: [usize; 64],
+    pub effects: [u8; 4096],
     pub history: [u8; 4096],
 }
 
@@ -38,11 +39,13 @@ pub fn refused(refusal: Refusal, index: Index) -> Plan
     ensures { λ r. ⌜ r .refusal ≡ refusal ⌝ }
 {
     let durations = [0usize; 64];
+    let effects = [0u8; 4096];
     let history = [0u8; 4096];
     Plan {
         refusal,
         index,
         durations,
+        effects,
         history,
     }
 }
@@ -66,6 +69,7 @@ pub fn judge_starts(job: &[u32], index: Index, starts: &[u32], last: usize) -> P
         refusal,
         index,
         durations,
+        effects,
         history,
     }
 }
@@ -114,6 +118,7 @@ pub fn judge_facts(job: &[u32], starts: &[u32], facts: &[u32]) -> Plan
     }
     let index = plan.index;
     let durations = plan.durations;
+    let effects = plan.effects;
     let history = plan.history;
     let mut wanted = [0u32; 4096];
     let n = fill_facts(job, &history, &mut wanted);
@@ -122,6 +127,7 @@ pub fn judge_facts(job: &[u32], starts: &[u32], facts: &[u32]) -> Plan
         refusal,
         index,
         durations,
+        effects,
         history,
     }
 }

@@ -17,7 +17,6 @@ use Rattle.job.specs.Parts.{headWord, actions, lastMoment, duration, lawsOf}
 use Rattle.job.specs.Refusal.{jobRefusal}
 use Rattle.job.specs.Code.WellFormed.{WellFormed, Indexed}
 use Rattle.answers.proofs.Rows.{or-none}
-use Rattle.history.specs.Code.Tables.{Effects}
 use Rattle.starts.specs.Rows.{unmet, unmetAt, startsRefusal}
 use Rattle.starts.specs.Lawful.{Lawful}
 use Rattle.starts.specs.Code.Given.{StartsFormed, Timed, Recorded}
@@ -50,9 +49,9 @@ module _ {job starts : List ℕ} {u : ℕ} {plan : Plan} (given : Present job st
   pub present-indexed : Indexed job 3 (plan .index .actions .position)
   present-indexed = actions-indexed job (job-clear job starts (given .passed .clear)) (given .passed .index)
 
-  pub present-facing : {effects : List ℕ} → Effects job effects → {a : ℕ} → a < actions job → FacingAll job (plan .durations) effects starts u a
-  present-facing makes k = record {
-    tables = record { formed = present-formed; lasts = given .passed .durations; makes = makes };
+  pub present-facing : {a : ℕ} → a < actions job → FacingAll job (plan .durations) (plan .effects) starts u a
+  present-facing k = record {
+    tables = record { formed = present-formed; lasts = given .passed .durations; makes = given .passed .effects };
     action = each-map (λ s e. right-of {job = job} e .action) (plan-lawful (given .passed .clear) .words);
     past = given .past;
     present = given .present;

@@ -105,12 +105,14 @@ impl Trial {
         let starts = self.starts;
         let plan = judge_starts(job, index, &starts[..length], moment);
         let durations = plan.durations;
+        let effects = plan.effects;
         let history = plan.history;
         let refusal = at_zero(plan.refusal);
         Plan {
             refusal,
             index,
             durations,
+            effects,
             history,
         }
     }

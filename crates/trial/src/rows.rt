@@ -2,8 +2,9 @@
 ghost use mathlib.Core.Path.{_≡_};
 ghost use Prim.Native.Nat.{_<_};
 ghost use lib.Dec.{ltb};
-ghost use Rattle.words.specs.Fields.{startMoment, startWord};
+ghost use Rattle.words.specs.Fields.{startMoment, startAction, startWord};
 ghost use Rattle.words.specs.Scan.{any};
+ghost use Rattle.history.specs.Code.Tables.{Durations};
 ghost use Rattle.starts.specs.Rows.{clashing};
 ghost use Rattle.starts.specs.Code.Given.{Timed};
 ghost use Rattle.job.specs.Parts.{actions};
@@ -12,7 +13,6 @@ ghost use Rattle.trial.specs.Code.Given.{Facing, FacingAll, Present, sta
 use answers::Refusal;
 use answers::refuse;
 use answers::row_of;
-use history::effects;
 use history::laws_of;
 use starts::finish_of;
 use starts::has_clash;
@@ -34,15 +34,25 @@ pub fn some_later(starts: &[u32], u: usize) -> bool
     false
 }
 
-// Whether a start of action `a` is in hand at moment `u`.
+// Whether the start `s` is one of action `a` that is in hand at moment `u`.
+fn is_busy(job: &[u32], durations: &[usize; 64], s: u32, u: usize, a: usize) -> bool
+    requires { ⌜ Durations (now job) (now durations) × (startAction s < actions (now job)) ⌝ }
+    ensures { λ r. ⌜ r ≡ busy (now (job .entry)) u a s ⌝ }
+{
+    if start_action(s) != a {
+        return false;
+    }
+    (start_moment(s) <= u) & (u < finish_of(durations, s))
+}
+
+// Whether some start is.
 fn some_busy(job: &[u32], durations: &[usize; 64], starts: &[u32], u: usize, a: usize) -> bool
     requires { ⌜ Timed (now job) (now durations) (now starts) ⌝ }
     ensures { λ r. ⌜ r ≡ any (busy (now (job .entry)) u a) (now (starts .entry)) ⌝ }
 {
     let mut i = 0;
     while i < starts.len() {
-        let s = starts[i];
-        if (start_action(s) == a) & ((start_moment(s) <= u) & (u < finish_of(durations, s))) {
+        if is_busy(job, durations, starts[i], u, a) {
             return true;
         }
         i += 1;
@@ -96,13 +106,13 @@ fn state_refusal(job: &[u32], plan: Plan, starts: &[u32], u: usize, a: usize) ->
     ensures { λ r. ⌜ r ≡ stateRefusal (now (job .entry)) (now (starts .entry)) u a ⌝ }
 {
     let durations = plan.durations;
-    let index = plan.index;
-    let actions = index.actions;
-    let places = actions.position;
-    let effects = effects(job, &places);
+    let effects = plan.effects;
     if some_clash(job, &durations, &effects, starts, u, a) {
         return refuse(9, 0);
     }
+    let index = plan.index;
+    let actions = index.actions;
+    let places = actions.position;
     let history = plan.history;
     row_of(
         has_unmet(job[0], &history, u, laws_of(job, &places, a)),

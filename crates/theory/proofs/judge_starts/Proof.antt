@@ -98,6 +98,7 @@ returns-2 c =
         clear = z;
         index = timed times .pre .index;
         durations = tabled (made times) .durations .ensures;
+        effects = made times .effects .ensures;
         history = c .before .before .before .history .ensures;
       };
     }

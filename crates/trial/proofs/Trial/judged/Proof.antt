@@ -79,7 +79,7 @@ judge-starts-requires c κs =
 
 returns-3 : tie.Need-returns-3
 returns-3 c =
-    let j = c .before .before .before in
+    let j = c .before .before .before .before in
     let b = j .before .before .before in
     let o = b .before in
     let s = entry (checked (passed o)) in
@@ -92,7 +92,7 @@ returns-3 c =
       passed = λ z.
           let p = j .judge-starts .ensures .passed (clear z) in
           judged-present (s .args .job .now) (s .args .self) (good (passed o)) size (in-bounds b)
-          (record { clear = p .clear; index = ap (λ (r : Checked). r .index) (checked (passed o) .check-job .ensures); durations = p .durations; history = p .history });
+          (record { clear = p .clear; index = ap (λ (r : Checked). r .index) (checked (passed o) .check-job .ensures); durations = p .durations; effects = p .effects; history = p .history });
       sized = λ z. judged-sized (s .args .job .now) (s .args .self) (good (passed o)) size (in-bounds b);
     }
 

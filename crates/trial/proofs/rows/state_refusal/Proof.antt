@@ -6,37 +6,42 @@ use Rattle.trial.proofs.NewStart.{present-formed, present-indexed, pres
 use Rattle.trial.proofs.rows.state_refusal.Statement.{statement}
 use Rattle.trial.proofs.rows.state_refusal.Tie as tie
 
-abbrev entry : tie.After-effects → tie.Start
-entry c = c .before .before .before .before .before .before .before .before
+abbrev entry : tie.After-some-clash → tie.Start
+entry c = c .before .before .before .before .before .before .before
 
-abbrev made : tie.After-some-clash → tie.After-effects
-made c = c .before .before .before
+abbrev clashed : tie.Else1 → tie.After-some-clash
+clashed c = c .before
 
-abbrev clashed : tie.After-laws-of → tie.After-some-clash
-clashed c = c .before .before .before .before .before .before
+abbrev passed : tie.After-laws-of → tie.Else1
+passed c = c .before .before .before .before .before .before .before .before
 
 some-clash-requires : tie.Need-some-clash-requires
-some-clash-requires c κs = let e = c .before .before in present-facing (entry e .pre .0) (e .effects .ensures) (entry e .pre .1)
+some-clash-requires c κs = let s = c .before .before .before .before .before .before in present-facing (s .pre .0) (s .pre .1)
 
 returns : tie.Need-returns
 returns c = let t = c .before .before in c .refuse .ensures ∙ rw (sym (t .some-clash .ensures) ∙ c .before .if1 .taken)
 
+shared-slice-read-has-unmet : tie.Need-shared-slice-read-has-unmet
+shared-slice-read-has-unmet c = present-formed (entry (clashed (c .before .before .before .before .before)) .pre .0) .some
+
 laws-of-requires : tie.Need-laws-of-requires
 laws-of-requires c κs =
-    let s = entry (made (c .before .before .before .before .before)) in
+    let s = entry (clashed (c .before .before .before .before .before .before .before)) in
     (present-formed (s .pre .0), present-indexed (s .pre .0), s .pre .1)
+
+has-unmet-requires : tie.Need-has-unmet-requires
+has-unmet-requires c κs = let g = entry (clashed (passed c)) .pre .0 in omega (arith, g .present, present-formed g .few-moments)
 
 returns-2 : tie.Need-returns-2
 returns-2 c =
     let laws = c .before .before in
-    let t = clashed laws in
-    let s = entry (made t) in
+    let t = clashed (passed laws) in
+    let s = entry t in
     let unmet = present-unmet (s .pre .0) (s .pre .1) (laws .laws-of .ensures) (c .before .has-unmet .ensures) in
-    c .row-of .ensures ∙ rw (unmet, sym (t .some-clash .ensures) ∙ laws .before .before .before .before .before .if1 .left)
+    c .row-of .ensures ∙ rw (unmet, sym (t .some-clash .ensures) ∙ passed laws .if1 .left)
 
 pub state-refusal-spec : {M : Type 1} → statement M
 state-refusal-spec =
     tie.close
-    (tie.spec (λ c κs. let s = c .before .before .before .before .before .before .before in (present-formed (s .pre .0), present-indexed (s .pre .0)))
-    some-clash-requires (λ c κs. search needs) returns (λ c. present-formed (entry (made (c .before .before .before)) .pre .0) .some) laws-of-requires
-    (λ c κs. let g = entry (made (clashed c)) .pre .0 in omega (arith, g .present, present-formed g .few-moments)) (λ c κs. search needs) returns-2)
+    (tie.spec some-clash-requires (λ c κs. search needs) returns shared-slice-read-has-unmet laws-of-requires has-unmet-requires
+    (λ c κs. search needs) returns-2)
