@@ -11,7 +11,7 @@ use Rattle.words.specs.Fields.{ofKind, kind, fluentOf, startMoment, startAction
 use Rattle.words.specs.Scan.{any, takeWhile}
 use Rattle.words.specs.Lists.{insert}
 use Rattle.words.proofs.Scan.{takeWhile-entry}
-use Rattle.job.specs.Parts.{headWord, fluents, actions, lastMoment, duration, lawsOf}
+use Rattle.job.specs.Parts.{headWord, fluents, actions, duration, lawsOf}
 use Rattle.job.proofs.ByPlace.{action-counted, laws-place}
 use Rattle.history.specs.Values.{valueAt}
 use Rattle.history.proofs.Before.{value-before}
