@@ -23,18 +23,24 @@ use Rattle.trial.proofs.Trial.judged.Tie as tie
 abbrev entry : tie.After-check-job → tie.Start
 entry c = c .before .before
 
+abbrev read : tie.After-struct-known → tie.After-check-job
+read c = c .before .before .before
+
+abbrev judging : tie.After-at-zero → tie.After-judge-starts
+judging c = c .before .before .before .before
+
 abbrev passed : tie.After-is-outside → tie.Else1
 passed c = c .before
 
 abbrev checked : tie.Else1 → tie.After-check-job
-checked c = c .before .before .before .before
+checked c = read (c .before)
 
 refusal-is : (c : tie.After-check-job) → c .check-job .result .refusal ≡ jobRefusal (entry c .args .job .now)
 refusal-is c = checked-refusal _ _ (c .check-job .ensures)
 
 returns : tie.Need-returns
 returns c =
-    let k = c .before .before .before .before .before in
+    let k = read (c .before .before) in
     let s = entry k in
     let never = c .before .if1 .taken in
     let is = refusal-is k ∙ or-refused (jobRefusal (s .args .job .now)) (trialRefusal (s .args .job .now) (trialOf (s .args .self)))
@@ -79,7 +85,7 @@ judge-starts-requires c κs =
 
 returns-3 : tie.Need-returns-3
 returns-3 c =
-    let j = c .before .before .before .before in
+    let j = judging c in
     let b = j .before .before .before in
     let o = b .before in
     let s = entry (checked (passed o)) in

@@ -13,8 +13,11 @@ use Rattle.trial.proofs.Trial.on.Tie as tie
 abbrev entry : tie.After-judged → tie.Start
 entry c = c .before .before
 
+abbrev judging : tie.Else1 → tie.After-judged
+judging c = c .before .before .before
+
 abbrev first : tie.After-last-of → tie.After-judged
-first c = c .before .before .before .before .before .before
+first c = judging (c .before .before .before)
 
 -- the rows of the job and the trial passed
 passed : (c : tie.After-last-of) → first c .judged .result .refusal .number ≡ 0
@@ -65,5 +68,5 @@ pub on-spec : {M : Type 1} → statement M
 on-spec =
     tie.close
     (tie.spec (λ c κs. search needs) returns
-    (λ c. let j = c .before .before .before .before .before in present-formed (j .judged .ensures .passed (c .before .before .if1 .left)) .some)
+    (λ c. let e = c .before .before in present-formed (judging e .judged .ensures .passed (e .if1 .left)) .some)
     (λ c κs. search needs) (λ c κs. search needs) returns-2 (λ c. record { fits = omega (arith, soon c) }) returns-3)

@@ -26,6 +26,9 @@ entry c = c .before .before .before .before
 abbrev judged : tie.Else2 → tie.After-judged
 judged c = c .before .before .before
 
+abbrev refusing : tie.Then2 → tie.After-judged
+refusing c = c .before .before .before
+
 abbrev ahead : tie.After-fill-upto → tie.Else2
 ahead c = c .before .before .before .before
 
@@ -55,7 +58,7 @@ returns c =
 returns-2 : tie.Need-returns-2
 unfolding showAnswerOf
 returns-2 c =
-    let j = c .before .before .before .before in
+    let j = refusing (c .before) in
     let a = entry j .args in
     let never = c .before .if2 .taken in
     let made = c .answer-of2 .ensures ∙ answer-refused _ 0 0 (length (shownFacts (a .job .now) (trialOf (a .self)))) 0 never in

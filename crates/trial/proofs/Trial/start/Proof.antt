@@ -24,6 +24,9 @@ first c = c .before .before .before
 abbrev passed : tie.After-start-refusal → tie.Else1
 passed c = c .before .before .before
 
+abbrev tested : tie.After-start-word → tie.After-start-refusal
+tested c = c .before .before .before
+
 sized : (c : tie.Else1) → Sized (entry (first c) .args .self)
 sized c = first c .judged .ensures .sized (c .if1 .left)
 
@@ -65,7 +68,7 @@ start-word-requires c κs =
 
 with-word-requires : tie.Need-with-word-requires
 with-word-requires c κs =
-    let o = c .before .before .before in
+    let o = tested c in
     let p = passed o in
     let t = entry (first p) .args .self in
     let room = o .start-refusal .ensures .room (c .before .if2 .left) in
@@ -73,7 +76,7 @@ with-word-requires c κs =
 
 returns-3 : tie.Need-returns-3
 returns-3 c =
-    let o = c .before .before .before .before in
+    let o = tested (c .before) in
     let p = passed o in
     let a = entry (first p) .args in
     let made = moved-start (a .job .now) (a .self) (sized p) (a .action) (c .before .start-word .ensures) (c .with-word .ensures) in

@@ -8,10 +8,13 @@ use Rattle.trial.proofs.Moves.{put-size, put-front}
 use Rattle.trial.proofs.Trial.with_word.Statement.{statement}
 use Rattle.trial.proofs.Trial.with_word.Tie as tie
 
+abbrev entry : tie.After-next2 → tie.Start
+entry c = c .before .before .before .before .before
+
 returns : tie.Need-returns
 returns c =
     let put = c .before .insert-word .ensures in
-    let s = c .before .before .before .before .before in
+    let s = entry c in
     record {
       trial = rw (put-front (s .args .self) (s .args .w) (s .pre .0) (s .pre .1) put);
       sized = record { size = put-size (s .args .self) (s .args .w) (s .pre .0) (s .pre .1) put; few = omega (arith, s .pre .1); soon = s .pre .0 .soon };

@@ -7,6 +7,9 @@ use Rattle.trial.proofs.CallRows.{short-move, stepped}
 use Rattle.trial.proofs.calls.on_words.Statement.{statement}
 use Rattle.trial.proofs.calls.on_words.Tie as tie
 
+abbrev ample : tie.After-on → tie.Else1
+ample c = c .before .before .before
+
 returns : tie.Need-returns
 returns c =
     short-move _ _ (c .before .before .if1 .taken) (c .answer-of .ensures ∙ ap (λ (r : Refusal). answerOf r 0 0) (c .before .short-refusal .ensures)) _
@@ -16,10 +19,10 @@ returns-2 c =
     let p = c .before .before in
     let m = p .before .before in
     let t = m .before in
-    stepped _ _ (t .before .before .if1 .left) (m .on .result) (p .put-back .ensures .0) (p .put-back .ensures .1) (m .on .ensures .0) (t .taken .ensures)
+    stepped _ _ (ample m .if1 .left) (m .on .result) (p .put-back .ensures .0) (p .put-back .ensures .1) (m .on .ensures .0) (t .taken .ensures)
 
 pub on-words-spec : {M : Type 1} → statement M
 on-words-spec =
     tie.close
     (tie.spec (λ c κs. search needs) (λ c κs. search needs) returns (λ c κs. c .before .if1 .left) (λ c κs. search needs)
-    (λ c κs. (c .before .on .ensures .1, c .before .before .before .before .if1 .left)) (λ c. search needs) returns-2)
+    (λ c κs. (c .before .on .ensures .1, ample (c .before) .if1 .left)) (λ c. search needs) returns-2)

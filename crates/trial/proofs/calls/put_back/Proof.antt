@@ -15,13 +15,16 @@ returns-2 c =
     let k = c .before .before .before in
     (c .answer-of2 .ensures, rw (c .answer-of2 .ensures, eq-eqb _ 0 (k .before .before .if1 .left)) (k .store .ensures))
 
+abbrev entry : tie.Else1 → tie.Start
+entry c = c .before .before .before .before
+
 store-requires : tie.Need-store-requires
-store-requires c κs = let s = c .before .before .before .before .before in (s .pre .0 (c .before .if1 .left), s .pre .1)
+store-requires c κs = let s = entry (c .before) in (s .pre .0 (c .before .if1 .left), s .pre .1)
 
 same-length : tie.Need-same-length
 same-length c =
     let k = c .before .before .before in
-    let s = k .before .before .before .before .before .before in
+    let s = entry (k .before .before) in
     ap length (k .store .ensures) ∙ handed-size (s .args .moved .trial) (s .pre .0 (k .before .before .if1 .left)) (s .args .words .now) (s .pre .1)
 
 pub put-back-spec : {M : Type 1} → statement M

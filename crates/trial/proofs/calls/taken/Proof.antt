@@ -5,8 +5,11 @@ use Rattle.trial.proofs.Handed.{said}
 use Rattle.trial.proofs.calls.taken.Statement.{statement}
 use Rattle.trial.proofs.calls.taken.Tie as tie
 
+abbrev entry : tie.After-starts → tie.Start
+entry c = c .before .before .before .before .before
+
 returns : tie.Need-returns
-returns c = let s = c .before .before .before .before .before .before .before in said (s .args .words .now) (s .pre) (c .before .copy-words .ensures)
+returns c = let s = entry (c .before .before) in said (s .args .words .now) (s .pre) (c .before .copy-words .ensures)
 
 pub taken-spec : {M : Type 1} → statement M
 taken-spec =

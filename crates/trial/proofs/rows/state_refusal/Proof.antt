@@ -6,27 +6,33 @@ use Rattle.trial.proofs.NewStart.{present-formed, present-indexed, pres
 use Rattle.trial.proofs.rows.state_refusal.Statement.{statement}
 use Rattle.trial.proofs.rows.state_refusal.Tie as tie
 
+abbrev lent : tie.After-effects2 → tie.Start
+lent c = c .before .before .before .before .before .before
+
 abbrev entry : tie.After-some-clash → tie.Start
-entry c = c .before .before .before .before .before .before .before
+entry c = lent (c .before)
 
 abbrev clashed : tie.Else1 → tie.After-some-clash
 clashed c = c .before
 
+abbrev past : tie.After-shared-slice-known3 → tie.Else1
+past c = c .before .before .before .before .before
+
 abbrev passed : tie.After-laws-of → tie.Else1
-passed c = c .before .before .before .before .before .before .before .before
+passed c = past (c .before .before .before)
 
 some-clash-requires : tie.Need-some-clash-requires
-some-clash-requires c κs = let s = c .before .before .before .before .before .before in present-facing (s .pre .0) (s .pre .1)
+some-clash-requires c κs = let s = lent c in present-facing (s .pre .0) (s .pre .1)
 
 returns : tie.Need-returns
 returns c = let t = c .before .before in c .refuse .ensures ∙ rw (sym (t .some-clash .ensures) ∙ c .before .if1 .taken)
 
 shared-slice-read-has-unmet : tie.Need-shared-slice-read-has-unmet
-shared-slice-read-has-unmet c = present-formed (entry (clashed (c .before .before .before .before .before)) .pre .0) .some
+shared-slice-read-has-unmet c = present-formed (entry (clashed (past c)) .pre .0) .some
 
 laws-of-requires : tie.Need-laws-of-requires
 laws-of-requires c κs =
-    let s = entry (clashed (c .before .before .before .before .before .before .before)) in
+    let s = entry (clashed (past (c .before .before))) in
     (present-formed (s .pre .0), present-indexed (s .pre .0), s .pre .1)
 
 has-unmet-requires : tie.Need-has-unmet-requires

@@ -8,14 +8,14 @@ use Rattle.words.proofs.Copies.{front-size, inserted-size, inserted}
 use Rattle.words.proofs.buffers.insert_word.Statement.{statement}
 use Rattle.words.proofs.buffers.insert_word.Tie as tie
 
+abbrev entry : tie.After-place-of → tie.Start
+entry c = c .before .before .before
+
 slice-aggregate-copy-words : tie.Need-slice-aggregate-copy-words
 slice-aggregate-copy-words c = sym (length-take-le _ _ (c .before .place-of .ensures .1))
 
 copy-words-requires : tie.Need-copy-words-requires
-copy-words-requires c κs = simp length-take (omega (arith, c .before .before .place-of .ensures .1, c .before .before .before .before .before .pre))
-
-abbrev entry : tie.After-place-of → tie.Start
-entry c = c .before .before .before
+copy-words-requires c κs = simp length-take (omega (arith, c .before .before .place-of .ensures .1, entry (c .before .before) .pre))
 
 abbrev front : tie.After-copy-words-arg4 → tie.After-copy-words
 front c = c .before .before .before .before
