@@ -1,14 +1,14 @@
 -- The test `reads` tells the readings, where it goes deep enough: one step for each row that a row can rest on. Assumes nothing.
 use Prim.Native.Nat.{ℕ, zero, suc, _+_, _-_, _*_, _≤_, _<_, max}
-use mathlib.Core.Bool.{Bool, true, false, _&&_, _||_, false≢true}
-use mathlib.Core.Path.{_≡_, refl}
+use mathlib.Core.Bool.{Bool, true, false, not, _&&_, _||_, false≢true}
+use mathlib.Core.Path.{_≡_, refl, ap}
 use mathlib.Core.Logic.{_⊎_, inl, inr, _↔_, ⊎-elim, Iff·trans, Iff·rfl, by-cases}
 use mathlib.Core.List.{List, [], _∷_}
 use native.Mathlib.Decide.{decLt}
 use native.Mathlib.Omega.{arith}
 use lib.Dec.{eqb, leb}
 use lib.ListN.{length, getD}
-use borrow.Author.Tests.{eqb-true, eq-eqb, leb-true, le-leb}
+use borrow.Author.Tests.{eqb-true, eq-eqb, leb-true, le-leb, not-true}
 use Rattle.sets.specs.Code.Rows.{entryAt}
 use Rattle.words.specs.Tests.{implies}
 use Rattle.words.proofs.Choices.{implies-true}
@@ -20,9 +20,9 @@ use Rattle.sets.specs.Code.Set.{SetRule, Formed}
 use Rattle.model.specs.Forms.{Form, Act, Test, Sequence, Choice, If, While, StartWindow, EndWindow, Set, Reserved, formAt, fieldX, fieldY, fieldM, fieldN, ConditionForm, BeginAfterBegin, BeginAfterEnd, HoldsBefore, HoldsAfter, HoldsBetween, ReservedCondition, conditionForm}
 use Rattle.reading.specs.Forms.{setAt}
 use Rattle.reading.specs.Code.Forms.{NodeReadable}
-use Rattle.reading.specs.Reading.{HasReading}
+use Rattle.reading.specs.Reading.{Quiet, HasReading}
 use Rattle.reading.specs.Code.Rule.{InTurn, StartsWithin, EndsWithin, Rule}
-use Rattle.cases.proofs.Decision.{some, each, through, metb, insideb, coveredb, conditionb, placingb, tried, setb, ruleb, reads}
+use Rattle.cases.proofs.Decision.{some, each, through, metb, insideb, coveredb, conditionb, placingb, tried, setb, quietb, ruleb, reads}
 use Rattle.reading.proofs.Step.{step, Filled, carry}
 
 -- ---- tests
@@ -255,60 +255,73 @@ start-law n e lo hi f g = Iff·trans (some-law (λ m. (leb lo m && leb m hi) && 
     last : (m k l : ℕ) → Tells (second m k l) ((e ≡ max k l) × (g m l ≡ true))
     last m k l = and-law (eqb e (max k l)) (g m l) (eq-law e (max k l)) Iff·rfl
 
-end-law : (n b M N : ℕ) (f g : ℕ → Bool)
-    → Tells (some (λ k. (leb b k && f k) && some (λ m. (leb (k + M) m && leb m (k + N)) && g m) (suc n)) (suc n))
-    (EndsWithin b M N n (λ k. f k ≡ true) (λ m. g m ≡ true))
-end-law n b M N f g = Iff·trans (some-law (λ k. (leb b k && f k) && some (begin k) (suc n)) (suc n)) (
+end-law : (n b M N : ℕ) (f g : ℕ → Bool) (q : ℕ → ℕ → Bool) (Q : ℕ → ℕ → Type 0) → ((k m : ℕ) → Tells (q k m) (Q k m))
+    → Tells (some (λ k. (leb b k && f k) && some (λ m. (leb (k + M) m && leb m (k + N)) && (g m && q k m)) (suc n)) (suc n))
+    (EndsWithin b M N n Q (λ k. f k ≡ true) (λ m. g m ≡ true))
+end-law n b M N f g q Q law = Iff·trans (some-law (λ k. (leb b k && f k) && some (begin k) (suc n)) (suc n)) (
   λ h.
       let a = outer (h .0) .0 (h .2) in
       let c = some-law (begin (h .0)) (suc n) .0 (a .1) in
       let r = inner (h .0) (c .0) .0 (c .2) in
-      record { k = h .0; m = c .0; after = a .0 .0; early = r .0 .0; late = r .0 .1; upto = omega (arith, c .1); left = a .0 .1; right = r .1 },
+      record { k = h .0; m = c .0; after = a .0 .0; early = r .0 .0; late = r .0 .1; upto = omega (arith, c .1); left = a .0 .1; right = r .1 .0; quiet = r .1 .1 },
   λ h.
       let k = h .k in
       let m = h .m in
-      (k, omega (arith, h .early, h .upto), outer k .1 ((h .after, h .left), some-law (begin k) (suc n) .1 (m, omega (arith, h .upto), inner k m .1 ((h .early, h .late), h .right)))),
+      (k, omega (arith, h .early, h .upto), outer k .1 ((h .after, h .left), some-law (begin k) (suc n) .1 (m, omega (arith, h .upto), inner k m .1 ((h .early, h .late), (h .right, h .quiet))))),
 )
   where
     begin : ℕ → ℕ → Bool
-    begin k m = (leb (k + M) m && leb m (k + N)) && g m
+    begin k m = (leb (k + M) m && leb m (k + N)) && (g m && q k m)
 
     outer : (k : ℕ) → Tells ((leb b k && f k) && some (begin k) (suc n)) (((b ≤ k) × (f k ≡ true)) × (some (begin k) (suc n) ≡ true))
     outer k = and-law (leb b k && f k) (some (begin k) (suc n)) (and-law (leb b k) (f k) (le-law b k) Iff·rfl) Iff·rfl
 
-    inner : (k m : ℕ) → Tells (begin k m) (((k + M ≤ m) × (m ≤ k + N)) × (g m ≡ true))
-    inner k m = and-law (leb (k + M) m && leb m (k + N)) (g m) (within-law (k + M) (k + N) m) Iff·rfl
+    inner : (k m : ℕ) → Tells (begin k m) (((k + M ≤ m) × (m ≤ k + N)) × ((g m ≡ true) × Q k m))
+    inner k m = and-law (leb (k + M) m && leb m (k + N)) (g m && q k m) (within-law (k + M) (k + N) m) (and-law (g m) (q k m) Iff·rfl (law k m))
 
-rule-law : (P : Procedure) (T : Trajectory) (R : ℕ → ℕ → ℕ → Bool) (k : Form) (p b e : ℕ) → (k ≡ Set → Formed (setAt P T p))
+-- no action from 64 on starts
+abbrev pub FewActions : Trajectory → Type 0
+FewActions T = (a t : ℕ) → 64 ≤ a → T .starts a t ≡ false
+
+-- a pause is quiet
+quiet-tells : (T : Trajectory) → FewActions T → (k m : ℕ) → Tells (quietb T k m) (Quiet T k m)
+quiet-tells T few k m = Iff·trans (each-law (λ t. implies (leb k t) (each (λ a. not (T .starts a t)) 64)) m) (
+  λ h a t x y. by-cases (decLt a 64)
+      (λ l. not-true (T .starts a t) (each-law (λ a. not (T .starts a t)) 64 .0 (implies-true (leb k t) _ (h t y) (le-leb k t x)) a l))
+      (λ l. few a t (omega arith)),
+  λ h t l. implied (leb k t) (each (λ a. not (T .starts a t)) 64) (λ e. each-law (λ a. not (T .starts a t)) 64 .1 (λ a b. ap not (h a t (leb-true k t e) l))),
+)
+
+rule-law : (P : Procedure) (T : Trajectory) (R : ℕ → ℕ → ℕ → Bool) → FewActions T → (k : Form) (p b e : ℕ) → (k ≡ Set → Formed (setAt P T p))
     → Tells (ruleb P T R k p b e) (Rule P T (λ q c d. R q c d ≡ true) k p b e)
 unfolding ruleb
-rule-law P T R Act p b e g = Iff·trans
+rule-law P T R few Act p b e g = Iff·trans
     (and-law _ _ Iff·rfl (and-law _ _ (eq-law e (b + T .duration (fieldX P p))) (le-law e (T .last))))
     (λ h. (h .0, h .1 .0, h .1 .1), λ h. (h .0, (h .1, h .2)))
-rule-law P T R Test p b e g = and-law _ _ (eq-law (T .value (fieldX P p) b) holds) (eq-law e b)
-rule-law P T R Sequence p b e g = between (T .last) b (R (fieldX P p) b) (λ m. R (fieldY P p) m e)
-rule-law P T R Choice p b e g = or-law _ _ Iff·rfl Iff·rfl
-rule-law P T R If p b e g = or-law _ _
+rule-law P T R few Test p b e g = and-law _ _ (eq-law (T .value (fieldX P p) b) holds) (eq-law e b)
+rule-law P T R few Sequence p b e g = between (T .last) b (R (fieldX P p) b) (λ m. R (fieldY P p) m e)
+rule-law P T R few Choice p b e g = or-law _ _ Iff·rfl Iff·rfl
+rule-law P T R few If p b e g = or-law _ _
     (and-law _ _ (eq-law (T .value (fieldX P p) b) holds) Iff·rfl)
     (and-law _ _ (eq-law (T .value (fieldX P p) b) fails) Iff·rfl)
-rule-law P T R While p b e g = or-law _ _
+rule-law P T R few While p b e g = or-law _ _
     (and-law _ _ (eq-law (T .value (fieldX P p) b) fails) (eq-law e b))
     (and-law _ _ (eq-law (T .value (fieldX P p) b) holds) (between (T .last) (b + 1) (R (fieldY P p) b) (λ m. R p m e)))
-rule-law P T R StartWindow p b e g = start-law (T .last) e (b + fieldM P p) (b + fieldN P p) (R (fieldX P p) b) (R (fieldY P p))
-rule-law P T R EndWindow p b e g = end-law (T .last) b (fieldM P p) (fieldN P p) (R (fieldX P p) b) (λ m. R (fieldY P p) m e)
-rule-law P T R Set p b e g = set-law R b e (g refl)
-rule-law P T R Reserved p b e g = (λ h. absurd (false≢true h), λ h. absurd h)
+rule-law P T R few StartWindow p b e g = start-law (T .last) e (b + fieldM P p) (b + fieldN P p) (R (fieldX P p) b) (R (fieldY P p))
+rule-law P T R few EndWindow p b e g = end-law (T .last) b (fieldM P p) (fieldN P p) (R (fieldX P p) b) (λ m. R (fieldY P p) m e) (quietb T) (Quiet T) (quiet-tells T few)
+rule-law P T R few Set p b e g = set-law R b e (g refl)
+rule-law P T R few Reserved p b e g = (λ h. absurd (false≢true h), λ h. absurd h)
 
 -- a row before row b of p is fewer steps deep
 nearer : {count n k p q c : ℕ} (b : ℕ) → n < 64 → p < count → p * 64 + (63 - b) < suc k → c ≤ n → Filled p (b + 1) q c → (q < count) × (q * 64 + (63 - c) < k)
 nearer b small h d m (inl f) = (omega arith, omega arith)
 nearer b small h d m (inr f) = (omega (arith, f .0), omega (arith, f .0, f .1))
 
-pub decides : {P : Procedure} {T : Trajectory} → ((p : ℕ) → p < P .count → NodeReadable P T p) → T .last < 64
+pub decides : {P : Procedure} {T : Trajectory} → ((p : ℕ) → p < P .count → NodeReadable P T p) → T .last < 64 → FewActions T
     → (k p b e : ℕ) → p < P .count → b ≤ T .last → p * 64 + (63 - b) < k → (reads k P T p b e ≡ true) ↔ HasReading P T p b e
 unfolding reads
-decides g small zero p b e h l d = absurd (omega arith)
-decides {P} {T} g small (suc k) p b e h l d = Iff·trans (rule-law P T (reads k P T) (formAt P p) p b e (g p h .set)) (
-  λ r. step l .1 (carry P T e (formAt P p) (g p h .lower) l (λ q c e f m. let x = nearer b small h d m f in decides g small k q c e (x .0) m (x .1) .0) r),
-  λ r. carry P T e (formAt P p) (g p h .lower) l (λ q c e f m. let x = nearer b small h d m f in decides g small k q c e (x .0) m (x .1) .1) (step l .0 r),
+decides g small few zero p b e h l d = absurd (omega arith)
+decides {P} {T} g small few (suc k) p b e h l d = Iff·trans (rule-law P T (reads k P T) few (formAt P p) p b e (g p h .set)) (
+  λ r. step l .1 (carry P T e (formAt P p) (g p h .lower) l (λ q c e f m. let x = nearer b small h d m f in decides g small few k q c e (x .0) m (x .1) .0) r),
+  λ r. carry P T e (formAt P p) (g p h .lower) l (λ q c e f m. let x = nearer b small h d m f in decides g small few k q c e (x .0) m (x .1) .1) (step l .0 r),
 )

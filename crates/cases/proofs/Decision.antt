@@ -1,7 +1,7 @@
 -- A test that computes whether node p reads from b to e: the rule of each form over tests. `decides` (Decides.antt) is its law: it tells what
 -- has a reading. Assumes nothing.
 use Prim.Native.Nat.{ℕ, zero, suc, _+_, max}
-use mathlib.Core.Bool.{Bool, true, false, _&&_, _||_}
+use mathlib.Core.Bool.{Bool, true, false, not, _&&_, _||_}
 use mathlib.Core.List.{List, [], _∷_}
 use lib.Dec.{eqb, leb}
 use lib.ListN.{length, getD}
@@ -61,6 +61,10 @@ tried R n (m ∷ ms) f = some (λ x. some (λ y. R m x y && tried R n ms (λ xs 
 unfoldable pub setb : TaskSet → (ℕ → ℕ → ℕ → Bool) → ℕ → ℕ → Bool
 setb s R b e = tried R (suc (s .last)) (s .members) (λ bs es. placingb s b e (entryAt bs) (entryAt es))
 
+-- no action below 64 starts at k ≤ t < m
+abbrev pub quietb : Trajectory → ℕ → ℕ → Bool
+quietb T k m = each (λ t. implies (leb k t) (each (λ a. not (T .starts a t)) 64)) m
+
 -- the rule of each form
 unfoldable pub ruleb : Procedure → Trajectory → (ℕ → ℕ → ℕ → Bool) → Form → ℕ → ℕ → ℕ → Bool
 ruleb P T R Act p b e = T .starts (fieldX P p) b && (eqb e (b + T .duration (fieldX P p)) && leb e (T .last))
@@ -77,7 +81,7 @@ ruleb P T R StartWindow p b e =
     && some (λ k. R (fieldX P p) b k && some (λ l. eqb e (max k l) && R (fieldY P p) m l) (suc e)) (suc e)) (suc (T .last))
 ruleb P T R EndWindow p b e =
     some (λ k. (leb b k && R (fieldX P p) b k)
-    && some (λ m. (leb (k + fieldM P p) m && leb m (k + fieldN P p)) && R (fieldY P p) m e) (suc (T .last))) (suc (T .last))
+    && some (λ m. (leb (k + fieldM P p) m && leb m (k + fieldN P p)) && (R (fieldY P p) m e && quietb T k m)) (suc (T .last))) (suc (T .last))
 ruleb P T R Set p b e = setb (setAt P T p) R b e
 ruleb P T R Reserved p b e = false
 

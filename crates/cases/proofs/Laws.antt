@@ -7,6 +7,9 @@ use mathlib.Core.List.{List, [], _∷_, _++_, List·Memᴰ, List·Memᴰ·head, 
 use native.Mathlib.Omega.{arith}
 use lib.Dec.{eqb, leb}
 use lib.ListN.{length, drop}
+use borrow.Author.Tests.{ne-eqb}
+use Rattle.words.specs.Fields.{startAction}
+use Rattle.words.specs.Scan.{any}
 use Rattle.answers.specs.declared.Refusal.{Refusal}
 use Rattle.answers.specs.declared.Answer.{Answer}
 use Rattle.answers.specs.declared.Answer.the-variants.{Accepted, Refused}
@@ -17,13 +20,13 @@ use Rattle.job.specs.Refusal.{jobRefusal}
 use Rattle.job.specs.Parts.{nodeCount, lastMoment}
 use Rattle.job.proofs.WellFormed.{well-formed}
 use Rattle.theory.specs.Answers.{checkRefusal}
-use Rattle.theory.specs.Trajectory.{planTrajectory, trajectoryOf}
+use Rattle.theory.specs.Trajectory.{isStartOf, planTrajectory, trajectoryOf}
 use Rattle.job.specs.Procedure.{procedureOf}
 use Rattle.reading.specs.Reading.{HasReading}
 use Rattle.model.specs.declared.Triple.{Triple}
 use Rattle.reading.specs.Count.{Distinct, none, more, Read}
 use Rattle.cases.proofs.Decision.{each}
-use Rattle.cases.proofs.Decides.{Tells, and-law, or-law, eq-law, le-law, each-law, decides}
+use Rattle.cases.proofs.Decides.{Tells, and-law, or-law, eq-law, le-law, each-law, FewActions, decides}
 use Rattle.finder.specs.Find.{findRefusal, RootReading, Triples, Outcome, refused, sought, unread as without-reading, read as with-reading}
 use Rattle.finder.proofs.Job.{formed-job}
 use Rattle.finder.proofs.Refusals.{same-row}
@@ -66,12 +69,21 @@ same-words (u ∷ us) (v ∷ vs) h = let (a, b) = both (eqb u v) (sameWords us v
 
 -- ---- a job that is well formed: the test tells the readings, and the listed triples are those that have one
 
+-- a start word names an action below 64
+few-actions : (job starts : List ℕ) → FewActions (planTrajectory job starts)
+unfolding trajectoryOf any
+few-actions job starts a t l = none starts
+  where
+    none : (ws : List ℕ) → any (isStartOf a t) ws ≡ false
+    none [] = refl
+    none (w ∷ ws) = rw (ne-eqb (startAction w) a (λ q. omega arith)) (none ws)
+
 module _ (job starts : List ℕ) (ok : jobRefusal job .number ≡ 0) where
   decided-law : {p b e : ℕ} → p < nodeCount job → b ≤ lastMoment job → Tells (decided job starts p b e) (HasReading (procedureOf job) (planTrajectory job starts) p b e)
   unfolding decided procedureOf trajectoryOf
   decided-law {p} {b} {e} h l =
       let w = well-formed job ok in
-      decides (formed-job job starts w) (omega (arith, w .few-moments)) (nodeCount job * 64) p b e h l (omega arith)
+      decides (formed-job job starts w) (omega (arith, w .few-moments)) (few-actions job starts) (nodeCount job * 64) p b e h l (omega arith)
 
   sound-law : (rs : List Triple) → sound job starts rs ≡ true → (s : Triple) → List·Memᴰ s rs → Read (procedureOf job) (planTrajectory job starts) s
   unfolding sound procedureOf trajectoryOf

@@ -29,7 +29,7 @@ unfoldable pub onMembers : OnReadings → List ℕ → ℕ → ℕ → (List ℕ
 onMembers R ms e zero f = f []
 onMembers R ms e (suc i) f = onMembers R ms e i (λ ws. each (λ x. each (λ y. R whole (getD ms i 0) x y (λ us. f (ws ++ us))) (suc e)) (suc e))
 
--- by the rule of each form; of a set, without asking for its covering and its conditions
+-- by the rule of each form; of a set, without asking for its covering and its conditions, and of an end window for its quiet
 unfoldable pub onForm : Procedure → Trajectory → OnReadings → Form → ℕ → ℕ → ℕ → (List ℕ → Bool) → Bool
 onForm P T R Act p b e f = implies (T .starts (fieldX P p) b && eqb e (b + T .duration (fieldX P p))) (f (readingWord p b e ∷ []))
 onForm P T R Test p b e f = implies (eqb (T .value (fieldX P p) b) holds && eqb e b) (f (readingWord p b e ∷ []))
@@ -140,7 +140,7 @@ module _ (P : Procedure) (T : Trajectory) where
       let y = at (λ c. each (λ d. implies (eqb e (max c d)) (inner m c d)) (suc e)) {m = c} (inside (b + fieldM P p) (b + fieldN P p) m z lo hi) (omega arith) in
       let x = at (λ d. implies (eqb e (max c d)) (inner m c d)) {m = d} y (omega arith) in
       parts R (λ f o p b e ws. on-each k f) f′ (implies-true _ _ x (eq-eqb _ _ g)) l r
-  on-each (suc k) f (endWindow {p = p} {b = b} {k = c} {m = m} {e = e} q l r lo hi) h =
+  on-each (suc k) f (endWindow {p = p} {b = b} {k = c} {m = m} {e = e} q l r lo hi quiet) h =
       let R = onEach k P T in
       let f′ : List ℕ → Bool = λ ws. f (readingWord p b e ∷ ws) in
       let later = onward r in

@@ -18,6 +18,9 @@ use Rattle.reading.specs.Reading.{whole, Reading, act, test, sequence, first, s
 use Rattle.reading.specs.Code.Rule.{Rule}
 use Rattle.reading.proofs.Step.{step, carry}
 use Rattle.reading.proofs.Nodes.{members-lower}
+use Rattle.reading.proofs.Quiet.{quiet-law}
+use Rattle.reading.specs.Code.Quiet.{atOnce}
+use Rattle.reading.specs.declared.pauses.Pause.{Pause}
 use Rattle.extract.specs.Code.Search.{CutAt, StartAt}
 use Rattle.extract.specs.declared.parts.Parts.{Parts}
 use Rattle.extract.specs.Code.Parts.{noParts, onePart, twoParts, PlacedParts, Prepared, Chosen}
@@ -32,7 +35,7 @@ below-one : (F : ℕ → Type 0) → F 0 → (i : ℕ) → i < 1 → F i
 below-one F a zero l = a
 below-one F a (suc i) l = absurd (omega arith)
 
-module _ {P : Procedure} {T : Trajectory} {size : ℕ} {places table : List ℕ} (s : Prepared P T size places table)
+module _ {P : Procedure} {T : Trajectory} {started size : ℕ} {places table : List ℕ} (s : Prepared P T started size places table)
     {p b e : ℕ} (node : p < P .count) (begin : b ≤ T .last) (here : InTable table p b e) where
   abbrev Reads : ℕ → ℕ → ℕ → List ℕ → Type 0
   Reads = Reading P T whole
@@ -127,14 +130,14 @@ module _ {P : Procedure} {T : Trajectory} {size : ℕ} {places table : List ℕ}
       }
 
   module _ {x y : ℕ} (f : formAt P p ≡ Sequence) (ex : x ≡ fieldX P p) (ey : y ≡ fieldY P p) where
-    pub sequence-some : (k : ℕ) × (m : ℕ) × CutAt table x y b e 0 0 b k m
+    pub sequence-some : (k : ℕ) × (m : ℕ) × CutAt table x y b e atOnce b k m
     sequence-some =
         let r = rule Sequence f in
         let l = r .upto in
         let small = s .ready .moments in
-        (r .m, r .m, record { after = r .early; end = omega arith; early = omega arith; late = omega arith; begin = omega arith; ends = rw ex (r .left); begins = rw ey (r .right) })
+        (r .m, r .m, record { after = r .early; end = omega arith; early = omega arith; late = omega arith; quiet = λ t i j. absurd (omega arith); begin = omega arith; ends = rw ex (r .left); begins = rw ey (r .right) })
 
-    pub sequence-chosen : {k m : ℕ} → CutAt table x y b e 0 0 b k m → Chosen P T table p b e (twoParts x b k y m e)
+    pub sequence-chosen : {k m : ℕ} → CutAt table x y b e atOnce b k m → Chosen P T table p b e (twoParts x b k y m e)
     sequence-chosen {k} {m} c =
         let (lx, (ly, none)) = lowers Sequence f in
         let h = c .early in
@@ -143,19 +146,23 @@ module _ {P : Procedure} {T : Trajectory} {size : ℕ} {places table : List ℕ}
         chosen-two (omega arith) (omega arith) (c .ends) (c .begins) (moment _ _ _ (c .begin) (c .begins)) (λ us vs r t. sequence f (rw ex at r) (rw (ey, q) at t))
 
   module _ {x y least most : ℕ} (f : formAt P p ≡ EndWindow) (ex : x ≡ fieldX P p) (ey : y ≡ fieldY P p) (em : least ≡ fieldM P p) (en : most ≡ fieldN P p) where
-    pub end-some : (k : ℕ) × (m : ℕ) × CutAt table x y b e least most b k m
+    -- the pause of the window
+    abbrev pub paused : Pause
+    paused = record { least = least; most = most; started = started }
+
+    pub end-some : (k : ℕ) × (m : ℕ) × CutAt table x y b e paused b k m
     end-some =
         let r = rule EndWindow f in
         let l = r .upto in
         let g = r .early in
         let small = s .ready .moments in
-        (r .k, r .m, record { after = r .after; end = omega arith; early = rw em g; late = rw en (r .late); begin = omega arith; ends = rw ex (r .left); begins = rw ey (r .right) })
+        (r .k, r .m, record { after = r .after; end = omega arith; early = rw em g; late = rw en (r .late); quiet = quiet-law T (s .any) (r .k) (r .m) .1 (r .quiet); begin = omega arith; ends = rw ex (r .left); begins = rw ey (r .right) })
 
-    pub end-chosen : {k m : ℕ} → CutAt table x y b e least most b k m → Chosen P T table p b e (twoParts x b k y m e)
-    end-chosen c =
+    pub end-chosen : {k m : ℕ} → CutAt table x y b e paused b k m → Chosen P T table p b e (twoParts x b k y m e)
+    end-chosen {k} {m} c =
         let (lx, (ly, none)) = lowers EndWindow f in
         chosen-two (omega arith) (omega arith) (c .ends) (c .begins) (moment _ _ _ (c .begin) (c .begins))
-        (λ us vs r t. endWindow f (rw ex at r) (rw ey at t) (rw em at (c .early)) (rw en at (c .late)))
+        (λ us vs r t. endWindow f (rw ex at r) (rw ey at t) (rw em at (c .early)) (rw en at (c .late)) (quiet-law T (s .any) k m .0 (c .quiet)))
 
   module _ {x y least most : ℕ} (f : formAt P p ≡ StartWindow) (ex : x ≡ fieldX P p) (ey : y ≡ fieldY P p) (em : least ≡ fieldM P p) (en : most ≡ fieldN P p) where
     pub start-some : (k : ℕ) × (m : ℕ) × (l : ℕ) × StartAt table x y b e least most k m l

@@ -16,6 +16,8 @@ use Rattle.words.proofs.Choices.{both-true}
 use Rattle.bitset.proofs.Bools.{not-both, both}
 use Rattle.bitset.proofs.Digits.{has-zero, has-past}
 use Rattle.bitset.proofs.Ends.{lowest-le}
+use Rattle.reading.specs.Code.Quiet.{QuietUpto}
+use Rattle.reading.specs.declared.pauses.Pause.{Pause}
 use Rattle.extract.specs.Code.Search.{Meets, FirstMeets, CutAt, EndPair, StartAt}
 
 -- ---- a begin that meets
@@ -82,14 +84,14 @@ module _ {table : List ℕ} {x y b e least most m : ℕ} where
 -- ---- a cut
 
 -- what is left are ends of x from `from` on, and every cut is at one of them
-pub record Left (table : List ℕ) (x y b e least most from left : ℕ) : Type 0 where
+pub record Left (table : List ℕ) (x y b e : ℕ) (pause : Pause) (from left : ℕ) : Type 0 where
   pub end : (k : ℕ) → In left k → InTable table x b k
   pub after : (k : ℕ) → In left k → from ≤ k
-  pub all : (k m : ℕ) → CutAt table x y b e least most from k m → In left k
+  pub all : (k m : ℕ) → CutAt table x y b e pause from k m → In left k
 
-module _ {table : List ℕ} {x y b e least most from : ℕ} where
+module _ {table : List ℕ} {x y b e from : ℕ} {pause : Pause} where
   pub left-start : (f : ℕ) {left : ℕ} → IsSetOf f (λ k. leb from k && ltb k 64) → IsSetOf left (λ k. has (rowAt table x b) k && has f k)
-      → Left table x y b e least most from left
+      → Left table x y b e pause from left
   left-start f {left} F L =
       record {
         end = λ k h. record { yes = both-true (has (rowAt table x b) k) (has f k) (sym (L k) ∙ h .yes) .0 };
@@ -97,22 +99,25 @@ module _ {table : List ℕ} {x y b e least most from : ℕ} where
         all = λ k m c. record { yes = L k ∙ both (c .ends .yes) (F k ∙ both (le-leb from k (c .after)) (lt-ltb k 64 (c .end))) };
       }
 
-  module _ {left k m : ℕ} (l : Left table x y b e least most from left) (first : Lowest left k) (f : FirstMeets 1 table y (k + least) (k + most) e m) where
-    pub left-found : m < 64 → CutAt table x y b e least most from k m
+  module _ {left k end m : ℕ} (l : Left table x y b e pause from left) (first : Lowest left k) (u : QuietUpto (pause .started) k (k + pause .most) end)
+      (f : FirstMeets 1 table y (k + pause .least) end e m) where
+    pub left-found : m < 64 → CutAt table x y b e pause from k m
     left-found h =
         let g = f .found h in
+        let (late, quiet) = u .at m .0 (g .upto) in
         let here : In left k = record { yes = first .member } in
         record {
           after = l .after k here;
           end = first .below;
           early = g .from;
-          late = g .upto;
+          late = late;
+          quiet = quiet;
           begin = h;
           ends = l .end k here;
           begins = alone-in (g .max);
         }
 
-    pub left-turn : {left′ : ℕ} → 64 ≤ m → Dropped left left′ → Left table x y b e least most from left′
+    pub left-turn : {left′ : ℕ} → 64 ≤ m → Dropped left left′ → Left table x y b e pause from left′
     left-turn {left′} h d =
         record {
           end = λ j i. l .end j (old j i);
@@ -124,9 +129,9 @@ module _ {table : List ℕ} {x y b e least most from : ℕ} where
         old : (j : ℕ) → In left′ j → In left j
         old j i = record { yes = both-true (has left j) (not (eqb j k)) (sym (d .rest k first j) ∙ i .yes) .0 }
 
-        meets : (j i : ℕ) → j ≡ k → CutAt table x y b e least most from j i → Meets 1 table y (k + least) (k + most) e i
+        meets : (j i : ℕ) → j ≡ k → CutAt table x y b e pause from j i → Meets 1 table y (k + pause .least) end e i
         meets j i q c = let early = c .early in let late = c .late in
-            record { from = omega arith; upto = omega arith; moment = c .begin; max = in-alone (c .begins) }
+            record { from = omega arith; upto = u .at i .1 (omega arith, rw q at (c .quiet)); moment = c .begin; max = in-alone (c .begins) }
 
-  pub left-none : {left k m : ℕ} → Left table x y b e least most from left → left ≡ 0 → CutAt table x y b e least most from k m → ⊥
+  pub left-none : {left k m : ℕ} → Left table x y b e pause from left → left ≡ 0 → CutAt table x y b e pause from k m → ⊥
   left-none {k = k} {m = m} l z c = not-both (ap (λ (w : ℕ). has w k) (sym z) ∙ l .all k m c .yes) (has-zero k)

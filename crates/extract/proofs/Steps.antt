@@ -21,6 +21,7 @@ use Rattle.model.specs.Forms.{Form, While, formAt, fieldY}
 use Rattle.model.specs.declared.Triple.{Triple}
 use Rattle.reading.specs.Reading.{whole, passes, Reading, act, test, sequence, first, second, taken, otherwise, loop, done, pass, startWindow, endWindow, set}
 use Rattle.reading.proofs.Step.{onward}
+use Rattle.reading.specs.Code.Quiet.{atOnce}
 use Rattle.lengths.specs.Code.Bound.{isWhile}
 use Rattle.extract.specs.declared.parts.Parts.{Parts}
 use Rattle.extract.specs.Code.Parts.{Prepared, Choosable, Chosen, nodeOf, beginOf, endOf, partOf}
@@ -41,7 +42,7 @@ nonempty (taken f t y) = omega arith
 nonempty (otherwise f t y) = omega arith
 nonempty (loop f r) = omega arith
 nonempty (startWindow f x y g h d) = omega arith
-nonempty (endWindow f x y g h) = omega arith
+nonempty (endWindow f x y g h q) = omega arith
 nonempty (set f rs pl) = omega arith
 
 -- a form is not another
@@ -60,7 +61,7 @@ loop-of {P} {p = p} g (taken f t y) = other (formAt P p) f g refl refl
 loop-of {P} {p = p} g (otherwise f t y) = other (formAt P p) f g refl refl
 loop-of g (loop f r) = (_, r)
 loop-of {P} {p = p} g (startWindow f x y l h d) = other (formAt P p) f g refl refl
-loop-of {P} {p = p} g (endWindow f x y l h) = other (formAt P p) f g refl refl
+loop-of {P} {p = p} g (endWindow f x y l h q) = other (formAt P p) f g refl refl
 loop-of {P} {p = p} g (set f rs pl) = other (formAt P p) f g refl refl
 
 pub no-pass : {P : Procedure} {T : Trajectory} {p b e : ℕ} {ws : List ℕ} → e ≤ b → Reading P T passes p b e ws → ws ≡ []
@@ -110,19 +111,19 @@ pub record Halfway (P : Procedure) (T : Trajectory) (table : List ℕ) (t : Trip
   pub begin : m ≤ T .last
   pub ahead : InTable table (t .node) m (t .end)
 
-module _ {P : Procedure} {T : Trajectory} {job : ℕ} {places table : List ℕ} (s : Prepared P T job places table) where
+module _ {P : Procedure} {T : Trajectory} {started job : ℕ} {places table : List ℕ} (s : Prepared P T started job places table) where
   -- what the table says is read
   read : {p b e : ℕ} → p < P .count → b ≤ T .last → InTable table p b e → (ws : List ℕ) × Reading P T whole p b e ws
   read {p} {b} {e} l h t = s .found .right p b e l h .0 t .1
 
 -- a longer buffer, or another name of its length
-pub resize : {P : Procedure} {T : Trajectory} {job : ℕ} {places table : List ℕ} {t : Triple} {at size size′ : ℕ} {R : Procedure → Trajectory → Triple → List ℕ → Type 0}
-    → size′ ≡ size → Writable R P T job places table t at size → Writable R P T job places table t at size′
+pub resize : {P : Procedure} {T : Trajectory} {started job : ℕ} {places table : List ℕ} {t : Triple} {at size size′ : ℕ} {R : Procedure → Trajectory → Triple → List ℕ → Type 0}
+    → size′ ≡ size → Writable R P T started job places table t at size → Writable R P T started job places table t at size′
 resize h s = rw h s
 
 -- nodes and moments are below 64, and the node's word is there
-module _ {P : Procedure} {T : Trajectory} {job : ℕ} {places table : List ℕ} {t : Triple} {at size : ℕ} {R : Procedure → Trajectory → Triple → List ℕ → Type 0}
-    (s : Writable R P T job places table t at size) where
+module _ {P : Procedure} {T : Trajectory} {started job : ℕ} {places table : List ℕ} {t : Triple} {at size : ℕ} {R : Procedure → Trajectory → Triple → List ℕ → Type 0}
+    (s : Writable R P T started job places table t at size) where
   pub moments : (t .node < 64) × (t .begin < 64) × (t .end < 64)
   moments =
       let few = s .prepared .ready .few in
@@ -136,18 +137,18 @@ module _ {P : Procedure} {T : Trajectory} {job : ℕ} {places table : List ℕ} 
   place-inside = s .prepared .ready .inside (t .node) (s .known)
 
   -- its parts can be chosen, where it is no loop
-  pub choosable : (formAt P (t .node) ≡ While → ⊥) → Choosable P T job places table t
+  pub choosable : (formAt P (t .node) ≡ While → ⊥) → Choosable P T started job places table t
   choosable other = record { prepared = s .prepared; known = s .known; within = s .within; found = s .found; other = other }
 
 -- ---- the node's own word
 
-module _ {P : Procedure} {T : Trajectory} {job : ℕ} {places table : List ℕ} {t : Triple} {at size : ℕ} (s : Writable Full P T job places table t at size) where
+module _ {P : Procedure} {T : Trajectory} {started job : ℕ} {places table : List ℕ} {t : Triple} {at size : ℕ} (s : Writable Full P T started job places table t at size) where
   pub has-room : at + 1 ≤ size
   has-room =
       let r = read (s .prepared) (s .known) (s .within) (s .found) in
       omega (arith, s .room (r .0) (r .1), nonempty (r .1))
 
-  pub headed : Writable Rest P T job places table t (at + 1) size
+  pub headed : Writable Rest P T started job places table t (at + 1) size
   headed = record {
     prepared = s .prepared;
     known = s .known;
@@ -156,7 +157,7 @@ module _ {P : Procedure} {T : Trajectory} {job : ℕ} {places table : List ℕ} 
     room = λ ws r. omega (arith, s .room (readingWord (t .node) (t .begin) (t .end) ∷ ws) r);
   }
 
-module _ {P : Procedure} {T : Trajectory} {job : ℕ} {places table : List ℕ} {t : Triple} {at size : ℕ} (s : Writable Rest P T job places table t at size) where
+module _ {P : Procedure} {T : Trajectory} {started job : ℕ} {places table : List ℕ} {t : Triple} {at size : ℕ} (s : Writable Rest P T started job places table t at size) where
   -- ---- parts
 
   module _ {r : Parts} (c : Chosen P T table (t .node) (t .begin) (t .end) r) where
@@ -184,7 +185,7 @@ module _ {P : Procedure} {T : Trajectory} {job : ℕ} {places table : List ℕ} 
         (us ++ vs, rw append-assoc at y)
 
     module _ {before buf : List ℕ} {i end : ℕ} (l : i < r .count) (w : ReadingWritten (Done P T r i) before at buf end) where
-      pub part-child : Writable Full P T job places table (partOf r i) end size
+      pub part-child : Writable Full P T started job places table (partOf r i) end size
       part-child = record {
         prepared = s .prepared;
         known = let n = c .lower i l in let m = s .known in omega arith;
@@ -225,7 +226,7 @@ module _ {P : Procedure} {T : Trajectory} {job : ℕ} {places table : List ℕ} 
     pass-start l = record { written = written-none l at (λ vs r. r); begin = s .within; ahead = s .found }
 
     module _ {before buf : List ℕ} {m here : ℕ} (h : Halfway P T table t before at m buf here) where
-      pub pass-some : {y : ℕ} → y ≡ fieldY P (t .node) → m < t .end → (k : ℕ) × (i : ℕ) × CutAt table y (t .node) m (t .end) 0 0 (m + 1) k i
+      pub pass-some : {y : ℕ} → y ≡ fieldY P (t .node) → m < t .end → (k : ℕ) × (i : ℕ) × CutAt table y (t .node) m (t .end) atOnce (m + 1) k i
       pass-some {y} q l =
           let (us, r) = from (h .begin) (h .ahead) in
           let (k, xs, vs, g, x, rest) = first-pass l r in
@@ -240,13 +241,14 @@ module _ {P : Procedure} {T : Trajectory} {job : ℕ} {places table : List ℕ} 
               end = omega arith;
               early = omega arith;
               late = omega arith;
+              quiet = λ t i j. absurd (omega arith);
               begin = omega arith;
               ends = rw q (right (fieldY P (t .node)) m k body-node (h .begin) .1 (omega arith, (xs, x)));
               begins = right (t .node) k (t .end) (s .known) (omega arith) .1 (n, (_, loop f rest));
             },
           )
 
-      pub pass-ready : {y : ℕ} → y ≡ fieldY P (t .node) → m < t .end → CutReady table y (t .node) m (t .end) 0 0 (m + 1)
+      pub pass-ready : {y : ℕ} → y ≡ fieldY P (t .node) → m < t .end → CutReady table y (t .node) m (t .end) atOnce (m + 1)
       pass-ready q l =
           let (node, begin, finish) = moments s in
           let lower = body-lower in
@@ -257,7 +259,7 @@ module _ {P : Procedure} {T : Trajectory} {job : ℕ} {places table : List ℕ} 
             some = pass-some q l;
           }
 
-      module _ {y k i : ℕ} (q : y ≡ fieldY P (t .node)) (l : m < t .end) (c : CutAt table y (t .node) m (t .end) 0 0 (m + 1) k i) where
+      module _ {y k i : ℕ} (q : y ≡ fieldY P (t .node)) (l : m < t .end) (c : CutAt table y (t .node) m (t .end) atOnce (m + 1) k i) where
         same : i ≡ k
         same = let a = c .early in let z = c .late in omega arith
 
@@ -270,7 +272,7 @@ module _ {P : Procedure} {T : Trajectory} {job : ℕ} {places table : List ℕ} 
             let g = c .after in
             rw append-assoc (w (us ++ vs) (holds-at l (from (h .begin) (h .ahead) .1) k us vs (omega arith) (rw q at x) r))
 
-        pub pass-child : Writable Full P T job places table (record { node = y; begin = m; end = k }) here size
+        pub pass-child : Writable Full P T started job places table (record { node = y; begin = m; end = k }) here size
         pass-child = record {
           prepared = s .prepared;
           known = rw q body-node;

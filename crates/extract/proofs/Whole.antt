@@ -17,11 +17,11 @@ use Rattle.extract.specs.Code.Parts.{Prepared}
 use Rattle.extract.specs.Code.Contract.{Full, Writable, ReadingWritten, Emittable, Emitted}
 use Rattle.extract.proofs.Written.{written-parts}
 
-module _ {P : Procedure} {T : Trajectory} {job : ℕ} {places table : List ℕ} {size : ℕ} (s : Emittable P T job places table size) where
+module _ {P : Procedure} {T : Trajectory} {started job : ℕ} {places table : List ℕ} {size : ℕ} (s : Emittable P T started job places table size) where
   root-le : {ws : List ℕ} → Reading P T whole (P .count - 1) 0 (T .last) ws → length ws ≤ lengthBound P (T .last)
   root-le r = let some = s .some in length-le (lower (s .prepared .ready .formed)) (s .once) (T .last) (omega arith) r (le-refl (T .last))
 
-  pub emit-writable : Writable Full P T job places table (record { node = P .count - 1; begin = 0; end = T .last }) 0 size
+  pub emit-writable : Writable Full P T started job places table (record { node = P .count - 1; begin = 0; end = T .last }) 0 size
   emit-writable =
       let some = s .some in
       record { prepared = s .prepared; known = omega arith; within = omega arith; found = s .found; room = λ ws r. omega (arith, root-le r, s .room) }
@@ -39,8 +39,8 @@ module _ {P : Procedure} {T : Trajectory} {job : ℕ} {places table : List ℕ} 
       }
 
 -- 4,032 words are room enough
-pub emittable : {P : Procedure} {T : Trajectory} {job : ℕ} {places table : List ℕ} {size : ℕ} → Prepared P T job places table
-    → NamedOnce P → 0 < P .count → InTable table (P .count - 1) 0 (T .last) → 4032 ≤ size → Emittable P T job places table size
+pub emittable : {P : Procedure} {T : Trajectory} {started job : ℕ} {places table : List ℕ} {size : ℕ} → Prepared P T started job places table
+    → NamedOnce P → 0 < P .count → InTable table (P .count - 1) 0 (T .last) → 4032 ≤ size → Emittable P T started job places table size
 emittable {P} {T} s once some found room =
     record {
       prepared = s;

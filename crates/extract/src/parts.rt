@@ -11,6 +11,9 @@ ghost use Rattle.extract.specs.Code.Search.{Within, CutAt, CutReady, Sta
 ghost use Rattle.extract.specs.Code.Parts.{noParts, onePart, twoParts, PlacedParts, Unseen, ChoosableBy, ChosenBy};
 use crate::search;
 use model::Triple;
+use reading::pauses::Moments;
+use reading::pauses::Pause;
+use reading::pauses::at_once;
 use words::MOMENTS;
 
 pub struct Parts {
@@ -55,20 +58,12 @@ fn two(x: usize, b: usize, k: usize, y: usize, m: usize, l: usize) -> Parts
     }
 }
 
-// Forms 2 and 7: x, and `least` to `most` after its end y.
-fn end_window_parts(
-    table: &[u64],
-    x: usize,
-    y: usize,
-    least: usize,
-    most: usize,
-    b: usize,
-    e: usize,
-) -> Parts
-    requires { ⌜ CutReady (now table) x y b e least most b ⌝ }
-    ensures { λ r. ⌜ ((k : ℕ) × (m : ℕ) × CutAt (now (table .entry)) x y b e least most b k m × (r ≡ twoParts x b k y m e)) ⌝ }
+// Forms 2 and 7: x, and y a pause after its end.
+fn end_window_parts(table: &[u64], x: usize, y: usize, pause: Pause, b: usize, e: usize) -> Parts
+    requires { ⌜ CutReady (now table) x y b e pause b ⌝ }
+    ensures { λ r. ⌜ ((k : ℕ) × (m : ℕ) × CutAt (now (table .entry)) x y b e pause b k m × (r ≡ twoParts x b k y m e)) ⌝ }
 {
-    let c = search::cut(table, x, y, b, e, least, most, b);
+    let c = search::cut(table, x, y, b, e, pause, b);
     two(x, b, c.first, y, c.second, e)
 }
 
@@ -169,13 +164,13 @@ pub fn choose_parts(
     words: &[u32],
     places: &[usize; 64],
     values: &[u8; 4096],
-    last: usize,
+    moments: Moments,
     table: &[u64],
     triple: Triple,
 ) -> Parts
-    requires { ⌜ ((u : Unseen) × ChoosableBy (now words) (now places) (now values) last (now table) triple u) ⌝ }
-    ensures { λ r. ⌜ ((u : Unseen) → ChoosableBy (now (words .entry)) (now (places .entry)) (now (values .entry)) last (now (table .entry)) triple u
-        → ChosenBy (now (words .entry)) (now (places .entry)) (now (values .entry)) last (now (table .entry)) triple r u) ⌝ }
+    requires { ⌜ ((u : Unseen) × ChoosableBy (now words) (now places) (now values) moments (now table) triple u) ⌝ }
+    ensures { λ r. ⌜ ((u : Unseen) → ChoosableBy (now (words .entry)) (now (places .entry)) (now (values .entry)) moments (now (table .entry)) triple u
+        → ChosenBy (now (words .entry)) (now (places .entry)) (now (values .entry)) moments (now (table .entry)) triple r u) ⌝ }
 {
     let p = triple.node;
     let b = triple.begin;
@@ -189,14 +184,25 @@ pub fn choose_parts(
     match words::form_of(word) {
         0 => none(),
         1 => none(),
-        2 => end_window_parts(table, x, y, 0, 0, b, e),
+        2 => end_window_parts(table, x, y, at_once(), b, e),
         3 => choice_part(table, x, y, b, e),
         4 => if_part(values[x * MOMENTS + b], y, m, b, e),
         // a loop's passes are found one at a time
         5 => none(),
         6 => start_window_parts(table, x, y, m, most, b, e),
-        7 => end_window_parts(table, x, y, m, most, b, e),
-        8 => set_parts(words, place, values, last, table, b, e),
+        7 => end_window_parts(
+            table,
+            x,
+            y,
+            Pause {
+                least: m,
+                most,
+                started: moments.started,
+            },
+            b,
+            e,
+        ),
+        8 => set_parts(words, place, values, moments.last, table, b, e),
         // reserved: refused in a job, and nothing reads such a node
         9.. => none(),
     }

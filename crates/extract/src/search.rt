@@ -5,6 +5,8 @@ ghost use Prim.Native.Nat.{_<_};
 ghost use Rattle.bitset.specs.Code.Members.{Max};
 ghost use Rattle.model.specs.Code.Table.{InTable};
 ghost use Rattle.extract.specs.Code.Search.{Within, MeetReady, FirstMeets, CutAt, CutReady, EndPair};
+use reading::pauses::Pause;
+use reading::pauses::quiet_upto;
 use words::MOMENTS;
 
 // Two moments.
@@ -32,26 +34,18 @@ pub fn meeting(xs: u64, table: &[u64], y: usize, first: usize, end: usize, e: us
     64
 }
 
-// The first end of x, begun at b, from `from` on, after which y can begin, `least` to `most` later, and end at e, and the first such
-// begin. There is one. The ends of x are walked by trailing zeros, the lowest first.
-pub fn cut(
-    table: &[u64],
-    x: usize,
-    y: usize,
-    b: usize,
-    e: usize,
-    least: usize,
-    most: usize,
-    from: usize,
-) -> Pair
-    requires { ⌜ CutReady (now table) x y b e least most from ⌝ }
-    ensures { λ r. ⌜ CutAt (now (table .entry)) x y b e least most from (r .first) (r .second) ⌝ }
+// The first end of x, begun at b, from `from` on, after which y can begin, a pause later, and end at e, and the first such begin. There is
+// one. The ends of x are walked by trailing zeros, the lowest first.
+pub fn cut(table: &[u64], x: usize, y: usize, b: usize, e: usize, pause: Pause, from: usize) -> Pair
+    requires { ⌜ CutReady (now table) x y b e pause from ⌝ }
+    ensures { λ r. ⌜ CutAt (now (table .entry)) x y b e pause from (r .first) (r .second) ⌝ }
 {
     let mut left = bitset::inter(table[x * MOMENTS + b], bitset::from(from as u32));
     while left != 0 {
         let k = bitset::lowest(left) as usize;
+        let end = quiet_upto(pause.started, k, k + pause.most);
         // the set of 0 alone: y's end is the greater one
-        let m = meeting(1, table, y, k + least, k + most, e);
+        let m = meeting(1, table, y, k + pause.least, end, e);
         if m < 64 {
             return Pair {
                 first: k,

@@ -8,20 +8,22 @@ ghost use Rattle.extract.specs.Code.Contract.{Full, Rest, WritableBy, Re
 use crate::parts;
 use crate::search;
 use model::Triple;
+use reading::pauses::Moments;
+use reading::pauses::at_once;
 
 // Writes a reading of the triple into the buffer from `at` on, and returns the place after it.
 pub fn write_reading(
     words: &[u32],
     places: &[usize; 64],
     values: &[u8; 4096],
-    last: usize,
+    moments: Moments,
     table: &[u64],
     triple: Triple,
     at: usize,
     buffer: &mut [u32],
 ) -> usize
-    requires { ⌜ ((u : Unseen) × WritableBy Full (now words) (now places) (now values) last (now table) triple at (length (now buffer)) u) ⌝ }
-    ensures { λ r. ⌜ ((u : Unseen) → WritableBy Full (now (words .entry)) (now (places .entry)) (now (values .entry)) last (now (table .entry)) triple at (length (now (buffer .entry))) u → ReadingWritten (Full (procedureBy (now (words .entry)) (now (places .entry)) u) (trajectoryBy (now (values .entry)) last u) triple) (now (buffer .entry)) at (now (buffer .exit)) r) ⌝ }
+    requires { ⌜ ((u : Unseen) × WritableBy Full (now words) (now places) (now values) moments (now table) triple at (length (now buffer)) u) ⌝ }
+    ensures { λ r. ⌜ ((u : Unseen) → WritableBy Full (now (words .entry)) (now (places .entry)) (now (values .entry)) moments (now (table .entry)) triple at (length (now (buffer .entry))) u → ReadingWritten (Full (procedureBy (now (words .entry)) (now (places .entry)) u) (trajectoryBy (now (values .entry)) moments u) triple) (now (buffer .entry)) at (now (buffer .exit)) r) ⌝ }
 {
     let p = triple.node;
     let b = triple.begin;
@@ -29,9 +31,27 @@ pub fn write_reading(
     buffer[at] = words::reading_word(p, b, e);
     let place = places[p];
     if words::form_of(words[place]) == 5 {
-        return write_passes(words, places, values, last, table, triple, at + 1, buffer);
+        return write_passes(
+            words,
+            places,
+            values,
+            moments,
+            table,
+            triple,
+            at + 1,
+            buffer,
+        );
     }
-    write_parts(words, places, values, last, table, triple, at + 1, buffer)
+    write_parts(
+        words,
+        places,
+        values,
+        moments,
+        table,
+        triple,
+        at + 1,
+        buffer,
+    )
 }
 
 // Writes the parts of the node, which is no loop.
@@ -39,16 +59,16 @@ fn write_parts(
     words: &[u32],
     places: &[usize; 64],
     values: &[u8; 4096],
-    last: usize,
+    moments: Moments,
     table: &[u64],
     triple: Triple,
     at: usize,
     buffer: &mut [u32],
 ) -> usize
-    requires { ⌜ ((u : Unseen) × WritableBy Rest (now words) (now places) (now values) last (now table) triple at (length (now buffer)) u × (formAt (procedureBy (now words) (now places) u) (triple .node) ≡ While → ⊥)) ⌝ }
-    ensures { λ r. ⌜ ((u : Unseen) → WritableBy Rest (now (words .entry)) (now (places .entry)) (now (values .entry)) last (now (table .entry)) triple at (length (now (buffer .entry))) u → (formAt (procedureBy (now (words .entry)) (now (places .entry)) u) (triple .node) ≡ While → ⊥) → ReadingWritten (Rest (procedureBy (now (words .entry)) (now (places .entry)) u) (trajectoryBy (now (values .entry)) last u) triple) (now (buffer .entry)) at (now (buffer .exit)) r) ⌝ }
+    requires { ⌜ ((u : Unseen) × WritableBy Rest (now words) (now places) (now values) moments (now table) triple at (length (now buffer)) u × (formAt (procedureBy (now words) (now places) u) (triple .node) ≡ While → ⊥)) ⌝ }
+    ensures { λ r. ⌜ ((u : Unseen) → WritableBy Rest (now (words .entry)) (now (places .entry)) (now (values .entry)) moments (now (table .entry)) triple at (length (now (buffer .entry))) u → (formAt (procedureBy (now (words .entry)) (now (places .entry)) u) (triple .node) ≡ While → ⊥) → ReadingWritten (Rest (procedureBy (now (words .entry)) (now (places .entry)) u) (trajectoryBy (now (values .entry)) moments u) triple) (now (buffer .entry)) at (now (buffer .exit)) r) ⌝ }
 {
-    let parts = parts::choose_parts(words, places, values, last, table, triple);
+    let parts = parts::choose_parts(words, places, values, moments, table, triple);
     let number = parts.count;
     let nodes = parts.nodes;
     let begins = parts.begins;
@@ -61,7 +81,7 @@ fn write_parts(
             begin: begins[i] as usize,
             end: ends[i] as usize,
         };
-        end = write_reading(words, places, values, last, table, part, end, buffer);
+        end = write_reading(words, places, values, moments, table, part, end, buffer);
         i += 1;
     }
     end
@@ -72,14 +92,14 @@ fn write_passes(
     words: &[u32],
     places: &[usize; 64],
     values: &[u8; 4096],
-    last: usize,
+    moments: Moments,
     table: &[u64],
     triple: Triple,
     at: usize,
     buffer: &mut [u32],
 ) -> usize
-    requires { ⌜ ((u : Unseen) × WritableBy Rest (now words) (now places) (now values) last (now table) triple at (length (now buffer)) u × (formAt (procedureBy (now words) (now places) u) (triple .node) ≡ While)) ⌝ }
-    ensures { λ r. ⌜ ((u : Unseen) → WritableBy Rest (now (words .entry)) (now (places .entry)) (now (values .entry)) last (now (table .entry)) triple at (length (now (buffer .entry))) u → formAt (procedureBy (now (words .entry)) (now (places .entry)) u) (triple .node) ≡ While → ReadingWritten (Rest (procedureBy (now (words .entry)) (now (places .entry)) u) (trajectoryBy (now (values .entry)) last u) triple) (now (buffer .entry)) at (now (buffer .exit)) r) ⌝ }
+    requires { ⌜ ((u : Unseen) × WritableBy Rest (now words) (now places) (now values) moments (now table) triple at (length (now buffer)) u × (formAt (procedureBy (now words) (now places) u) (triple .node) ≡ While)) ⌝ }
+    ensures { λ r. ⌜ ((u : Unseen) → WritableBy Rest (now (words .entry)) (now (places .entry)) (now (values .entry)) moments (now (table .entry)) triple at (length (now (buffer .entry))) u → formAt (procedureBy (now (words .entry)) (now (places .entry)) u) (triple .node) ≡ While → ReadingWritten (Rest (procedureBy (now (words .entry)) (now (places .entry)) u) (trajectoryBy (now (values .entry)) moments u) triple) (now (buffer .entry)) at (now (buffer .exit)) r) ⌝ }
 {
     let p = triple.node;
     let b = triple.begin;
@@ -89,14 +109,14 @@ fn write_passes(
     let mut m = b;
     let mut end = at;
     while m < e {
-        let c = search::cut(table, y, p, m, e, 0, 0, m + 1);
+        let c = search::cut(table, y, p, m, e, at_once(), m + 1);
         let k = c.first;
         let pass = Triple {
             node: y,
             begin: m,
             end: k,
         };
-        end = write_reading(words, places, values, last, table, pass, end, buffer);
+        end = write_reading(words, places, values, moments, table, pass, end, buffer);
         m = k;
     }
     end

@@ -81,7 +81,7 @@ module _ {P : Procedure} (low : Lower P) (once : NamedOnce P) (n : ℕ) where
       let hx = onward x in
       let hy = onward y in
       rw length-append (omega (arith, light StartWindow f l t, light-le x lx tx (omega arith), light-le y ly ty (omega arith)))
-  light-le {p = p} (endWindow f x y g k) l t h =
+  light-le {p = p} (endWindow f x y g k q) l t h =
       let (lx, tx) = free EndWindow f l t refl _ (times-first (fieldX P p) (fieldY P p ∷ [])) in
       let (ly, ty) = free EndWindow f l t refl _ (times-second (fieldX P p) (fieldY P p) []) in
       let hx = onward x in

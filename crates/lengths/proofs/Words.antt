@@ -82,7 +82,7 @@ module _ {P : Procedure} (low : Lower P) where
       let hx = onward x in
       let hy = onward y in
       rw length-append (two _ _ _ _ _ _ _ _ s (le-max-left 1 (e - b)) (longer (omega arith)) (longer (omega arith)) (words-le x (l .0)) (words-le y (l .1 .0)))
-  words-le {b = b} {e = e} (endWindow f x y g h) = λ n.
+  words-le {b = b} {e = e} (endWindow f x y g h q) = λ n.
       let (s, l) = nodes-as EndWindow f n in
       let hx = onward x in
       let hy = onward y in

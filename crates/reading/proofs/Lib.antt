@@ -2,6 +2,7 @@
 --     Step      the rule of each form is sound and complete, and asks only for rows that stand before
 --     Transfer  readings go over to a procedure and a trajectory that agree where they look, and know more
 --     Agreement two that agree where readings look have the same table and count
+--     Quiet     the pause of an end window
 --     Windows   the windows after the members of a set
 --     Nodes     nodes by their words
 --     Tables    the table as it is filled
@@ -9,6 +10,7 @@
 pub mod Step
 pub mod Transfer
 pub mod Agreement
+pub mod Quiet
 pub mod Windows
 pub mod Nodes
 pub mod Tables

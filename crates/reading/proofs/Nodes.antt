@@ -42,10 +42,11 @@ module _ (P P′ : Procedure) (T : Trajectory) (p : ℕ) (n : P′ .node p ≡ P
   same-rule R b e Set s = let q = s refl in rw (q .0, q .1) Iff·rfl
   same-rule R b e Reserved s = Iff·rfl
 
-  pub same-ready : {t : List ℕ} → Same (formAt P p) → NodeReady P T p t → NodeReady P′ T p t
+  pub same-ready : {started : ℕ} {t : List ℕ} → Same (formAt P p) → NodeReady P T started p t → NodeReady P′ T started p t
   same-ready s h = record {
     formed = same-formed s (h .formed);
     moments = h .moments;
+    any = h .any;
     room = h .room;
     inside = h .inside;
   }
@@ -64,11 +65,11 @@ module _ (P : Procedure) (T : Trajectory) (p : ℕ) (f : formAt P p ≡ Set) whe
   pub members-lower : NodeReadable P T p → (i : ℕ) → i < length (P .members p) → getD (P .members p) i 0 < p
   members-lower h = at-below (P .members p) (rw f at (h .lower))
 
-  pub set-ready : {t : List ℕ} → NodeReady P T p t → SetReady (setAt P T p) p (length t)
+  pub set-ready : {started : ℕ} {t : List ℕ} → NodeReady P T started p t → SetReady (setAt P T p) p (length t)
   set-ready h = record { formed = h .formed .set f; lower = members-lower (h .formed); room = h .room }
 
-  pub set-node : {t u : List ℕ} → NodeReady P T p t → SetRows (setAt P T p) p t u → NodeRows P T p t u
-  set-node {t} {u} h r = record { rows = λ b l e. rw f (Iff·trans (r .rows b e l) (over b e l)); others = r .others }
+  pub set-node : {started : ℕ} {t u : List ℕ} → NodeReady P T started p t → SetRows (setAt P T p) p t u → NodeRows P T p t u
+  set-node {t = t} {u = u} h r = record { rows = λ b l e. rw f (Iff·trans (r .rows b e l) (over b e l)); others = r .others }
     where
       same : (q c : ℕ) → q < p → c ≤ T .last → rowAt u q c ≡ rowAt t q c
       same q c k m = r .others (q * 64 + c) (inl (omega (arith, h .moments)))

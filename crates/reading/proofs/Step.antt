@@ -28,7 +28,7 @@ onward (loop f l) = onward l
 onward (done t d) = omega arith
 onward (pass t h l r) = let hl = onward l in let hr = onward r in omega arith
 onward (startWindow f l r g h d) = let hl = onward l in omega arith
-onward (endWindow f l r g h) = let hl = onward l in let hr = onward r in omega arith
+onward (endWindow f l r g h q) = let hl = onward l in let hr = onward r in omega arith
 onward (set f r h) = h .onward
 
 -- a loop's reading holds its passes; of any other form this says nothing
@@ -56,7 +56,7 @@ module _ {P : Procedure} {T : Trajectory} where
   passing (otherwise f t r) = rw f tt
   passing (loop f r) = rw f (_, r)
   passing (startWindow f l r g h d) = rw f tt
-  passing (endWindow f l r g h) = rw f tt
+  passing (endWindow f l r g h q) = rw f tt
   passing (set f r h) = rw f tt
 
   -- What a reading was made of
@@ -73,8 +73,8 @@ module _ {P : Procedure} {T : Trajectory} where
       let hr = onward r in rw f (inr (t, record { m = m; early = omega arith; upto = omega arith; left = (omega arith, (_, l)); right = (h, (_, loop f r)) }))
   parts h (startWindow {k = k} {m = m} {l = j} f l r g u d) =
       let hr = onward r in rw f (record { m = m; early = g; late = u; upto = omega arith; k = k; l = j; greater = d; left = (omega arith, (_, l)); right = (omega arith, (_, r)) })
-  parts h (endWindow {k = k} {m = m} f l r g u) =
-      let hl = onward l in let hr = onward r in rw f (record { k = k; m = m; after = hl; early = g; late = u; upto = omega arith; left = (omega arith, (_, l)); right = (h, (_, r)) })
+  parts h (endWindow {k = k} {m = m} f l r g u q) =
+      let hl = onward l in let hr = onward r in rw f (record { k = k; m = m; after = hl; early = g; late = u; upto = omega arith; left = (omega arith, (_, l)); right = (h, (_, r)); quiet = q })
   parts h (set {bs = bs} {es = es} {us = us} f r g) = rw f (record {
     begins = bs;
     ends = es;
@@ -104,7 +104,7 @@ module _ {P : Procedure} {T : Trajectory} where
   made StartWindow f h r =
       let x = r .left .0 in let y = r .right .0 in let d = r .greater in
       (omega arith, (_, startWindow f (r .left .1 .1) (r .right .1 .1) (r .early) (r .late) d))
-  made EndWindow f h r = (r .right .0, (_, endWindow f (r .left .1 .1) (r .right .1 .1) (r .early) (r .late)))
+  made EndWindow f h r = (r .right .0, (_, endWindow f (r .left .1 .1) (r .right .1 .1) (r .early) (r .late) (r .quiet)))
   made Set f h r = let us = chosen r in (r .placing .within, (_, set {us = λ i. us i .0} f (λ i l. us i .1 l) (r .placing)))
   made Reserved f h r = absurd r
 
@@ -164,6 +164,7 @@ carry P T e EndWindow g h f r = record {
   upto = r .upto;
   left = f _ _ _ (inl (g .0)) h (r .left);
   right = f _ _ _ (inl (g .1 .0)) (r .upto) (r .right);
+  quiet = r .quiet;
 }
 carry P T {p = p} e Set g h f r = record {
   begins = r .begins;

@@ -111,9 +111,10 @@ module _ {P P′ : Procedure} {T T′ : Trajectory} (x : Extends P T P′ T′) 
   kept {p = p} h o l (startWindow f u v i j d) =
       let g = sym (x .node p h) in let c = rw f at (formed p h .lower) in
       startWindow (rw g at f) (rw g at (kept (omega arith) tt (omega arith) u)) (rw g at (kept (omega arith) tt (omega arith) v)) (rw g at i) (rw g at j) d
-  kept {p = p} h o l (endWindow f u v i j) =
+  kept {p = p} h o l (endWindow f u v i j q) =
       let g = sym (x .node p h) in let c = rw f at (formed p h .lower) in let k = onward v in
       endWindow (rw g at f) (rw g at (kept (omega arith) tt (omega arith) u)) (rw g at (kept (omega arith) tt l v)) (rw g at i) (rw g at j)
+      (λ a t c d. x .starts a t ∙ q a t c d)
   kept {p = p} {b} {e} h o l (set {bs = bs} {es = es} {us = us} f r m) =
       let g = sym (x .node p h) in let ms = x .members p h in
       let c = rw f at (formed p h .lower) in

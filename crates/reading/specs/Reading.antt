@@ -1,7 +1,7 @@
 -- What a reading (004's trace) is: node p is read from moment b to moment e, and ws are the words of the nodes that were used, each with
 -- its begin and end. Starts that no act uses are allowed; b ≤ e follows (`onward`, proofs/Step.antt), and so do the parts' places in b..e. The mode tells a whole reading of a node from the passes of a loop, so that a loop's own word stands once.
 use Prim.Native.Nat.{ℕ, _+_, _<_, _≤_, max}
-use mathlib.Core.Bool.{true}
+use mathlib.Core.Bool.{true, false}
 use mathlib.Core.Path.{_≡_}
 use mathlib.Core.List.{List, [], _∷_, _++_}
 use lib.ListN.{length, getD}
@@ -12,6 +12,10 @@ use Rattle.model.specs.Procedure.{Procedure}
 use Rattle.sets.specs.Set.{Placing}
 use Rattle.model.specs.Forms.{Act, Test, Sequence, Choice, If, While, StartWindow, EndWindow, Set, formAt, fieldX, fieldY, fieldM, fieldN}
 use Rattle.reading.specs.Forms.{setAt}
+
+-- no action starts at k ≤ t < m: a pause from k to m is quiet (Definition 6 of 004)
+abbrev pub Quiet : Trajectory → ℕ → ℕ → Type 0
+Quiet T k m = (a t : ℕ) → k ≤ t → t < m → T .starts a t ≡ false
 
 pub data Mode : Type 0 where
   whole passes : Mode
@@ -46,10 +50,10 @@ pub data Reading (P : Procedure) (T : Trajectory) : Mode → ℕ → ℕ → ℕ
       → Reading P T whole (fieldX P p) b k us → Reading P T whole (fieldY P p) m l vs
       → b + fieldM P p ≤ m → m ≤ b + fieldN P p → e ≡ max k l
       → Reading P T whole p b e (readingWord p b e ∷ (us ++ vs))
-  -- 7: X reads b to k, Y reads m to e, k + M ≤ m ≤ k + N
+  -- 7: X reads b to k, Y reads m to e, k + M ≤ m ≤ k + N, and no action starts at k ≤ t < m
   endWindow : {p b k m e : ℕ} {us vs : List ℕ} → formAt P p ≡ EndWindow
       → Reading P T whole (fieldX P p) b k us → Reading P T whole (fieldY P p) m e vs
-      → k + fieldM P p ≤ m → m ≤ k + fieldN P p
+      → k + fieldM P p ≤ m → m ≤ k + fieldN P p → Quiet T k m
       → Reading P T whole p b e (readingWord p b e ∷ (us ++ vs))
   -- 8: each member i reads bs i to es i, and these begins and ends are lawful from b to e
   set : {p b e : ℕ} {bs es : ℕ → ℕ} {us : ℕ → List ℕ} → formAt P p ≡ Set

@@ -10,7 +10,11 @@ ghost use Rattle.words.specs.Fields.{fails, holds};
 ghost use Rattle.model.specs.Code.Arrays.{alone, trajectoryAt};
 ghost use Rattle.model.specs.Code.Table.{InTable};
 ghost use Rattle.reading.specs.Code.Rule.{InTurn, StartsWithin, EndsWithin};
+ghost use Rattle.reading.specs.Code.Quiet.{QuietIn};
 ghost use Rattle.reading.specs.Code.Table.{TwoRows, RowsThrough, WindowReady, After, RowReady, RowOf};
+use crate::pauses::Moments;
+use crate::pauses::Pause;
+use crate::pauses::quiet_upto;
 use words::MOMENTS;
 
 // The moments from `first` to `end`, none after `last`.
@@ -27,16 +31,17 @@ fn window(first: usize, end: usize, last: usize) -> u64
     bitset::between(first as u32, end as u32)
 }
 
-// The moments that lie `least` to `most` after some member of `ends`, none after `last`.
-fn windows(ends: u64, least: usize, most: usize, last: usize) -> u64
-    requires { ⌜ WindowReady last least most ⌝ }
-    ensures { λ r. ⌜ ((m : ℕ) → In r m ↔ After ends least most last m) ⌝ }
+// The moments that lie a pause after some member of `ends`, none after `last`.
+fn windows(ends: u64, pause: Pause, last: usize) -> u64
+    requires { ⌜ WindowReady last (pause .least) (pause .most) ⌝ }
+    ensures { λ r. ⌜ ((m : ℕ) → In r m ↔ After ends pause last m) ⌝ }
 {
     let mut found = 0;
     let mut left = ends;
     while left != 0 {
         let k = bitset::lowest(left) as usize;
-        found = bitset::union(found, window(k + least, k + most, last));
+        let end = quiet_upto(pause.started, k, k + pause.most);
+        found = bitset::union(found, window(k + pause.least, end, last));
         left = bitset::drop_lowest(left);
     }
     found
@@ -134,21 +139,13 @@ fn start_window_row(
     )
 }
 
-// 7, end window: Y begins in the window after one of X's ends.
-fn end_window_row(
-    last: usize,
-    table: &[u64],
-    x: usize,
-    y: usize,
-    least: usize,
-    most: usize,
-    b: usize,
-) -> u64
+// 7, end window: Y begins a quiet pause after one of X's ends.
+fn end_window_row(last: usize, table: &[u64], x: usize, y: usize, pause: Pause, b: usize) -> u64
     requires { ⌜ RowsThrough (now table) x y b last ⌝ }
-    requires { ⌜ WindowReady last least most ⌝ }
-    ensures { λ r. ⌜ ((e : ℕ) → In r e ↔ EndsWithin b least most last (InTable (now (table .entry)) x b) (λ m. InTable (now (table .entry)) y m e)) ⌝ }
+    requires { ⌜ WindowReady last (pause .least) (pause .most) ⌝ }
+    ensures { λ r. ⌜ ((e : ℕ) → In r e ↔ EndsWithin b (pause .least) (pause .most) last (QuietIn (pause .started)) (InTable (now (table .entry)) x b) (λ m. InTable (now (table .entry)) y m e)) ⌝ }
 {
-    let begins = windows(table[x * MOMENTS + b], least, most, last);
+    let begins = windows(table[x * MOMENTS + b], pause, last);
     bitset::join_rows(begins, table, y * MOMENTS)
 }
 
@@ -158,14 +155,15 @@ pub fn row(
     starts: &[u64; 64],
     durations: &[usize; 64],
     values: &[u8; 4096],
-    last: usize,
+    moments: Moments,
     table: &[u64],
     p: usize,
     b: usize,
 ) -> u64
-    requires { ⌜ RowReady (alone word) (trajectoryAt (now starts) (now durations) (now values) last) (now table) p b ⌝ }
-    ensures { λ r. ⌜ RowOf (alone word) (trajectoryAt (now (starts .entry)) (now (durations .entry)) (now (values .entry)) last) (now (table .entry)) p b r ⌝ }
+    requires { ⌜ RowReady (alone word) (trajectoryAt (now starts) (now durations) (now values) (moments .last)) (moments .started) (now table) p b ⌝ }
+    ensures { λ r. ⌜ RowOf (alone word) (trajectoryAt (now (starts .entry)) (now (durations .entry)) (now (values .entry)) (moments .last)) (now (table .entry)) p b r ⌝ }
 {
+    let last = moments.last;
     let x = words::node_x(word);
     let y = words::node_y(word);
     let m = words::node_m(word);
@@ -178,7 +176,18 @@ pub fn row(
         4 => if_row(values[x * MOMENTS + b], table, y, m, b),
         5 => while_row(values[x * MOMENTS + b], last, table, p, y, b),
         6 => start_window_row(last, table, x, y, m, most, b),
-        7 => end_window_row(last, table, x, y, m, most, b),
+        7 => end_window_row(
+            last,
+            table,
+            x,
+            y,
+            Pause {
+                least: m,
+                most,
+                started: moments.started,
+            },
+            b,
+        ),
         // 9 to 15 are reserved: refused in a job, and nothing reads such a node (8 is none of `row`'s, see `fill_node`)
         8.. => 0,
     }

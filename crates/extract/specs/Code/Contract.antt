@@ -9,6 +9,7 @@ use Rattle.model.specs.Trajectory.{Trajectory}
 use Rattle.model.specs.Procedure.{Procedure}
 use Rattle.model.specs.Code.Table.{InTable}
 use Rattle.model.specs.declared.Triple.{Triple}
+use Rattle.reading.specs.declared.pauses.Moments.{Moments}
 use Rattle.reading.specs.Reading.{whole, Reading}
 use Rattle.model.specs.Code.Forms.{NamedOnce}
 use Rattle.lengths.specs.Code.Bound.{lengthBound}
@@ -28,16 +29,17 @@ Rest P T t ws = Full P T t (readingWord (t .node) (t .begin) (t .end) ∷ ws)
 
 -- what a writer of a triple asks: the table says that it can be read, and from `at` on there is room for whatever R allows, Full or Rest
 pub record Writable (R : Procedure → Trajectory → Triple → List ℕ → Type 0)
-    (P : Procedure) (T : Trajectory) (job : ℕ) (places table : List ℕ) (t : Triple) (at size : ℕ) : Type 0 where
-  pub prepared : Prepared P T job places table
+    (P : Procedure) (T : Trajectory) (started job : ℕ) (places table : List ℕ) (t : Triple) (at size : ℕ) : Type 0 where
+  pub prepared : Prepared P T started job places table
   pub known : t .node < P .count
   pub within : t .begin ≤ T .last
   pub found : InTable table (t .node) (t .begin) (t .end)
   pub room : Room (R P T t) at size
 
 -- the same of the arrays, with what the writer does not see
-abbrev pub WritableBy : (Procedure → Trajectory → Triple → List ℕ → Type 0) → List ℕ → List ℕ → List ℕ → ℕ → List ℕ → Triple → ℕ → ℕ → Unseen → Type 0
-WritableBy R words places values last table t at size u = Writable R (procedureBy words places u) (trajectoryBy values last u) (length words) places table t at size
+abbrev pub WritableBy : (Procedure → Trajectory → Triple → List ℕ → Type 0) → List ℕ → List ℕ → List ℕ → Moments → List ℕ → Triple → ℕ → ℕ → Unseen → Type 0
+WritableBy R words places values moments table t at size u =
+    Writable R (procedureBy words places u) (trajectoryBy values moments u) (moments .started) (length words) places table t at size
 
 -- words that R allows stand in the buffer from `at` up to `end`, and all else is as it was
 -- (`sets` stores a list's elements one after the other; `lib.Seq.sets-eq` gives it as take at .. ++ words ++ drop end ..)
@@ -48,8 +50,8 @@ pub record ReadingWritten (R : List ℕ → Type 0) (before : List ℕ) (at : �
   pub buffer : after ≡ sets before at words
 
 -- what `emit` asks: the root, the last node, can be read from moment 0 to the last, and the buffer holds any reading of it
-pub record Emittable (P : Procedure) (T : Trajectory) (job : ℕ) (places table : List ℕ) (size : ℕ) : Type 0 where
-  pub prepared : Prepared P T job places table
+pub record Emittable (P : Procedure) (T : Trajectory) (started job : ℕ) (places table : List ℕ) (size : ℕ) : Type 0 where
+  pub prepared : Prepared P T started job places table
   pub once : NamedOnce P
   pub some : 0 < P .count
   pub found : InTable table (P .count - 1) 0 (T .last)

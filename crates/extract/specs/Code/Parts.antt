@@ -17,6 +17,8 @@ use Rattle.sets.specs.Code.Rows.{Placed}
 use Rattle.reading.specs.Code.Forms.{Readable}
 use Rattle.reading.specs.Reading.{whole, Reading}
 use Rattle.reading.specs.Code.Table.{Found}
+use Rattle.reading.specs.Code.Quiet.{AnyStart}
+use Rattle.reading.specs.declared.pauses.Moments.{Moments}
 use Rattle.extract.specs.declared.parts.Parts.{Parts}
 
 -- no part, one part, two parts
@@ -48,14 +50,15 @@ pub record PlacedParts (s : TaskSet) (table : List ℕ) (b e : ℕ) (r : Parts) 
   pub nodes : (i : ℕ) → i < memberCount s → nodeOf r i ≡ member s i
   pub placed : Placed s (InTable table) b e (beginOf r) (endOf r)
 
--- what choosing parts, and writing them, needs: the procedure and the trajectory are there, and the table is theirs
-pub record Prepared (P : Procedure) (T : Trajectory) (size : ℕ) (places table : List ℕ) : Type 0 where
+-- what choosing parts, and writing them, needs: the procedure and the trajectory are there, and the table and the start moments are theirs
+pub record Prepared (P : Procedure) (T : Trajectory) (started size : ℕ) (places table : List ℕ) : Type 0 where
   pub ready : Readable P T size places
   pub found : Found P T table
+  pub any : AnyStart (T .starts) started
 
 -- the table says that the triple can be read, and its node is no loop
-pub record Choosable (P : Procedure) (T : Trajectory) (size : ℕ) (places table : List ℕ) (t : Triple) : Type 0 where
-  pub prepared : Prepared P T size places table
+pub record Choosable (P : Procedure) (T : Trajectory) (started size : ℕ) (places table : List ℕ) (t : Triple) : Type 0 where
+  pub prepared : Prepared P T started size places table
   pub known : t .node < P .count
   pub within : t .begin ≤ T .last
   pub found : InTable table (t .node) (t .begin) (t .end)
@@ -70,7 +73,8 @@ pub record Chosen (P : Procedure) (T : Trajectory) (table : List ℕ) (p b e : �
   pub reads : (us : ℕ → List ℕ) → ((i : ℕ) → i < r .count → Reading P T whole (nodeOf r i) (beginOf r i) (endOf r i) (us i))
       → Reading P T whole p b e (readingWord p b e ∷ concatBelow us (r .count))
 
--- what the writers do not read: how many nodes there are, and the starts and durations. With any that make the table right, they write a reading
+-- what the writers do not read: how many nodes there are, and each action's starts and duration. With any that make the table right, they write
+-- a reading
 pub record Unseen : Type 0 where
   pub count : ℕ
   pub starts : List ℕ
@@ -79,12 +83,12 @@ pub record Unseen : Type 0 where
 abbrev pub procedureBy : List ℕ → List ℕ → Unseen → Procedure
 procedureBy words places u = procedureAt words places (u .count)
 
-abbrev pub trajectoryBy : List ℕ → ℕ → Unseen → Trajectory
-trajectoryBy values last u = trajectoryAt (u .starts) (u .durations) values last
+abbrev pub trajectoryBy : List ℕ → Moments → Unseen → Trajectory
+trajectoryBy values moments u = trajectoryAt (u .starts) (u .durations) values (moments .last)
 
 -- a triple whose parts can be chosen, and a choice of them, of the arrays
-abbrev pub ChoosableBy : List ℕ → List ℕ → List ℕ → ℕ → List ℕ → Triple → Unseen → Type 0
-ChoosableBy words places values last table t u = Choosable (procedureBy words places u) (trajectoryBy values last u) (length words) places table t
+abbrev pub ChoosableBy : List ℕ → List ℕ → List ℕ → Moments → List ℕ → Triple → Unseen → Type 0
+ChoosableBy words places values moments table t u = Choosable (procedureBy words places u) (trajectoryBy values moments u) (moments .started) (length words) places table t
 
-abbrev pub ChosenBy : List ℕ → List ℕ → List ℕ → ℕ → List ℕ → Triple → Parts → Unseen → Type 0
-ChosenBy words places values last table t r u = Chosen (procedureBy words places u) (trajectoryBy values last u) table (t .node) (t .begin) (t .end) r
+abbrev pub ChosenBy : List ℕ → List ℕ → List ℕ → Moments → List ℕ → Triple → Parts → Unseen → Type 0
+ChosenBy words places values moments table t r u = Chosen (procedureBy words places u) (trajectoryBy values moments u) table (t .node) (t .begin) (t .end) r

@@ -5,6 +5,8 @@ use mathlib.Core.List.{List}
 use lib.ListN.{length}
 use Rattle.model.specs.Code.Table.{InTable, rowAt}
 use Rattle.bitset.specs.Code.Members.{In, Max}
+use Rattle.reading.specs.Code.Quiet.{QuietIn}
+use Rattle.reading.specs.declared.pauses.Pause.{Pause}
 
 -- nodes and moments are below 64, and the table is whole
 pub record Within (table : List ℕ) (x y b e : ℕ) : Type 0 where
@@ -33,22 +35,23 @@ pub record FirstMeets (xs : ℕ) (table : List ℕ) (y first end e r : ℕ) : Ty
   pub found : r < 64 → Meets xs table y first end e r
   pub any : (m : ℕ) → Meets xs table y first end e m → r < 64
 
--- x ends at k, which is `from` or later, and y, begun at m, least to most after k, ends at e
-pub record CutAt (table : List ℕ) (x y b e least most from k m : ℕ) : Type 0 where
+-- x ends at k, which is `from` or later, and y, begun at m, a pause after k, ends at e
+pub record CutAt (table : List ℕ) (x y b e : ℕ) (pause : Pause) (from k m : ℕ) : Type 0 where
   pub after : from ≤ k
   pub end : k < 64
-  pub early : k + least ≤ m
-  pub late : m ≤ k + most
+  pub early : k + pause .least ≤ m
+  pub late : m ≤ k + pause .most
+  pub quiet : QuietIn (pause .started) k m
   pub begin : m < 64
   pub ends : InTable table x b k
   pub begins : InTable table y m e
 
 -- what a search for a cut asks: there is one
-pub record CutReady (table : List ℕ) (x y b e least most from : ℕ) : Type 0 where
+pub record CutReady (table : List ℕ) (x y b e : ℕ) (pause : Pause) (from : ℕ) : Type 0 where
   pub within : Within table x y b e
-  pub early : least < 64
-  pub late : most < 64
-  pub some : (k : ℕ) × (m : ℕ) × CutAt table x y b e least most from k m
+  pub early : pause .least < 64
+  pub late : pause .most < 64
+  pub some : (k : ℕ) × (m : ℕ) × CutAt table x y b e pause from k m
 
 -- k is one of xs, l one of ys, and e the greater
 pub record EndPair (xs ys e k l : ℕ) : Type 0 where

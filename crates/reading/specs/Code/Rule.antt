@@ -11,6 +11,7 @@ use Rattle.model.specs.Procedure.{Procedure}
 use Rattle.sets.specs.Code.Set.{SetRule}
 use Rattle.model.specs.Forms.{Form, Act, Test, Sequence, Choice, If, While, StartWindow, EndWindow, Set, Reserved, fieldX, fieldY, fieldM, fieldN}
 use Rattle.reading.specs.Forms.{setAt}
+use Rattle.reading.specs.Reading.{Quiet}
 
 -- one part ends at m, from `low` to `last`, and the next begins there
 pub record InTurn (low last : ℕ) (X Y : ℕ → Type 0) : Type 0 where
@@ -32,8 +33,8 @@ pub record StartsWithin (low high last e : ℕ) (X : ℕ → Type 0) (Y : ℕ �
   pub left : X k
   pub right : Y m l
 
--- X ends at k, and Y begins at m, `least` to `most` later
-pub record EndsWithin (b least most last : ℕ) (X Y : ℕ → Type 0) : Type 0 where
+-- X ends at k, and Y begins at m, `least` to `most` later, with a pause between them that Q allows
+pub record EndsWithin (b least most last : ℕ) (Q : ℕ → ℕ → Type 0) (X Y : ℕ → Type 0) : Type 0 where
   pub k : ℕ
   pub m : ℕ
   pub after : b ≤ k
@@ -42,6 +43,7 @@ pub record EndsWithin (b least most last : ℕ) (X Y : ℕ → Type 0) : Type 0 
   pub upto : m ≤ last
   pub left : X k
   pub right : Y m
+  pub quiet : Q k m
 
 abbrev pub Rule : Procedure → Trajectory → (ℕ → ℕ → ℕ → Type 0) → Form → ℕ → ℕ → ℕ → Type 0
 Rule P T R Act p b e = (T .starts (fieldX P p) b ≡ true) × (e ≡ b + T .duration (fieldX P p)) × (e ≤ T .last)
@@ -53,6 +55,6 @@ Rule P T R While p b e =
     ((T .value (fieldX P p) b ≡ fails) × (e ≡ b))
     ⊎ ((T .value (fieldX P p) b ≡ holds) × InTurn (b + 1) (T .last) (R (fieldY P p) b) (λ m. R p m e))
 Rule P T R StartWindow p b e = StartsWithin (b + fieldM P p) (b + fieldN P p) (T .last) e (R (fieldX P p) b) (R (fieldY P p))
-Rule P T R EndWindow p b e = EndsWithin b (fieldM P p) (fieldN P p) (T .last) (R (fieldX P p) b) (λ m. R (fieldY P p) m e)
+Rule P T R EndWindow p b e = EndsWithin b (fieldM P p) (fieldN P p) (T .last) (Quiet T) (R (fieldX P p) b) (λ m. R (fieldY P p) m e)
 Rule P T R Set p b e = SetRule (setAt P T p) R b e
 Rule P T R Reserved p b e = ⊥

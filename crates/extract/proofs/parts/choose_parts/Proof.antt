@@ -67,14 +67,15 @@ pair f = record {
 
 sequence-requires : tie.Need-end-window-parts-requires
 sequence-requires c κs =
-    let f = c .before in
+    let a = c .before in
+    let f = a .before in
     let h = entry f .pre .1 in
-    record {
+    rw (c .at-once .ensures) (record {
       within = pair f;
       early = omega arith;
       late = omega arith;
-      some = sequence-some (h .prepared) (h .known) (h .within) (h .found) (form-is f (c .match .keys3)) (x-is f) (y-is f);
-    }
+      some = sequence-some (h .prepared) (h .known) (h .within) (h .found) (form-is f (a .match .keys3)) (x-is f) (y-is f);
+    })
 
 choice-requires : tie.Need-choice-part-requires
 choice-requires c κs =
@@ -122,10 +123,10 @@ test-returns c = λ u h. let a = c .before in
 
 sequence-returns : tie.Need-returns-3
 sequence-returns c = λ u h.
-    let a = c .before in
+    let a = c .before .before in
     let f = a .before in
     let (k, l, found, is) = c .end-window-parts .ensures in
-    rw is (sequence-chosen (h .prepared) (h .known) (h .within) (h .found) (form-is f (a .match .keys3)) (x-is f) (y-is f) found)
+    rw is (sequence-chosen (h .prepared) (h .known) (h .within) (h .found) (form-is f (a .match .keys3)) (x-is f) (y-is f) (rw (c .before .at-once .ensures) at found))
 
 choice-returns : tie.Need-returns-4
 choice-returns c = λ u h.
@@ -172,7 +173,7 @@ choose-parts-spec =
     (λ c. let h = c .before .before .pre .1 in omega (arith, h .known, h .prepared .ready .few))
     (λ c. omega (arith, inside (placed c))) (λ c. inside (placed (c .before))) (λ c κs. search needs)
     (λ c κs. search needs) (λ c κs. search needs) (λ c κs. search needs) (λ c κs. search needs) (λ c κs. search needs) (λ c κs. search needs)
-    sequence-requires choice-requires (λ c. search needs)
+    (λ c κs. search needs) sequence-requires choice-requires (λ c. search needs)
     (λ c. omega (arith, moments (entry (c .before)) .0, at-x (c .before) .node-x .ensures .1))
     (λ c. omega (arith, moments (entry (c .before)) .0, at-x (c .before) .node-x .ensures .1))
     (λ c κs. moments (entry (c .before .before))) (λ c κs. search needs) start-requires end-requires set-requires (λ c κs. search needs)

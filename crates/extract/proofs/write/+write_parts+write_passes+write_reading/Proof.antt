@@ -12,6 +12,8 @@ use Rattle.model.specs.declared.Triple.{Triple}
 use Rattle.model.proofs.Forms.{form-number}
 use Rattle.extract.specs.Code.Parts.{Unseen, procedureBy, trajectoryBy, ChosenBy}
 use Rattle.extract.specs.Code.Contract.{Rest, WritableBy, ReadingWritten}
+use Rattle.extract.specs.Code.Search.{CutAt}
+use Rattle.reading.specs.Code.Quiet.{atOnce}
 use Rattle.extract.proofs.Written.{written-none, written-under, written-length}
 use Rattle.extract.proofs.Steps.{Done, done-none, Halfway, resize, has-room, moments, place-inside, choosable, headed, part-moments, part-child, part-more, part-end, body-lower, pass-start, pass-ready, pass-child, pass-more, pass-end}
 use Rattle.extract.proofs.write.write_parts.Reads as parts
@@ -25,6 +27,7 @@ use Rattle.extract.proofs.write.write_reading.Kinds as kinds
 use Rattle.extract.proofs.write.+write_parts+write_passes+write_reading.Lts-write_reading as lts
 use Rattle.extract.proofs.parts.choose_parts.Reads as choose
 use Rattle.extract.proofs.search.cut.Reads as cut
+use Rattle.reading.proofs.pauses.at_once.Reads as once
 use Rattle.words.proofs.form_of.Reads as form-of
 use Rattle.words.proofs.node_y.Reads as node-y
 use Rattle.words.proofs.reading_word.Reads as word
@@ -32,13 +35,13 @@ use Rattle.extract.proofs.write.+write_parts+write_passes+write_reading
 use Rattle.extract.proofs.write.+write_parts+write_passes+write_reading.Tie.{close}
 
 abbrev μ-parts : Measures 5 parts-kinds.ps ℕ
-μ-parts κs a = let (words, (places, (values, (last, (table, (triple, rest)))))) = a in triple .node * 2
+μ-parts κs a = let (words, (places, (values, (moments, (table, (triple, rest)))))) = a in triple .node * 2
 
 abbrev μ-passes : Measures 5 passes-kinds.ps ℕ
-μ-passes κs a = let (words, (places, (values, (last, (table, (triple, rest)))))) = a in triple .node * 2
+μ-passes κs a = let (words, (places, (values, (moments, (table, (triple, rest)))))) = a in triple .node * 2
 
 abbrev μ : Measures 5 kinds.ps ℕ
-μ κs a = let (words, (places, (values, (last, (table, (triple, rest)))))) = a in triple .node * 2 + 1
+μ κs a = let (words, (places, (values, (moments, (table, (triple, rest)))))) = a in triple .node * 2 + 1
 
 abbrev parts-at : ℕ → In 5 parts-kinds.ps
 parts-at t = and 5 parts-kinds.ps (is 5 parts-kinds.ps μ-parts t) parts.Pre
@@ -62,30 +65,30 @@ abbrev parts-calls : ℕ → parts-lts.Claims
 parts-calls t = (choose.Asked, choose.Learnt, own-below t, own.Post)
 
 abbrev passes-calls : ℕ → passes-lts.Claims
-passes-calls t = (node-y.Asked, node-y.Learnt, cut.Asked, cut.Learnt, own-below t, own.Post)
+passes-calls t = (node-y.Asked, node-y.Learnt, once.Asked, once.Learnt, cut.Asked, cut.Learnt, own-below t, own.Post)
 
 abbrev calls : ℕ → lts.Claims
 calls t = (word.Asked, word.Learnt, form-of.Asked, form-of.Learnt, passes-below t, passes.Post, parts-below t, parts.Post)
 
 -- what the parts written so far are, whatever the writer does not see
 abbrev Inv-parts : parts-lts.InvT-loop
-Inv-parts words places values last table at buffer₀ number nodes begins ends end₀ i₀ buffer end i =
+Inv-parts words places values moments table at buffer₀ number nodes begins ends end₀ i₀ buffer end i =
     (i ≤ number)
-    × ((u : Unseen) (t : Triple) → WritableBy Rest words places values last table t at (length buffer₀) u
-    → ChosenBy words places values last table t (record { count = number; nodes = nodes; begins = begins; ends = ends }) u
-    → ReadingWritten (Done (procedureBy words places u) (trajectoryBy values last u) (record { count = number; nodes = nodes; begins = begins; ends = ends }) i) buffer₀ at buffer end)
+    × ((u : Unseen) (t : Triple) → WritableBy Rest words places values moments table t at (length buffer₀) u
+    → ChosenBy words places values moments table t (record { count = number; nodes = nodes; begins = begins; ends = ends }) u
+    → ReadingWritten (Done (procedureBy words places u) (trajectoryBy values moments u) (record { count = number; nodes = nodes; begins = begins; ends = ends }) i) buffer₀ at buffer end)
 
 abbrev μ-loop-parts : parts-lts.MeasureT-loop
-μ-loop-parts words places values last table at buffer₀ number nodes begins ends end₀ i₀ buffer end i = number - i
+μ-loop-parts words places values moments table at buffer₀ number nodes begins ends end₀ i₀ buffer end i = number - i
 
 abbrev Inv-passes : passes-lts.InvT-loop
-Inv-passes words places values last table at buffer₀ p b e place y m₀ end₀ buffer m end =
-    (u : Unseen) → WritableBy Rest words places values last table (record { node = p; begin = b; end = e }) at (length buffer₀) u
+Inv-passes words places values moments table at buffer₀ p b e place y m₀ end₀ buffer m end =
+    (u : Unseen) → WritableBy Rest words places values moments table (record { node = p; begin = b; end = e }) at (length buffer₀) u
     → formAt (procedureBy words places u) p ≡ While
-    → Halfway (procedureBy words places u) (trajectoryBy values last u) table (record { node = p; begin = b; end = e }) buffer₀ at m buffer end
+    → Halfway (procedureBy words places u) (trajectoryBy values moments u) table (record { node = p; begin = b; end = e }) buffer₀ at m buffer end
 
 abbrev μ-loop-passes : passes-lts.MeasureT-loop
-μ-loop-passes words places values last table at buffer₀ p b e place y m₀ end₀ buffer m end = e - m
+μ-loop-passes words places values moments table at buffer₀ p b e place y m₀ end₀ buffer m end = e - m
 
 module _ (t : ℕ) where
   -- ---- the node's own word
@@ -203,7 +206,7 @@ module _ (t : ℕ) where
 
   -- the parts, by what makes the table right
   chosen : (k : Parted) → let a = start k .args in let u = start k .pre .1 .0 in
-      ChosenBy (a .words .now) (a .places .now) (a .values .now) (a .last) (a .table .now) (a .triple) (k .choose-parts .result) u
+      ChosenBy (a .words .now) (a .places .now) (a .values .now) (a .moments) (a .table .now) (a .triple) (k .choose-parts .result) u
   chosen k = let (is, (u, s, other)) = start k .pre in k .choose-parts .ensures u (choosable s other)
 
   few : (l : Turn) → l .before .loop .i < 4
@@ -291,6 +294,12 @@ module _ (t : ℕ) where
   abbrev at-cut : passes-lts.After-slice-known2 (passes-calls t) (passes-at t) passes.Post Inv-passes μ-loop-passes → passes-lts.After-cut (passes-calls t) (passes-at t) passes.Post Inv-passes μ-loop-passes
   at-cut c = c .before .before .before .before
 
+  -- the cut, with no pause
+  found : (q : passes-lts.After-cut (passes-calls t) (passes-at t) passes.Post Inv-passes μ-loop-passes)
+      → let l = q .before .before .before .loop in let h = q .before .before .before .before in
+      CutAt (head h .args .table .now) (h .node-y .result) (head h .args .triple .node) (l .m) (head h .args .triple .end) atOnce (l .m + 1) (q .cut .result .first) (q .cut .result .second)
+  found q = rw (q .before .at-once .ensures) at (q .cut .ensures)
+
   passes-mul-place : passes-lts.Need-mul-place (passes-calls t) (passes-at t) passes.Post Inv-passes μ-loop-passes
   passes-mul-place c = omega (arith, moments (c .before .before .before .pre .1 .1) .0)
 
@@ -309,43 +318,47 @@ module _ (t : ℕ) where
   passes-loop-holds : passes-lts.Need-loop-holds (passes-calls t) (passes-at t) passes.Post Inv-passes μ-loop-passes
   passes-loop-holds c = λ u s f. pass-start s f _
 
+  once-requires : passes-lts.Need-at-once-requires (passes-calls t) (passes-at t) passes.Post Inv-passes μ-loop-passes
+  once-requires c κs = search needs
+
   add-cut : passes-lts.Need-add-cut (passes-calls t) (passes-at t) passes.Post Inv-passes μ-loop-passes
-  add-cut c = omega (arith, c .loop-test .taken, moments (head (c .before .before) .pre .1 .1) .2)
+  add-cut c = let l = c .before in omega (arith, l .loop-test .taken, moments (head (l .before .before) .pre .1 .1) .2)
 
   cut-requires : passes-lts.Need-cut-requires (passes-calls t) (passes-at t) passes.Post Inv-passes μ-loop-passes
   cut-requires c κs =
-      let y = c .before .before in
+      let l = c .before in
+      let y = l .before .before in
       let (is, (u, s, f)) = head y .pre in
-      pass-ready s f (c .before .loop .inv u s f) (y .node-y .ensures .0) (c .loop-test .taken)
+      rw (c .at-once .ensures) (pass-ready s f (l .before .loop .inv u s f) (y .node-y .ensures .0) (l .loop-test .taken))
 
   pass-requires : passes-lts.Need-write-reading-requires (passes-calls t) (passes-at t) passes.Post Inv-passes μ-loop-passes
   pass-requires c κs =
       let q = c .before in
-      let l = q .before in
+      let l = q .before .before in
       let y = l .before .before in
       let (is, (u, s, f)) = head y .pre in
       let same = y .node-y .ensures .0 in
       let inv = l .before .loop .inv u s f in (
         omega (arith, body-lower s f, same),
-        (u, resize (written-length (inv .written)) (pass-child s f inv same (l .loop-test .taken) (q .cut .ensures))),
+        (u, resize (written-length (inv .written)) (pass-child s f inv same (l .loop-test .taken) (found q))),
       )
 
   passes-loop-less : passes-lts.Need-loop-less (passes-calls t) (passes-at t) passes.Post Inv-passes μ-loop-passes
   passes-loop-less c =
       let q = at-cut c in
-      omega (arith, q .cut .ensures .after, q .before .loop-test .taken)
+      omega (arith, q .cut .ensures .after, q .before .before .loop-test .taken)
 
   passes-loop-again : passes-lts.Need-loop-again (passes-calls t) (passes-at t) passes.Post Inv-passes μ-loop-passes
   passes-loop-again c = λ u s f.
       let r = c .before .before in
       let q = r .before .before in
-      let l = q .before in
+      let l = q .before .before in
       let y = l .before .before in
       let same = y .node-y .ensures .0 in
       let inv = l .before .loop .inv u s f in
       let taken = l .loop-test .taken in
-      pass-more s f inv same taken (q .cut .ensures)
-      (r .write-reading .ensures u (resize (written-length (inv .written)) (pass-child s f inv same taken (q .cut .ensures))))
+      pass-more s f inv same taken (found q)
+      (r .write-reading .ensures u (resize (written-length (inv .written)) (pass-child s f inv same taken (found q))))
 
   passes-same-length : passes-lts.Need-same-length (passes-calls t) (passes-at t) passes.Post Inv-passes μ-loop-passes
   passes-same-length c = let (is, (u, s, f)) = head (c .before .before) .pre in written-length (c .before .loop .inv u s f .written)
@@ -359,6 +372,6 @@ pub +write-parts+write-passes+write-reading-spec : {M : Type 1} → statement M
     (λ t. parts-lts.spec (parts-calls t) (parts-at t) parts.Post Inv-parts μ-loop-parts
     (choose-parts-requires t) (parts-loop-holds t) (mul-node t) (read-node t) (mul-begin t) (read-begin t) (cast-begin t) (mul-end t) (read-end t) (cast-end t) (part-requires t) (add-i t) (parts-loop-less t) (parts-loop-again t) (parts-same-length t) (parts-returns t))
     (λ t. passes-lts.spec (passes-calls t) (passes-at t) passes.Post Inv-passes μ-loop-passes
-    (passes-mul-place t) (passes-copy-place t) (mul-node-y t) (read-node-y t) (node-y-requires t) (passes-loop-holds t) (add-cut t) (cut-requires t) (pass-requires t) (passes-loop-less t) (passes-loop-again t) (passes-same-length t) (passes-returns t))
+    (passes-mul-place t) (passes-copy-place t) (mul-node-y t) (read-node-y t) (node-y-requires t) (passes-loop-holds t) (once-requires t) (add-cut t) (cut-requires t) (pass-requires t) (passes-loop-less t) (passes-loop-again t) (passes-same-length t) (passes-returns t))
     (λ t. lts.spec (calls t) (own-at t) own.Post
     (reading-word-requires t) (mul-buf t) (slice-write-buf t) (mul-place t) (copy-place t) (mul-form-of t) (read-form-of t) (form-of-requires t) (add-passes t) (write-passes-requires t) (same-length t) (returns t) (add-parts t) (write-parts-requires t) (same-length-2 t) (returns-2 t))

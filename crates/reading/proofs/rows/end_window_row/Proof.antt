@@ -15,8 +15,8 @@ returns c = λ e.
       λ t.
           let r = j .0 t in
           let a = w (r .0) .0 (r .1) in
-          record { k = a .end; m = r .0; after = inside (a .end) (a .member) .0; early = a .early; late = a .late; upto = a .upto; left = a .member; right = r .2 },
-      λ h. j .1 (h .m, w (h .m) .1 (record { end = h .k; member = h .left; early = h .early; late = h .late; upto = h .upto }), h .right),
+          record { k = a .end; m = r .0; after = inside (a .end) (a .member) .0; early = a .early; late = a .late; upto = a .upto; left = a .member; right = r .2; quiet = a .quiet },
+      λ h. j .1 (h .m, w (h .m) .1 (record { end = h .k; member = h .left; early = h .early; late = h .late; upto = h .upto; quiet = h .quiet }), h .right),
     )
 
 pub end-window-row-spec : {M : Type 1} → statement M

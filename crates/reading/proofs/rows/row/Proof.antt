@@ -1,13 +1,17 @@
 -- `reading::rows::row` meets its contract: in each arm the rule of the form is what the row function ensures. Assumes nothing.
 use Prim.Native.Nat.{ℕ}
 use mathlib.Core.Path.{_≡_, sym, ap, _∙_}
+use mathlib.Core.Logic.{Iff·trans}
 use native.Mathlib.Omega.{arith}
+use denote.Ref.{now}
 use Rattle.words.specs.Fields.{form, nodeX, nodeY, nodeM, nodeN}
 use Rattle.bitset.proofs.In.{in-none}
 use Rattle.model.specs.Forms.{formNumber}
 use Rattle.model.specs.Code.Forms.{childrenAs, Below}
-use Rattle.model.specs.Code.Arrays.{alone}
+use Rattle.model.specs.Trajectory.{Trajectory}
+use Rattle.model.specs.Code.Arrays.{alone, trajectoryAt}
 use Rattle.model.proofs.Forms.{no-form}
+use Rattle.reading.proofs.Quiet.{ends-law}
 use borrow.Author.Needs.{needs}
 use Rattle.reading.proofs.rows.row.Statement.{statement}
 use Rattle.reading.proofs.rows.row.Tie as tie
@@ -30,6 +34,10 @@ m-is f = f .before .before .node-m .ensures .0
 
 n-is : (f : tie.After-form-of) → f .before .node-n .result ≡ nodeN (entry f .args .word)
 n-is f = f .before .node-n .ensures .0
+
+-- what the code has of the plan
+abbrev trajectory : tie.Start → Trajectory
+trajectory s = trajectoryAt (now (s .args .starts)) (now (s .args .durations)) (now (s .args .values)) (s .args .moments .last)
 
 -- the form, where it has this number, and the children that it has then
 module _ (f : tie.After-form-of) {k : ℕ} (e : f .form-of .result ≡ k) where
@@ -116,7 +124,8 @@ returns-7 c = let a = c .before in λ e.
 
 returns-8 : tie.Need-returns-8
 returns-8 c = let a = c .before in λ e.
-    rw (form-is (a .before) (a .match .keys8), ← n-is (a .before), ← m-is (a .before), ← y-is (a .before), ← x-is (a .before)) (c .end-window-row .ensures e)
+    rw (form-is (a .before) (a .match .keys8), ← n-is (a .before), ← m-is (a .before), ← y-is (a .before), ← x-is (a .before))
+    (Iff·trans (c .end-window-row .ensures e) (ends-law (trajectory (entry (a .before))) (entry (a .before) .pre .any)))
 
 returns-9 : tie.Need-returns-9
 returns-9 c =

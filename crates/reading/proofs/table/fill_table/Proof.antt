@@ -13,11 +13,11 @@ use Rattle.reading.proofs.table.fill_table.Statement.{statement}
 use Rattle.reading.proofs.table.fill_table.Tie as tie
 
 abbrev Inv-loop : tie.InvT-loop
-Inv-loop words places count starts durations values last table₀ p₀ table p =
-    (p ≤ count) × Built (procedureAt words places count) (trajectoryAt starts durations values last) table p
+Inv-loop words places count starts durations values moments table₀ p₀ table p =
+    (p ≤ count) × Built (procedureAt words places count) (trajectoryAt starts durations values (moments .last)) table p
 
 abbrev μ-loop : tie.MeasureT-loop
-μ-loop words places count starts durations values last table₀ p₀ table p = count - p
+μ-loop words places count starts durations values moments table₀ p₀ table p = count - p
 
 abbrev entry1 : tie.At-loop Inv-loop μ-loop → tie.Start Inv-loop μ-loop
 entry1 c = c .before .before .before
@@ -33,7 +33,7 @@ abbrev procedure : tie.Start Inv-loop μ-loop → ℕ → Procedure
 procedure s count = procedureAt (now (s .args .words)) (now (s .args .places)) count
 
 abbrev trajectory : tie.Start Inv-loop μ-loop → Trajectory
-trajectory s = trajectoryAt (now (s .args .starts)) (now (s .args .durations)) (now (s .args .values)) (s .args .last)
+trajectory s = trajectoryAt (now (s .args .starts)) (now (s .args .durations)) (now (s .args .values)) (s .args .moments .last)
 
 fill-node-requires : tie.Need-fill-node-requires Inv-loop μ-loop
 fill-node-requires c κs =
@@ -41,7 +41,7 @@ fill-node-requires c κs =
     let g = s .pre .0 in
     let v = c .before .before .loop in (
       (omega (arith, g .few), g .inside (v .p) (omega arith)),
-      same-ready (procedure s (s .args .count)) (procedure s 64) (trajectory s) (v .p) refl (λ f. (refl, refl)) (built-ready g (omega arith) (v .inv .1)),
+      same-ready (procedure s (s .args .count)) (procedure s 64) (trajectory s) (v .p) refl (λ f. (refl, refl)) (built-ready g (s .pre .2) (omega arith) (v .inv .1)),
     )
 
 loop-again : tie.Need-loop-again Inv-loop μ-loop

@@ -1,0 +1,57 @@
+// The pause of an end window: how long it may last, and that it is quiet (no action starts in it).
+ghost use mathlib.Core.Path.{_≡_};
+ghost use Prim.Native.Nat.{_<_};
+ghost use Rattle.reading.specs.Code.Quiet.{startIn, AnyStart, QuietUpto, atOnce};
+
+// The last moment of a plan, and the set of the moments at which some action starts.
+pub struct Moments {
+    pub last: usize,
+    pub started: u64,
+}
+
+// A pause of `least` to `most` moments, which no member of `started` may disturb.
+pub struct Pause {
+    pub least: usize,
+    pub most: usize,
+    pub started: u64,
+}
+
+// No pause: what follows begins at once.
+pub fn at_once() -> Pause
+    ensures { λ r. ⌜ r ≡ atOnce ⌝ }
+{
+    Pause {
+        least: 0,
+        most: 0,
+        started: 0,
+    }
+}
+
+// The moments at which some action starts, of the sets of each action's.
+pub fn any_start(starts: &[u64]) -> u64
+    ensures { λ r. ⌜ AnyStart (startIn (now (starts .entry))) r ⌝ }
+{
+    let mut started = 0;
+    let mut a = 0;
+    while a < starts.len() {
+        started = bitset::union(started, starts[a]);
+        a += 1;
+    }
+    started
+}
+
+// The latest moment, up to `limit`, to which a pause from k on is quiet: a start at that moment itself is after the pause.
+pub fn quiet_upto(started: u64, k: usize, limit: usize) -> usize
+    requires { ⌜ k < 64 ⌝ }
+    ensures { λ r. ⌜ QuietUpto started k limit r ⌝ }
+{
+    let later = bitset::inter(started, bitset::from(k as u32));
+    if later == 0 {
+        return limit;
+    }
+    let first = bitset::lowest(later) as usize;
+    if first < limit {
+        return first;
+    }
+    limit
+}
