@@ -1,4 +1,4 @@
-//! Find and the yardstick on generated sets: the same numbers and counts, and readings that the independent checker accepts.
+//! Find and the yardstick on generated plans: the same numbers and counts, and readings that the independent checker accepts.
 use crate::shapes::{facts, SET};
 use crate::slow::draws;
 use crate::time::{best, is_within};
@@ -6,14 +6,15 @@ use crate::yardstick;
 use planreader_tests::checker::calls::read_plan;
 use planreader_tests::checker::readings::literal::{is_reading, Triple};
 use planreader_tests::checker::readings::world::World;
-use planreader_tests::generate::finds::FindCase;
+use planreader_tests::generate::finds::{self, FindCase};
 use planreader_tests::generate::set_draws;
 use planreader_tests::host;
 use planreader_tests::random::Random;
 
 const SEED: u64 = 0x5e3a_1071_000a;
 
-/// How many plans of few moments are compared, and of wide sets with n = 63.
+/// How many plans of all forms are compared, of sets with few moments, and of wide sets with n = 63.
+const ANY: usize = 2_000;
 const SMALL: usize = 4_000;
 const WIDE: usize = 300;
 
@@ -22,15 +23,28 @@ pub fn within_limits() -> bool {
     let mut random = Random::new(SEED);
     let small = (0..SMALL).filter(|_| agrees(&set_draws::any(&mut random).case()).is_some()).count();
     let wide: Vec<f64> = (0..WIDE).filter_map(|_| agrees(&draws::plan(&mut random).case())).collect();
+    let any = (0..ANY).filter(|_| agrees(&any_case(&mut random)).is_some()).count();
     let slowest = wide.iter().copied().fold(0.0, f64::max);
-    let within = small == SMALL && wide.len() == WIDE && is_within(slowest, SET);
+    let within = any == ANY && small == SMALL && wide.len() == WIDE && is_within(slowest, SET);
     let told = if within { "" } else { "  FAILED" };
+    println!("generated plans of all forms on which find and the yardstick agree: {any} of {ANY}");
     println!(
         "generated sets on which find and the yardstick agree: {small} of {SMALL}, wide ones {} of {WIDE}",
         wide.len()
     );
     println!("{slowest:>9.3} {SET:>6}  the slowest find on a wide one, ms{told}");
     within
+}
+
+/// A plan that is read by construction, or that with some fields or starts changed.
+fn any_case(random: &mut Random) -> FindCase {
+    let size = finds::any_size(random);
+    let case = finds::readable(random, size);
+    if random.chance(50) {
+        case
+    } else {
+        finds::perturbed(random, &case)
+    }
 }
 
 /// The time of find, where both give the same number and count, and readings.

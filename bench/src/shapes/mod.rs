@@ -4,6 +4,7 @@ pub mod doors;
 pub mod nests;
 mod nodes;
 pub mod slowest;
+pub mod windows;
 
 use planreader_tests::host;
 
@@ -28,9 +29,14 @@ pub const CONTRADICTION: f64 = 10.0;
 pub const NEST: f64 = 50.0;
 pub const LOOP: f64 = 20.0;
 pub const DOOR: f64 = 1.0;
+pub const WINDOWS: f64 = 1.0;
+pub const LARGEST: f64 = 5.0;
 
 pub fn all() -> Vec<Shape> {
-    [doors::shapes(), nests::shapes(), crowds::shapes(), slowest::shapes()].into_iter().flatten().collect()
+    [doors::shapes(), windows::shapes(), nests::shapes(), crowds::shapes(), slowest::shapes()]
+        .into_iter()
+        .flatten()
+        .collect()
 }
 
 /// The facts of a plan that is lawful.

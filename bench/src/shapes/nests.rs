@@ -3,8 +3,8 @@ use super::nodes::Nodes;
 use super::{Shape, LOOP, NEST};
 use planreader_tests::words::{action, condition, formula, head, initially, law, node, start};
 
-/// With eight sets of four there is room for so many windows, which are three nodes each.
-const WINDOWS: usize = 15;
+/// With eight sets of four there is room for so many spans, which are three nodes each.
+const SPANS: usize = 15;
 
 pub fn shapes() -> Vec<Shape> {
     let shape = |name: &str, (job, starts): (Vec<u32>, Vec<u32>), most_ms: f64| Shape {
@@ -28,17 +28,17 @@ pub fn shapes() -> Vec<Shape> {
     ]
 }
 
-/// Eight sets of four, each within the next. The other members are windows with ends up to b + span, so many a set while there is room,
+/// Eight sets of four, each within the next. The other members are spans with ends up to b + span, so many a set while there is room,
 /// and acts that start at every moment.
-fn nested(windows: usize, span: usize, conditions: &[u32]) -> (Vec<u32>, Vec<u32>) {
+fn nested(spans: usize, span: usize, conditions: &[u32]) -> (Vec<u32>, Vec<u32>) {
     let mut nodes = Nodes::after(vec![head(1, 1, 63), action(0, 1), formula(0, 0, 0)]);
-    let mut room = WINDOWS;
+    let mut room = SPANS;
     let mut inside = nodes.act(0);
     for _ in 0..8 {
-        let wide = windows.min(room);
+        let wide = spans.min(room);
         room -= wide;
         let mut members = vec![inside];
-        members.extend((0..wide).map(|_| nodes.window(0, span)));
+        members.extend((0..wide).map(|_| nodes.span(0, span)));
         members.extend((wide..3).map(|_| nodes.act(0)));
         inside = nodes.set(&members, conditions);
     }

@@ -31,10 +31,16 @@ impl Nodes {
         self.add(node(2, x, y, 0, 0), &[])
     }
 
-    /// Two tests of a formula, the second at most `span` later.
+    /// Two tests of a formula, the second at most `span` later, with no start in between: an end window.
     pub fn window(&mut self, formula: usize, span: usize) -> usize {
         let (x, y) = (self.test(formula), self.test(formula));
         self.add(node(7, x, y, 0, span), &[])
+    }
+
+    /// Two tests of a formula, the second at most `span` later, whatever starts in between: a start window.
+    pub fn span(&mut self, formula: usize, span: usize) -> usize {
+        let (x, y) = (self.test(formula), self.test(formula));
+        self.add(node(6, x, y, 0, span), &[])
     }
 
     pub fn set(&mut self, members: &[usize], conditions: &[u32]) -> usize {

@@ -5,11 +5,14 @@ use planreader_tests::checker::calls::{self, Outcome};
 use planreader_tests::checker::program::{file_of, planread, reading_text};
 use planreader_tests::checker::readings::build::readings;
 use planreader_tests::checker::readings::literal::Triple;
+use planreader_tests::host;
 use planreader_tests::words::{action, condition, fact, formula, head, initially, kind, law, member, node, start};
 use std::fs;
 use std::path::{Path, PathBuf};
 
-const FOLDERS: [&str; 3] = ["door", "too-soon", "no-pause"];
+/// Each with the folder that lists its job.
+const FOLDERS: [(&str, &str); 5] =
+    [("door", "door"), ("too-soon", "door"), ("no-pause", "door"), ("curtain", "curtain"), ("in-pause", "curtain")];
 
 fn root() -> PathBuf {
     Path::new(env!("CARGO_MANIFEST_DIR")).join("../..")
@@ -44,12 +47,11 @@ fn door() -> Vec<u32> {
     let facts = [0, 1, 2, 3, 4, 6].map(|fluent| initially(fluent, false));
     let formulas = [(1, 3, 0), (1, 4, 0), (2, 1, 0), (1, 5, 0), (1, 6, 0), (3, 3, 4)];
     let formulas = formulas.map(|(form, x, y)| formula(form, x, y));
-    [&[head(7, 8, 12)], &facts[..], &actions(), &formulas, &procedure()].concat()
+    [&[head(7, 8, 12)], &facts[..], &door_actions(), &formulas, &door_procedure()].concat()
 }
 
-/// Each with its duration, and the roles and fluents of its laws.
-fn actions() -> Vec<u32> {
-    let actions: [(usize, &[(usize, usize)]); 8] = [
+fn door_actions() -> Vec<u32> {
+    actions(&[
         (2, &[(1, 0), (2, 0)]),
         (1, &[(0, 0), (2, 1)]),
         (1, &[(0, 1), (2, 2)]),
@@ -58,18 +60,28 @@ fn actions() -> Vec<u32> {
         (2, &[(0, 4), (2, 5)]),
         (1, &[(0, 0), (2, 6)]),
         (1, &[(0, 0), (0, 5), (3, 0)]),
-    ];
+    ])
+}
+
+/// Each with its duration, and the roles and fluents of its laws.
+fn actions(actions: &[(usize, &[(usize, usize)])]) -> Vec<u32> {
     let mut words = vec![];
-    for (number, (duration, laws)) in actions.into_iter().enumerate() {
-        words.push(action(number, duration));
+    for (number, (duration, laws)) in actions.iter().enumerate() {
+        words.push(action(number, *duration));
         words.extend(laws.iter().map(|&(role, fluent)| law(role, fluent)));
     }
     words
 }
 
-fn procedure() -> Vec<u32> {
-    let act = |action| node(0, action, 0, 0, 0);
-    let sequence = |x, y| node(2, x, y, 0, 0);
+fn act(action: usize) -> u32 {
+    node(0, action, 0, 0, 0)
+}
+
+fn sequence(x: usize, y: usize) -> u32 {
+    node(2, x, y, 0, 0)
+}
+
+fn door_procedure() -> Vec<u32> {
     let bending =
         [act(0), act(1), act(2), node(7, 1, 2, 1, 3), act(3), act(4), node(4, 0, 5, 4, 0), node(5, 2, 6, 0, 0)];
     let finishing = [act(5), act(6), node(8, 0, 0, 0, 0), member(8), member(9), condition(0, 0, 0, 1, 0, 1)];
@@ -77,10 +89,39 @@ fn procedure() -> Vec<u32> {
     [&bending[..], &finishing, &rest, &[sequence(0, 16)]].concat()
 }
 
+/// The job with the curtain, likewise.
+fn curtain() -> Vec<u32> {
+    let facts = [0, 1, 2].map(|fluent| initially(fluent, false));
+    let actions = actions(&[
+        (1, &[(1, 0), (2, 0)]),
+        (2, &[(0, 0), (1, 1), (2, 1)]),
+        (1, &[(0, 1), (3, 0)]),
+        (2, &[(1, 2), (2, 2)]),
+    ]);
+    let test = node(1, 0, 0, 0, 0);
+    let nodes = [act(0), act(1), test, node(7, 1, 2, 1, 3), act(2), sequence(3, 4), sequence(0, 5)];
+    [&[head(3, 4, 6)], &facts[..], &actions, &[formula(1, 1, 0)], &nodes].concat()
+}
+
+/// Its starts, with the loader's, action 3, at a moment from 2 to 4.
+fn curtain_starts(loader: usize) -> Vec<u32> {
+    vec![start(0, 0), start(1, 1), start(loader, 3), start(5, 2)]
+}
+
+/// The job that an example is about.
+fn job(folder: &str) -> Vec<u32> {
+    let (_, listing) = FOLDERS.into_iter().find(|&(name, _)| name == folder).expect("an example");
+    if listing == "door" {
+        door()
+    } else {
+        curtain()
+    }
+}
+
 #[test]
 fn listings_are_the_files_word_for_word() {
-    for folder in FOLDERS {
-        assert_eq!(file_of(&listed("door", "job.txt")), bytes(folder, "job.w32"), "{folder}");
+    for (folder, listing) in FOLDERS {
+        assert_eq!(file_of(&listed(listing, "job.txt")), bytes(folder, "job.w32"), "{folder}");
         assert_eq!(file_of(&listed(folder, "plan.txt")), bytes(folder, "plan.w32"), "{folder}");
     }
 }
@@ -95,16 +136,23 @@ fn the_door_s_words_say_what_is_meant() {
 }
 
 #[test]
+fn the_curtain_s_words_say_what_is_meant() {
+    assert_eq!(listed("curtain", "job.txt"), curtain());
+    assert_eq!(plan("curtain").0, curtain_starts(2));
+    assert_eq!(plan("in-pause").0, curtain_starts(4));
+}
+
+#[test]
 fn the_facts_are_those_of_the_rules() {
-    for folder in ["door", "no-pause"] {
+    for folder in ["door", "no-pause", "curtain", "in-pause"] {
         let (starts, facts) = plan(folder);
-        assert_eq!(calls::fill(&door(), &starts, 4_096).1, facts, "{folder}");
+        assert_eq!(calls::fill(&job(folder), &starts, 4_096).1, facts, "{folder}");
     }
 }
 
 #[test]
 fn the_program_and_the_checker_print_what_is_expected() {
-    for folder in FOLDERS {
+    for (folder, _) in FOLDERS {
         let expected = text(example(folder, "expected.txt"));
         let right = planread(Some(&bytes(folder, "job.w32")), Some(&bytes(folder, "plan.w32")));
         assert!(right.agrees(&expected), "{folder}: the checker");
@@ -114,13 +162,26 @@ fn the_program_and_the_checker_print_what_is_expected() {
 
 /// So that every run prints the same words.
 #[test]
-fn the_door_has_one_reading_and_it_is_the_listed_one() {
-    let (starts, facts) = plan("door");
-    let Outcome::Read { world, decision } = calls::find(&door(), &starts, &facts, 4_096) else {
-        panic!("the door has a reading");
-    };
-    let whole = Triple { node: world.root(), begin: 0, end: world.last() };
-    let listed = listed("door", "reading.txt");
-    assert_eq!(readings(&world, &decision, whole, 2), std::slice::from_ref(&listed));
-    assert_eq!(text(example("door", "expected.txt")), reading_text(&listed, decision.count()));
+fn the_only_reading_is_the_listed_one() {
+    for folder in ["door", "curtain"] {
+        let (starts, facts) = plan(folder);
+        let Outcome::Read { world, decision } = calls::find(&job(folder), &starts, &facts, 4_096) else {
+            panic!("{folder} has a reading");
+        };
+        let whole = Triple { node: world.root(), begin: 0, end: world.last() };
+        let listed = listed(folder, "reading.txt");
+        assert_eq!(readings(&world, &decision, whole, 2), std::slice::from_ref(&listed), "{folder}");
+        assert_eq!(text(example(folder, "expected.txt")), reading_text(&listed, decision.count()), "{folder}");
+    }
+}
+
+/// The pause is from 3 to 5. A start at its first moment, 3, leaves node 3 no reading; one at 4 leaves it the one that ends there.
+#[test]
+fn the_loader_disturbs_the_pause_and_no_other_moment() {
+    for (moment, number, count) in [(2, 0, 11), (3, 13, 7), (4, 13, 8)] {
+        let starts = curtain_starts(moment);
+        let facts = calls::fill(&curtain(), &starts, 4_096).1;
+        let found = host::find(&curtain(), &starts, &facts, &mut vec![0; 4_096]);
+        assert_eq!((found.number, found.count), (number, count), "the loader at {moment}");
+    }
 }
