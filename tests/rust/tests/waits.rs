@@ -8,7 +8,7 @@ const SEED: u64 = 0x5e3a_1071_0017;
 
 #[test]
 fn generated_end_windows_get_the_checker_s_outcomes() {
-    let report = waits::run(SEED, 24_000, &host::find);
+    let report = waits::run(SEED, 40_000, &host::find);
     report.print(SEED, "end windows and their pauses, by refusal number", &waits::COLUMNS);
     assert_eq!(report.differences, 0);
     assert_eq!(waits::too_seldom(&report), [], "met too seldom");
