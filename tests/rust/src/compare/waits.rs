@@ -48,7 +48,10 @@ pub fn too_seldom(report: &Report) -> Vec<(String, &'static str, usize, usize)> 
 mod tests {
     use super::*;
     use crate::checker::answer::Answer;
-    use crate::checker::readings::decision::quiet;
+    use crate::checker::readings::build::{readings, readings_by};
+    use crate::checker::readings::decision::{decide, decide_by, quiet};
+    use crate::checker::readings::literal::{is_reading, Triple};
+    use crate::checker::readings::world::World;
     use crate::compare::find::tests::right_find;
     use crate::compare::wait_rules::{before, finder, RULES};
 
@@ -83,5 +86,33 @@ mod tests {
         };
         let seen = run(SEED, 1_000, &planted).differences;
         assert!(seen >= 10, "{seen}");
+    }
+
+    /// Of the lists that were readings before, the literal judge takes those that are built now.
+    #[test]
+    fn lists_that_were_readings_before_are_judged_alike() {
+        let mut random = Random::new(SEED);
+        let mut judged = [0, 0];
+        for _ in 0..1_500 {
+            let case = waits::any(&mut random);
+            let plan = calls::read_plan(&case.job, &case.starts).unwrap_or_else(|_| panic!("a lawful plan"));
+            let world = World::new(plan);
+            let root = Triple { node: world.root(), begin: 0, end: world.last() };
+            let Some(old) = decide_by(&world, MOST_PLACEMENTS, &before) else {
+                continue;
+            };
+            let lists = readings_by(&world, &old, root, 200, &before);
+            if lists.len() == 200 {
+                continue;
+            }
+            let built = readings(&world, &decide(&world), root, 200);
+            for list in lists {
+                let taken = is_reading(&world, &list, root);
+                assert_eq!(taken, built.contains(&list), "{list:08x?} {:?}", world.job);
+                judged[usize::from(taken)] += 1;
+            }
+        }
+        println!("{judged:?} lists are refused and taken");
+        assert!(judged.iter().all(|&lists| lists > 500), "{judged:?}");
     }
 }
