@@ -1,4 +1,4 @@
-//! Find and the yardstick on generated sets: the same numbers and counts, and readings that the independent checker accepts.
+//! Find and the yardstick on generated sets and end windows: the same numbers and counts, and readings that the independent checker accepts.
 use crate::shapes::{facts, SET};
 use crate::slow::draws;
 use crate::time::{best, is_within};
@@ -7,7 +7,7 @@ use planreader_tests::checker::calls::read_plan;
 use planreader_tests::checker::readings::literal::{is_reading, Triple};
 use planreader_tests::checker::readings::world::World;
 use planreader_tests::generate::finds::FindCase;
-use planreader_tests::generate::set_draws;
+use planreader_tests::generate::{set_draws, waits};
 use planreader_tests::host;
 use planreader_tests::random::Random;
 
@@ -17,16 +17,20 @@ const SEED: u64 = 0x5e3a_1071_000a;
 const SMALL: usize = 4_000;
 const WIDE: usize = 300;
 
+/// How many plans with end windows.
+const WAITS: usize = 4_000;
+
 /// Prints how many agree, and the slowest find; whether all agree within the limit of a set.
 pub fn within_limits() -> bool {
     let mut random = Random::new(SEED);
     let small = (0..SMALL).filter(|_| agrees(&set_draws::any(&mut random).case()).is_some()).count();
     let wide: Vec<f64> = (0..WIDE).filter_map(|_| agrees(&draws::plan(&mut random).case())).collect();
+    let waits = (0..WAITS).filter(|_| agrees(&waits::any(&mut random)).is_some()).count();
     let slowest = wide.iter().copied().fold(0.0, f64::max);
-    let within = small == SMALL && wide.len() == WIDE && is_within(slowest, SET);
+    let within = small == SMALL && wide.len() == WIDE && waits == WAITS && is_within(slowest, SET);
     let told = if within { "" } else { "  FAILED" };
     println!(
-        "generated sets on which find and the yardstick agree: {small} of {SMALL}, wide ones {} of {WIDE}",
+        "generated plans on which find and the yardstick agree: sets {small} of {SMALL}, wide sets {} of {WIDE}, end windows {waits} of {WAITS}",
         wide.len()
     );
     println!("{slowest:>9.3} {SET:>6}  the slowest find on a wide one, ms{told}");

@@ -1,7 +1,7 @@
 //! A reading of a node from b to e, of which the table says that there is one.
 use crate::masks::{each, from, has, low};
 use crate::yardstick::job::Job;
-use crate::yardstick::rows::{later_of, window, Table};
+use crate::yardstick::rows::{later_of, quiet_window, window, Table};
 use crate::yardstick::sets::{Set, Sets};
 use crate::yardstick::world::World;
 use planreader_tests::words;
@@ -62,8 +62,8 @@ impl Writer<'_> {
     }
 
     fn end_window(&mut self, number: usize, b: usize, e: usize) {
-        let (job, table, node) = (self.job, self.table, &self.job.nodes[number]);
-        let begin = |k: usize| each(window(job, node, k)).find(|&m| table.has(node.y, m, e));
+        let (job, world, table, node) = (self.job, self.world, self.table, &self.job.nodes[number]);
+        let begin = |k: usize| each(quiet_window(job, world, node, k)).find(|&m| table.has(node.y, m, e));
         let mut cuts = each(table.ends(node.x, b)).filter_map(|k| begin(k).map(|m| (k, m)));
         let (k, m) = cuts.next().expect("Y begins in the window");
         self.write(node.x, b, k);

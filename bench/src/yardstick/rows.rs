@@ -1,5 +1,5 @@
 //! The table of ends: for each node p and begin b, at p * 64 + b, the moments to which p reads from b.
-use crate::masks::{each, from, has, low, range};
+use crate::masks::{each, from, has, low, range, upto};
 use crate::yardstick::job::{Job, Node};
 use crate::yardstick::sets::{Set, Sets};
 use crate::yardstick::world::World;
@@ -61,13 +61,18 @@ fn ends(job: &Job, world: &World, table: &Table, number: usize, node: &Node, b: 
         5 if has(world.holds[x], b) => table.ends_from(number, table.ends(y, b) & from(b + 1)),
         4 | 5 => 0,
         6 => later_of(table.ends(x, b), table.ends_from(y, window(job, node, b))),
-        _ => table.ends_from(y, each(table.ends(x, b)).fold(0, |begins, k| begins | window(job, node, k))),
+        _ => table.ends_from(y, each(table.ends(x, b)).fold(0, |begins, k| begins | quiet_window(job, world, node, k))),
     }
 }
 
 /// The moments t + M to t + N.
 pub fn window(job: &Job, node: &Node, t: usize) -> u64 {
     range(t + node.m, (t + node.n).min(job.last))
+}
+
+/// The moments k + M to k + N up to the first start from k on: until then an end window may wait.
+pub fn quiet_window(job: &Job, world: &World, node: &Node, k: usize) -> u64 {
+    window(job, node, k) & upto(low(world.all_starts & from(k)))
 }
 
 /// The greater one of an end of the one set and an end of the other, for all pairs.
