@@ -17,17 +17,23 @@ pub struct Rule {
 
 pub const RULES: [Rule; 12] = [
     Rule { name: "any start in the pause is let pass, as before L2", wait: &before },
-    Rule { name: "a start at m disturbs", wait: &|world, window, k, m| ended(window, m >= k && none(world, k, m + 1)) },
+    Rule { name: "a start at m disturbs", wait: &|world, window, k, m| if_end_window(window, none(world, k, m + 1)) },
     Rule {
         name: "a start at k = m disturbs",
-        wait: &|world, window, k, m| ended(window, none(world, k, m.max(k + 1))),
+        wait: &|world, window, k, m| if_end_window(window, none(world, k, m.max(k + 1))),
     },
-    Rule { name: "a start at k does not disturb", wait: &|world, window, k, m| ended(window, none(world, k + 1, m)) },
+    Rule {
+        name: "a start at k does not disturb",
+        wait: &|world, window, k, m| if_end_window(window, none(world, k + 1, m)),
+    },
     Rule {
         name: "a start at m - 1 does not",
-        wait: &|world, window, k, m| ended(window, none(world, k, m.max(1) - 1)),
+        wait: &|world, window, k, m| if_end_window(window, none(world, k, m.max(1) - 1)),
     },
-    Rule { name: "a start inside does not", wait: &|world, window, k, m| ended(window, edges_quiet(world, k, m)) },
+    Rule {
+        name: "a start inside does not",
+        wait: &|world, window, k, m| if_end_window(window, edges_quiet(world, k, m)),
+    },
     Rule { name: "only starts of X's and Y's actions disturb", wait: &own_alone },
     Rule { name: "starts of X's and Y's actions do not disturb", wait: &others_alone },
     Rule { name: "starts of actions that no node names do not disturb", wait: &named_alone },
@@ -41,8 +47,8 @@ pub fn before(_: &World, _: &Node, _: usize, _: usize) -> bool {
     true
 }
 
-/// Start windows do not ask.
-fn ended(window: &Node, quiet: bool) -> bool {
+/// Start windows ask for no quiet.
+fn if_end_window(window: &Node, quiet: bool) -> bool {
     window.form() != 7 || quiet
 }
 
@@ -71,19 +77,19 @@ fn acts_below(world: &World, window: &Node, action: usize) -> bool {
 }
 
 fn own_alone(world: &World, window: &Node, k: usize, m: usize) -> bool {
-    ended(window, no_start(world, k, m, |start| acts_below(world, window, start.action)))
+    if_end_window(window, no_start(world, k, m, |start| acts_below(world, window, start.action)))
 }
 
 fn others_alone(world: &World, window: &Node, k: usize, m: usize) -> bool {
-    ended(window, no_start(world, k, m, |start| !acts_below(world, window, start.action)))
+    if_end_window(window, no_start(world, k, m, |start| !acts_below(world, window, start.action)))
 }
 
 fn named_alone(world: &World, window: &Node, k: usize, m: usize) -> bool {
-    ended(window, no_start(world, k, m, |start| acts(world, world.root(), start.action)))
+    if_end_window(window, no_start(world, k, m, |start| acts(world, world.root(), start.action)))
 }
 
 fn in_hand(world: &World, window: &Node, k: usize, m: usize) -> bool {
-    ended(window, (k..m).all(|t| !world.starts.iter().any(|start| start.in_hand(t))))
+    if_end_window(window, (k..m).all(|t| !world.starts.iter().any(|start| start.in_hand(t))))
 }
 
 fn up_to_the_window(world: &World, window: &Node, k: usize, m: usize) -> bool {
