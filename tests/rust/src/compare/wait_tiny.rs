@@ -65,6 +65,7 @@ fn programs() -> Vec<Part> {
         programs.push(end_window(Act(0), Part::Loop(Box::new(Act(1))), (m, n)));
         programs.push(start_window(end_window(Act(0), Always, (m, n)), Act(1), (0, 2)));
         programs.push(start_window(Always, Act(0), (m, n)));
+        programs.push(end_window(start_window(Always, Always, (0, 2)), Act(0), (m, n)));
         programs.push(Part::Sequence(Box::new([end_window(Always, Act(0), (m, n)), Act(1)])));
     }
     for (inner, outer) in [(0, 1), (1, 1), (2, 2)].iter().flat_map(|&inner| [(inner, (0, 1)), (inner, (1, 2))]) {
@@ -91,15 +92,19 @@ fn plans(last: usize) -> Vec<Plan> {
     plans
 }
 
-/// The number and the count are those of the moments; what is written is judged elsewhere.
+/// The number and the count are those of the moments, and so is each word of a reading.
 fn judge(plan: Plan, program: &Part, find: &Find, report: &mut Report) {
     let job = plan.job(program);
     let starts = plan.start_words();
-    let given = find(&job, &starts, &plan.facts(), &mut [0; 4_096]);
+    let mut buffer = [0; 4_096];
+    let given = find(&job, &starts, &plan.facts(), &mut buffer);
     let right = if plan.reads(program, 0, plan.last) { 0 } else { 13 };
     report.tally.add(ROW, &right.to_string());
     let told = || format!("{program:?}\n {}\n {}", shown("job", &job), shown("starts", &starts));
-    report.judge((right, plan.count(program)), (given.number, given.count), &told);
+    let mut reading = &buffer[..given.length.min(buffer.len())];
+    let span = plan.follow(program, nodes(program) - 1, &mut reading);
+    let read = reading.is_empty() && span == Some((0, plan.last));
+    report.judge((right, plan.count(program), right == 0), (given.number, given.count, read), &told);
 }
 
 impl Plan {
@@ -142,6 +147,44 @@ impl Plan {
         own.filter(|&(b, e)| self.reads(part, b, e)).count() + below
     }
 
+    /// Takes the words of a reading of the part off the list: its begin and end, if each word is as the rules say.
+    fn follow(&self, part: &Part, number: usize, list: &mut &[u32]) -> Option<(usize, usize)> {
+        let (&word, rest) = list.split_first()?;
+        *list = rest;
+        let (b, e) = (words::field(word, 11, 6), words::field(word, 5, 0));
+        let lawful =
+            word == words::reading(number, b, e) && b <= e && e <= self.last && self.chosen(part, number, (b, e), list);
+        lawful.then_some((b, e))
+    }
+
+    /// Whether the words that come next are readings of parts with which the part is read from b to e.
+    fn chosen(&self, part: &Part, number: usize, (b, e): (usize, usize), list: &mut &[u32]) -> bool {
+        if let Part::Loop(body) = part {
+            let mut border = b;
+            while self.holds(border) {
+                match self.follow(body, number - 1, list) {
+                    Some((begin, end)) if begin == border && end > border => border = end,
+                    _ => return false,
+                }
+            }
+            return border == e;
+        }
+        let [x, y] = below(part) else {
+            return self.reads(part, b, e);
+        };
+        let before_y = number - 1 - nodes(y);
+        let (Some((begin, k)), Some((m, end))) = (self.follow(x, before_y, list), self.follow(y, number - 1, list))
+        else {
+            return false;
+        };
+        let in_time = match part {
+            Part::StartWindow(_, least, most) => b + least <= m && m <= b + most && e == end.max(k),
+            Part::EndWindow(_, least, most) => k + least <= m && m <= k + most && self.is_quiet(k, m) && e == end,
+            _ => k == m && e == end,
+        };
+        begin == b && in_time
+    }
+
     fn job(&self, program: &Part) -> Vec<u32> {
         let mut job = vec![words::head(1, 3, self.last), words::initially(0, true)];
         job.extend((0..3).map(|number| words::action(number, DURATIONS[number])));
@@ -168,6 +211,11 @@ fn below(part: &Part) -> &[Part] {
     }
 }
 
+/// How many nodes the part has.
+fn nodes(part: &Part) -> usize {
+    1 + below(part).iter().map(nodes).sum::<usize>()
+}
+
 /// The part's nodes, each after those below it; the number of its own.
 fn add_nodes(job: &mut Vec<u32>, next: &mut usize, part: &Part) -> usize {
     let lower: Vec<usize> = below(part).iter().map(|lower| add_nodes(job, next, lower)).collect();
@@ -186,8 +234,9 @@ fn add_nodes(job: &mut Vec<u32>, next: &mut usize, part: &Part) -> usize {
 #[cfg(test)]
 mod tests {
     use super::*;
+    use crate::checker::answer::Answer;
     use crate::compare::find::tests::right_find;
-    use crate::compare::wait_rules::{finder, RULES};
+    use crate::compare::wait_rules::{before, finder, RULES};
 
     #[test]
     fn the_checker_finds_what_the_moments_say() {
@@ -202,5 +251,17 @@ mod tests {
         for rule in RULES {
             assert!(run(&[3], &finder(rule.wait)).differences > 0, "{}", rule.name);
         }
+    }
+
+    #[test]
+    fn a_reading_that_waits_through_a_start_is_seen() {
+        let planted = |job: &[u32], starts: &[u32], facts: &[u32], buffer: &mut [u32]| {
+            let right = right_find(job, starts, facts, buffer);
+            match right.number {
+                0 => Answer { count: right.count, ..finder(&before)(job, starts, facts, buffer) },
+                _ => right,
+            }
+        };
+        assert!(run(&[3], &planted).differences > 0);
     }
 }
