@@ -7,14 +7,15 @@ use planreader_tests::checker::calls::read_plan;
 use planreader_tests::checker::readings::literal::{is_reading, Triple};
 use planreader_tests::checker::readings::world::World;
 use planreader_tests::generate::finds::{self, FindCase};
-use planreader_tests::generate::set_draws;
+use planreader_tests::generate::{set_draws, waits};
 use planreader_tests::host;
 use planreader_tests::random::Random;
 
 const SEED: u64 = 0x5e3a_1071_000a;
 
-/// How many plans of all forms are compared, of sets with few moments, and of wide sets with n = 63.
+/// How many plans of all forms are compared, of end windows, of sets with few moments, and of wide sets with n = 63.
 const ANY: usize = 2_000;
+const WAITS: usize = 4_000;
 const SMALL: usize = 4_000;
 const WIDE: usize = 300;
 
@@ -24,10 +25,11 @@ pub fn within_limits() -> bool {
     let small = (0..SMALL).filter(|_| agrees(&set_draws::any(&mut random).case()).is_some()).count();
     let wide: Vec<f64> = (0..WIDE).filter_map(|_| agrees(&draws::plan(&mut random).case())).collect();
     let any = (0..ANY).filter(|_| agrees(&any_case(&mut random)).is_some()).count();
+    let waits = (0..WAITS).filter(|_| agrees(&waits::any(&mut random)).is_some()).count();
     let slowest = wide.iter().copied().fold(0.0, f64::max);
-    let within = any == ANY && small == SMALL && wide.len() == WIDE && is_within(slowest, SET);
+    let within = any == ANY && waits == WAITS && small == SMALL && wide.len() == WIDE && is_within(slowest, SET);
     let told = if within { "" } else { "  FAILED" };
-    println!("generated plans of all forms on which find and the yardstick agree: {any} of {ANY}");
+    println!("generated plans on which find and the yardstick agree: {any} of {ANY} of all forms, {waits} of {WAITS} of end windows");
     println!(
         "generated sets on which find and the yardstick agree: {small} of {SMALL}, wide ones {} of {WIDE}",
         wide.len()

@@ -127,7 +127,16 @@ static void loop(struct walk *walk, uint32_t word, struct span own)
     need(walk, value_at(walk, node_x(word), own.e) == FAILS, "a loop ends where its formula does not fail");
 }
 
-/* A window: Y begins M to N after X begins, or after it ends. */
+/* Does any action start at from <= t < to? */
+static bool starts_between(const struct walk *walk, uint32_t from, uint32_t to)
+{
+    for (uint32_t t = from; t < to; t++)
+        for (uint32_t action = 0; action < walk->parts->actions; action++)
+            if (walk->plan->starts[action] >> t & 1u) return true;
+    return false;
+}
+
+/* A window: Y begins M to N after X begins, or after it ends; from X's end to Y's begin an end window is quiet. */
 static void window(struct walk *walk, uint32_t word, struct span own)
 {
     struct span x = part(walk, node_x(word)), y = part(walk, node_y(word));
@@ -136,6 +145,7 @@ static void window(struct walk *walk, uint32_t word, struct span own)
     need(walk, x.b == own.b, "a window does not begin with X");
     need(walk, from + node_m(word) <= y.b && y.b <= from + node_n(word), "Y begins outside the window");
     need(walk, own.e == (from_start && x.e > y.e ? x.e : y.e), "a window does not end with its parts");
+    need(walk, from_start || !starts_between(walk, x.e, y.b), "a start in the pause of an end window");
 }
 
 static void one_part(struct walk *walk, uint32_t p, struct span own)

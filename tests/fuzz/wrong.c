@@ -4,6 +4,7 @@
 #include <stdbool.h>
 #include <stdio.h>
 #include <stdlib.h>
+#include <string.h>
 
 uint64_t right_check(const uint32_t *job, size_t job_len, const uint32_t *starts, size_t starts_len, const uint32_t *facts, size_t facts_len);
 uint64_t right_fill(const uint32_t *job, size_t job_len, const uint32_t *starts, size_t starts_len, uint32_t *buffer, size_t buffer_len);
@@ -48,6 +49,9 @@ enum fault {
     FIND_READS_AFTER_FACTS,
     FIND_WRITES_AFTER_READING,
     FIND_WRITES_AFTER_BUFFER,
+    FIND_WAITS_THROUGH_START,
+    FIND_WAITS_THROUGH_START_AT_K,
+    FIND_WAITS_THROUGH_UNUSED_START,
     BEGIN_KEEPS_MOMENT,
     BEGIN_CLEARS_MORE,
     BEGIN_REFUSAL_WRITES,
@@ -198,6 +202,61 @@ static uint64_t spoil_find(uint64_t answer, uint32_t *buffer, size_t buffer_len,
     }
 }
 
+/* Has the job an act of this action? */
+static bool is_named(const uint32_t *job, size_t job_len, uint32_t action)
+{
+    for (size_t i = 0; i < job_len; i++)
+        if (job[i] >> 24 == 0x60u && (job[i] >> 18 & 63u) == action) return true;
+    return false;
+}
+
+/* Is the node an end window? */
+static bool is_end_window(const uint32_t *job, size_t job_len, uint32_t node)
+{
+    for (size_t i = 0; i < job_len; i++)
+        if (job[i] >> 28 == 6u && node-- == 0) return job[i] >> 24 == 0x67u;
+    return false;
+}
+
+/* Does the X of an end window end at the moment, in this reading? X's word follows the window's. */
+static bool ends_x(const uint32_t *job, size_t job_len, const uint32_t *reading, size_t len, uint32_t moment)
+{
+    for (size_t i = 0; i + 1 < len; i++)
+        if (is_end_window(job, job_len, reading[i] >> 12 & 63u) && (reading[i + 1] & 63u) == moment) return true;
+    return false;
+}
+
+/* Does the fault let a pause have this start, if the reading is one of the plan without it? */
+static bool lets_pass(const uint32_t *job, size_t job_len, uint32_t start, const uint32_t *reading, size_t len)
+{
+    switch (fault()) {
+    case FIND_WAITS_THROUGH_START: return true;
+    case FIND_WAITS_THROUGH_START_AT_K: return ends_x(job, job_len, reading, len, start >> 6 & 63u);
+    case FIND_WAITS_THROUGH_UNUSED_START: return !is_named(job, job_len, start & 63u);
+    default: return false;
+    }
+}
+
+/* A plan without a reading that has one without one of its first starts, and the same facts: that reading, which waits while the start is
+ * made, where the fault lets it. */
+static uint64_t wait_through(const uint32_t *job, size_t job_len, const uint32_t *starts, size_t starts_len, const uint32_t *facts, size_t facts_len,
+                             uint32_t *buffer, uint64_t answer)
+{
+    static uint32_t fewer[64], filled[4096], reading[4096];
+    for (size_t left_out = 0; left_out < starts_len && starts_len <= 64; left_out++) {
+        size_t kept = 0;
+        for (size_t i = 0; i < starts_len; i++)
+            if (i != left_out) fewer[kept++] = starts[i];
+        uint64_t written = right_fill(job, job_len, fewer, kept, filled, 4096);
+        if (written != (uint64_t)facts_len << 24 || (facts_len && memcmp(filled, facts, facts_len * sizeof *facts))) continue;
+        uint64_t found = right_find(job, job_len, fewer, kept, filled, facts_len, reading, 4096);
+        if (planreader_number(found) || !lets_pass(job, job_len, starts[left_out], reading, planreader_length(found))) continue;
+        memcpy(buffer, reading, planreader_length(found) * sizeof *reading);
+        return found;
+    }
+    return answer;
+}
+
 uint64_t find(const uint32_t *job, size_t job_len, const uint32_t *starts, size_t starts_len, const uint32_t *facts, size_t facts_len,
               uint32_t *buffer, size_t buffer_len)
 {
@@ -205,6 +264,8 @@ uint64_t find(const uint32_t *job, size_t job_len, const uint32_t *starts, size_
     uint64_t answer = right_find(job, job_len, starts, starts_len, facts, facts_len, buffer, buffer_len);
     unsigned number = planreader_number(answer);
     if (number == 0) answer = spoil_find(answer, buffer, buffer_len, first);
+    if (number == 13 && fault() >= FIND_WAITS_THROUGH_START && fault() <= FIND_WAITS_THROUGH_UNUSED_START)
+        return wait_through(job, job_len, starts, starts_len, facts, facts_len, buffer, answer);
     if (fault() == FIND_13_WRITES && number == 13) buffer[0] = ~first;
     if (fault() == FIND_READS_AFTER_FACTS && facts_len) sink = facts[facts_len];
     if (fault() == FIND_SKIPS_CHECK && number == 11) return UINT64_C(13) << 56;

@@ -70,9 +70,9 @@ pub fn window(job: &Job, node: &Node, t: usize) -> u64 {
     range(t + node.m, (t + node.n).min(job.last))
 }
 
-/// The moments k + M to k + N, up to the first at k or later at which an action starts: there Y may still begin, and not after it.
+/// The moments k + M to k + N up to the first start from k on: until then an end window may wait.
 pub fn quiet_window(job: &Job, world: &World, node: &Node, k: usize) -> u64 {
-    window(job, node, k) & upto(low(world.busy & from(k)))
+    window(job, node, k) & upto(low(world.all_starts & from(k)))
 }
 
 /// The greater one of an end of the one set and an end of the other, for all pairs.

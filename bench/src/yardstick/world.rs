@@ -6,8 +6,8 @@ use planreader_tests::words::field;
 pub struct World {
     /// By action.
     pub starts: Vec<u64>,
-    /// The moments at which any action starts.
-    pub busy: u64,
+    /// Of any action.
+    pub all_starts: u64,
     /// By formula.
     pub holds: Vec<u64>,
     pub fails: Vec<u64>,
@@ -38,8 +38,8 @@ pub fn world(job: &Job, start_words: &[u32]) -> World {
     let known: Vec<(u64, u64)> =
         job.initially.iter().zip(changes).map(|(&first, changes)| known(job.last, first, changes)).collect();
     let (holds, fails) = values(job, &known);
-    let busy = starts.iter().fold(0, |all, moments| all | moments);
-    World { starts, busy, holds, fails }
+    let all_starts = starts.iter().fold(0, |all, moments| all | moments);
+    World { starts, all_starts, holds, fails }
 }
 
 /// The moments at which a fluent is known true, and false. Its value changes only where it is hidden or made.

@@ -75,8 +75,20 @@ pub fn judge(
     find: &Find,
     report: &mut Report,
 ) -> Option<usize> {
+    let outcome = calls::find_within(&case.job, &case.starts, facts, noise.len(), most)?;
+    Some(judge_by(&outcome, case, facts, noise, find, report))
+}
+
+/// The same by an outcome that is known.
+pub fn judge_by(
+    outcome: &Outcome,
+    case: &FindCase,
+    facts: &[u32],
+    noise: Vec<u32>,
+    find: &Find,
+    report: &mut Report,
+) -> usize {
     let FindCase { job, starts } = case;
-    let outcome = calls::find_within(job, starts, facts, noise.len(), most)?;
     let mut buffer = noise.clone();
     let given = find(job, starts, facts, &mut buffer);
     let told = || {
@@ -91,20 +103,20 @@ pub fn judge(
     match outcome {
         Outcome::Refused(refusal) => {
             report.tally.add("find", &refusal.number.to_string());
-            report.judge((Answer::refused(refusal), true), (given, buffer == noise), &told);
-            Some(refusal.number)
+            report.judge((Answer::refused(*refusal), true), (given, buffer == noise), &told);
+            refusal.number
         }
         Outcome::NoReading { world, decision } => {
-            find_features::none(&mut report.tally, &world, &decision);
-            report.judge((calls::no_reading(&decision), true), (given, buffer == noise), &told);
-            Some(13)
+            find_features::none(&mut report.tally, world, decision);
+            report.judge((calls::no_reading(decision), true), (given, buffer == noise), &told);
+            13
         }
         Outcome::Read { world, decision } => {
             let right = Answer::success(given.length, decision.count());
-            let lawful = lawful_buffer(&world, given.length, &buffer, &noise);
-            find_features::read(&mut report.tally, &world, &decision, &buffer[..given.length.min(buffer.len())]);
+            let lawful = lawful_buffer(world, given.length, &buffer, &noise);
+            find_features::read(&mut report.tally, world, decision, &buffer[..given.length.min(buffer.len())]);
             report.judge((right, Ok(())), (given, lawful), &told);
-            Some(0)
+            0
         }
     }
 }

@@ -15,3 +15,7 @@ pub mod trial_features;
 pub mod trial_moves;
 pub mod trial_order;
 pub mod trial_tiny;
+pub mod wait_features;
+pub mod wait_rules;
+pub mod wait_tiny;
+pub mod waits;

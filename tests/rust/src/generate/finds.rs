@@ -57,7 +57,7 @@ pub fn crowded(random: &mut Random) -> FindCase {
     FindCase { job: draft.words(), starts }
 }
 
-/// Two tests with a wide window between them; the first formula always holds.
+/// Two tests with a wide window between them; the first formula always holds. Few of them are end windows, which starts cut short.
 fn add_wide(random: &mut Random, draft: &mut Draft) -> usize {
     let x = draft.nodes.len();
     for _ in 0..2 {
@@ -65,7 +65,7 @@ fn add_wide(random: &mut Random, draft: &mut Draft) -> usize {
         draft.nodes.push(vec![words::node(1, formula, 0, 0, 0)]);
     }
     let m = random.below(4).saturating_sub(2);
-    let form = *random.pick(&[6, 7]);
+    let form = *random.pick(&[6, 6, 6, 7]);
     draft.nodes.push(vec![words::node(form, x, x + 1, m, m + random.between(1, 8))]);
     x + 2
 }

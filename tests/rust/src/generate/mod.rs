@@ -13,3 +13,4 @@ pub mod programs;
 pub mod set_draws;
 pub mod sets;
 pub mod trials;
+pub mod waits;

@@ -75,9 +75,23 @@ impl Builder<'_> {
         }
         let (x, k) = self.act_or_test_from(b, e);
         let (y, m) = self.act_or_test_to(k, e);
-        let form = *self.random.pick(&[6, 7]);
+        let form = self.form_of_wait(k, m);
         let Window { m, n } = self.window_around(if form == 6 { m - b } else { m - k });
         self.add(vec![words::node(form, x, y, m, n)])
+    }
+
+    /// A start window or an end window for Y at m after X has ended at k; an end window only where no start disturbs it.
+    fn form_of_wait(&mut self, k: usize, m: usize) -> usize {
+        match self.quiet_from(k) < m {
+            true => 6,
+            false => *self.random.pick(&[6, 7]),
+        }
+    }
+
+    /// The latest moment to which an end window may wait from k: that of the next start, if there is one.
+    fn quiet_from(&self, k: usize) -> usize {
+        let starts = self.world.starts.iter().map(|start| start.moment);
+        starts.filter(|&moment| moment >= k).min().unwrap_or(self.world.last())
     }
 
     /// An action with a start from that moment to that finish.
@@ -240,7 +254,7 @@ impl Builder<'_> {
         let greatest = *steps.iter().max().expect("at least one pass");
         let x = self.add(vec![words::node(1, 0, 0, 0, 0)]);
         let y = self.add(vec![words::node(1, 0, 0, 0, 0)]);
-        let form = *self.random.pick(&[6, 7]);
+        let form = self.form_of_wait(borders[0], borders[borders.len() - 1]);
         self.add(vec![words::node(form, x, y, least, greatest)])
     }
 
@@ -261,7 +275,7 @@ impl Builder<'_> {
     fn end_window(&mut self, b: usize, e: usize, nodes: usize) -> usize {
         let (first, second) = self.shares(nodes);
         let k = self.cut(b, e);
-        let m = self.cut(k, e);
+        let m = self.cut(k, e).min(self.quiet_from(k));
         let x = self.reading(b, k, first);
         let y = self.reading(m, e, second);
         let window = self.window_around(m - k);

@@ -96,10 +96,11 @@ impl Builder {
         self.add(vec![words::node(1, formula, 0, 0, 0)])
     }
 
+    /// A start window of two tests: it may wait while others start, which an end window may not (L2).
     fn span(&mut self, span: &Span) -> usize {
         let x = self.test(span.begins);
         let y = self.test(span.ends);
-        self.add(vec![words::node(7, x, y, span.least, span.most)])
+        self.add(vec![words::node(6, x, y, span.least, span.most)])
     }
 
     fn member(&mut self, spans: &[Span]) -> usize {

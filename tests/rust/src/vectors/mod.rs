@@ -5,3 +5,4 @@ pub mod job;
 pub mod plan;
 pub mod proved;
 pub mod trial;
+pub mod waits;

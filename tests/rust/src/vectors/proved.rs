@@ -1,4 +1,4 @@
-//! The paper's "Proved cases" P1 to P9, and P3 with an extra harmless start.
+//! The paper's "Proved cases" P1 to P9, and P3 with an extra harmless start, early and where its end window is.
 
 use crate::words::*;
 
@@ -12,7 +12,7 @@ pub struct Case {
 }
 
 pub fn cases() -> Vec<Case> {
-    [p1(), p2(), p3(), p3_extra(), p4(), p5(), p6(), p7_lawful(), p7_late()]
+    [p1(), p2(), p3(), p3_extra(), p3_extra_at_k(), p4(), p5(), p6(), p7_lawful(), p7_late()]
         .into_iter()
         .chain([p8_lawful(), p8_sooner(), p9_touching(), p9_apart()])
         .collect()
@@ -101,6 +101,14 @@ fn p3_extra() -> Case {
     case.job[0] = head(3, 4, 5);
     case.job.insert(12, action(3, 1));
     case.starts.insert(2, start(1, 3));
+    case
+}
+
+/// L2: "P3 is unaffected because its window is 0..0", also by another start at k = m = 2.
+fn p3_extra_at_k() -> Case {
+    let mut case = p3_extra();
+    case.name = "P3 with an extra start where X ends and Y begins";
+    case.starts = vec![start(0, 0), start(0, 1), start(2, 2), start(2, 3)];
     case
 }
 

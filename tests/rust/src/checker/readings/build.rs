@@ -2,14 +2,19 @@
 
 use crate::checker::job::{Node, Window};
 use crate::checker::readings::conditions::{covers, met, Placed};
-use crate::checker::readings::decision::Decision;
+use crate::checker::readings::decision::{quiet, Decision, Wait};
 use crate::checker::readings::literal::Triple;
 use crate::checker::readings::world::World;
 use crate::words;
 
 /// The first readings of the triple, at most so many; all of them if there are fewer.
 pub fn readings(world: &World, decision: &Decision, triple: Triple, most: usize) -> Vec<Vec<u32>> {
-    Builder { world, decision, most }.readings(triple)
+    readings_by(world, decision, triple, most, &quiet)
+}
+
+/// The same with the rule of waiting by which the triples were decided.
+pub fn readings_by(world: &World, decision: &Decision, triple: Triple, most: usize, wait: &Wait) -> Vec<Vec<u32>> {
+    Builder { world, decision, most, wait }.readings(triple)
 }
 
 /// Chosen parts, in the order in which they are written.
@@ -19,6 +24,7 @@ struct Builder<'a> {
     world: &'a World,
     decision: &'a Decision,
     most: usize,
+    wait: &'a Wait,
 }
 
 fn triple(node: usize, begin: usize, end: usize) -> Triple {
@@ -55,6 +61,7 @@ impl Builder<'_> {
     /// The ways to choose parts that have readings and meet the rule of the node's form.
     fn choices(&self, of: Triple) -> Vec<Parts> {
         let Triple { node, begin: b, end: e } = of;
+        let may_wait = |k: usize, m: usize| (self.wait)(self.world, self.world.node(node), k, m);
         let mut ways = match self.world.node(node) {
             Node::Act(_) | Node::Test(_) => vec![vec![]],
             Node::Sequence(x, y) => (b..=e).map(|m| vec![triple(*x, b, m), triple(*y, m, e)]).collect(),
@@ -65,11 +72,11 @@ impl Builder<'_> {
             }
             Node::While { formula, body } => self.passes(*formula, triple(*body, b, b), of),
             Node::StartWindow(x, y, Window { m, n }) => two_spans(b, e, |k, y_begin, l| {
-                let fits = b + m <= y_begin && y_begin <= b + n && k.max(l) == e;
+                let fits = b + m <= y_begin && y_begin <= b + n && k.max(l) == e && may_wait(k, y_begin);
                 fits.then(|| vec![triple(*x, b, k), triple(*y, y_begin, l)])
             }),
             Node::EndWindow(x, y, Window { m, n }) => two_spans(b, e, |k, y_begin, l| {
-                let fits = k + m <= y_begin && y_begin <= k + n && l == e;
+                let fits = k + m <= y_begin && y_begin <= k + n && l == e && may_wait(k, y_begin);
                 fits.then(|| vec![triple(*x, b, k), triple(*y, y_begin, l)])
             }),
             Node::TaskSet { .. } => self.placements(of),

@@ -3,6 +3,7 @@
 use crate::checker::job::{Condition, Node, Window};
 use crate::checker::readings::conditions::{covers, met, Placed};
 use crate::checker::readings::world::World;
+use crate::checker::starts::Start;
 use std::collections::BTreeSet;
 
 /// The moments between which one node reads.
@@ -24,6 +25,15 @@ impl Decision {
     }
 }
 
+/// Whether a window lets Y begin at m where X ends at k. Tests put wrong rules in the place of `quiet`.
+pub type Wait = dyn Fn(&World, &Node, usize, usize) -> bool;
+
+/// Request L2, of end windows alone: "no start of any action at k ≤ t < m".
+pub fn quiet(world: &World, window: &Node, k: usize, m: usize) -> bool {
+    let disturbs = |start: &Start| k <= start.moment && start.moment < m;
+    !matches!(window, Node::EndWindow(..)) || !world.starts.iter().any(disturbs)
+}
+
 /// Decides all triples.
 pub fn decide(world: &World) -> Decision {
     decide_within(world, usize::MAX).expect("no bound on the placements")
@@ -31,12 +41,17 @@ pub fn decide(world: &World) -> Decision {
 
 /// Decides all triples, unless some task set has more placements than may be tried.
 pub fn decide_within(world: &World, most_placements: usize) -> Option<Decision> {
+    decide_by(world, most_placements, &quiet)
+}
+
+/// The same with any rule of waiting.
+pub fn decide_by(world: &World, most_placements: usize, wait: &Wait) -> Option<Decision> {
     let mut spans: Vec<Spans> = vec![];
     for node in &world.job.nodes {
         if placements(node, &spans) > most_placements {
             return None;
         }
-        let of_node = spans_of(world, node, &spans);
+        let of_node = spans_of(world, node, &spans, wait);
         spans.push(of_node);
     }
     Some(Decision { spans })
@@ -56,7 +71,8 @@ fn from(spans: &Spans, begin: usize) -> impl Iterator<Item = usize> + '_ {
     spans.range((begin, 0)..=(begin, usize::MAX)).map(|&(_, end)| end)
 }
 
-fn spans_of(world: &World, node: &Node, lower: &[Spans]) -> Spans {
+fn spans_of(world: &World, node: &Node, lower: &[Spans], wait: &Wait) -> Spans {
+    let may_wait = |k: usize, m: usize| wait(world, node, k, m);
     match node {
         Node::Act(action) => act(world, *action),
         Node::Test(formula) => test(world, *formula),
@@ -64,8 +80,8 @@ fn spans_of(world: &World, node: &Node, lower: &[Spans]) -> Spans {
         Node::Choice(x, y) => lower[*x].union(&lower[*y]).copied().collect(),
         Node::If { formula, then, otherwise } => branches(world, *formula, &lower[*then], &lower[*otherwise]),
         Node::While { formula, body } => repeated(world, *formula, &lower[*body]),
-        Node::StartWindow(x, y, window) => start_window(world, &lower[*x], &lower[*y], *window),
-        Node::EndWindow(x, y, window) => end_window(world, &lower[*x], &lower[*y], *window),
+        Node::StartWindow(x, y, window) => start_window(world, &lower[*x], &lower[*y], *window, &may_wait),
+        Node::EndWindow(x, y, window) => end_window(world, &lower[*x], &lower[*y], *window, &may_wait),
         Node::TaskSet { members, conditions } => {
             let members: Vec<&Spans> = members.iter().map(|&member| &lower[member]).collect();
             let mut found = Spans::new();
@@ -114,22 +130,25 @@ fn repeated(world: &World, formula: usize, body: &Spans) -> Spans {
     spans
 }
 
+/// The rule of waiting in one window, from k to m.
+type May<'a> = dyn Fn(usize, usize) -> bool + 'a;
+
 /// "X reads b to k, Y reads m to l, b + M ≤ m ≤ b + N, e is the greater of k and l."
-fn start_window(world: &World, x: &Spans, y: &Spans, window: Window) -> Spans {
+fn start_window(world: &World, x: &Spans, y: &Spans, window: Window, may_wait: &May) -> Spans {
     let mut spans = Spans::new();
     for &(b, k) in x {
-        for m in b + window.m..=(b + window.n).min(world.last()) {
+        for m in (b + window.m..=(b + window.n).min(world.last())).filter(|&m| may_wait(k, m)) {
             spans.extend(from(y, m).map(|l| (b, k.max(l))));
         }
     }
     spans
 }
 
-/// "X reads b to k, Y reads m to e, k + M ≤ m ≤ k + N."
-fn end_window(world: &World, x: &Spans, y: &Spans, window: Window) -> Spans {
+/// "X reads b to k, Y reads m to e, k + M ≤ m ≤ k + N", and between k and m it is quiet.
+fn end_window(world: &World, x: &Spans, y: &Spans, window: Window, may_wait: &May) -> Spans {
     let mut spans = Spans::new();
     for &(b, k) in x {
-        for m in k + window.m..=(k + window.n).min(world.last()) {
+        for m in (k + window.m..=(k + window.n).min(world.last())).filter(|&m| may_wait(k, m)) {
             spans.extend(from(y, m).map(|e| (b, e)));
         }
     }

@@ -83,7 +83,8 @@ impl Literal<'_> {
                 x.begin == b && b + m <= y.begin && y.begin <= b + n && e == x.end.max(y.end)
             }),
             Node::EndWindow(x, y, Window { m, n }) => self.two_parts(from, to, *x, *y, &|x, y| {
-                x.begin == b && x.end + m <= y.begin && y.begin <= x.end + n && y.end == e
+                let in_window = x.end + m <= y.begin && y.begin <= x.end + n;
+                x.begin == b && in_window && y.end == e && (x.end..y.begin).all(|t| !world.starts_at(t))
             }),
             Node::TaskSet { members, conditions } => self.members(from, to, members, &mut vec![], &|placed| {
                 covers(placed, b, e) && conditions.iter().all(|condition| met(world, condition, placed))

@@ -32,6 +32,11 @@ impl World {
         self.job.nodes.len() - 1
     }
 
+    /// Whether any action starts at that moment.
+    pub fn starts_at(&self, moment: usize) -> bool {
+        self.starts.iter().any(|start| start.moment == moment)
+    }
+
     pub fn value(&self, formula: usize, moment: usize) -> Value {
         self.values[moment][formula]
     }
