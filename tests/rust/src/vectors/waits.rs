@@ -5,7 +5,7 @@ use crate::vectors::find::{act, plan, set, test, Vector, ALWAYS, FLUENT_0};
 use crate::words::*;
 
 pub fn vectors() -> Vec<Vector> {
-    let groups = [short_pauses(), long_pauses(), own_actions(), in_hand(), tests(), longest_pauses()];
+    let groups = [short_pauses(), long_pauses(), last_action(), own_actions(), in_hand(), tests(), longest_pauses()];
     let nested = [loops(), windows_in_loops(), windows_in_windows(), sets(), start_windows(), other_readings()];
     groups.into_iter().chain(nested).flatten().collect()
 }
@@ -135,6 +135,16 @@ fn tests() -> Vec<Vector> {
         both(&[(0, 0)]).none("two tests, a start at 0: from 0 to 0 alone, and what begins later", 10),
         both(&[(1, 0)]).none("two tests, a start at 1: what lies before it or begins after it", 10),
         both(&[(0, 0), (1, 1)]).none("two tests, starts at 0 and 1: no time passes, and from 2 on", 9),
+    ]
+}
+
+/// A job of 64 actions and a pause of 3 moments: k = 1, m = 4, n = 5.
+fn last_action() -> Vec<Vector> {
+    let program = [act(0), act(1), node(7, 0, 1, 0, 3)];
+    let case = |others: &[At]| with(5, &[1; 64], &program, &[(0, 0), (4, 1)], others);
+    vec![
+        read(case(&[(0, 63), (4, 63)]), "64 actions, the last one before k and at m"),
+        disturbed(case(&[(2, 63)]), "64 actions, the last one inside"),
     ]
 }
 
