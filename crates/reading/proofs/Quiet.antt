@@ -82,6 +82,21 @@ started-all {sets} {n} l s = record {
 
 -- ---- by that set, or by the starts
 
+-- an end by one test of the pause is one by another that follows from it
+ends-map : {b least most last : ℕ} {X Y : ℕ → Type 0} {Q Q′ : ℕ → ℕ → Type 0} → ((k m : ℕ) → Q k m → Q′ k m)
+    → EndsWithin b least most last Q X Y → EndsWithin b least most last Q′ X Y
+ends-map h r = record {
+  k = r .k;
+  m = r .m;
+  after = r .after;
+  early = r .early;
+  late = r .late;
+  upto = r .upto;
+  left = r .left;
+  right = r .right;
+  quiet = h (r .k) (r .m) (r .quiet);
+}
+
 module _ (T : Trajectory) {started : ℕ} (any : AnyStart (T .starts) started) where
   pub quiet-law : (k m : ℕ) → QuietIn started k m ↔ Quiet T k m
   quiet-law k m = (
@@ -90,7 +105,4 @@ module _ (T : Trajectory) {started : ℕ} (any : AnyStart (T .starts) started) w
   )
 
   pub ends-law : {b least most last : ℕ} {X Y : ℕ → Type 0} → EndsWithin b least most last (QuietIn started) X Y ↔ EndsWithin b least most last (Quiet T) X Y
-  ends-law = (
-    λ r. record { k = r .k; m = r .m; after = r .after; early = r .early; late = r .late; upto = r .upto; left = r .left; right = r .right; quiet = quiet-law _ _ .0 (r .quiet) },
-    λ r. record { k = r .k; m = r .m; after = r .after; early = r .early; late = r .late; upto = r .upto; left = r .left; right = r .right; quiet = quiet-law _ _ .1 (r .quiet) },
-  )
+  ends-law = (ends-map (λ k m. quiet-law k m .0), ends-map (λ k m. quiet-law k m .1))
