@@ -1,5 +1,5 @@
 -- Every trial that moves give passes the tests, and its starts are those that were accepted. Assumes nothing.
-use mathlib.Core.Bool.{Bool, true, false, cond, _||_}
+use mathlib.Core.Bool.{Bool, true, false, cond, _||_, true≢false}
 use mathlib.Core.List.{List, [], _∷_}
 use mathlib.Core.Path.{_≡_, refl, sym, _∙_}
 use Prim.Native.Nat.{ℕ, zero, suc, _^_, _<_, _≤_}
@@ -10,7 +10,6 @@ use lib.ListN.{length, getD}
 use Rattle.words.specs.Fields.{startMoment, startWord}
 use Rattle.words.specs.Scan.{any}
 use Rattle.words.specs.Lists.{Each, each-none, each-more, pairs-none, sorted}
-use Rattle.words.proofs.Choices.{true-false}
 use Rattle.words.proofs.Lists.{each-map, any-none, none-any}
 use Rattle.words.proofs.Insert.{each-insert}
 use Rattle.answers.specs.Rows.{row, refusalAt}
@@ -35,7 +34,7 @@ pub record Passing (job : List ℕ) (T : Trial) : Type 0 where
   pub lawful : Lawful job (T .starts)
 
 or-false : (a b : Bool) → (a || b) ≡ false → (a ≡ false) × (b ≡ false)
-or-false true b e = absurd (true-false e)
+or-false true b e = absurd (true≢false e)
 or-false false b e = (refl, e)
 
 pub small-at : {S : List ℕ} → Each (λ s. s < 2 ^ 32) S → (i : ℕ) → getD S i 0 < 2 ^ 32

@@ -1,5 +1,5 @@
 -- What tests put together say. Assumes nothing.
-use mathlib.Core.Bool.{Bool, true, false, _||_, cond, _&&_, true≢false}
+use mathlib.Core.Bool.{Bool, true, false, cond, _&&_, true≢false}
 use mathlib.Core.Logic.{_⊎_, inl, inr, by-cases}
 use mathlib.Core.Path.{_≡_, refl, sym, _∙_}
 use Prim.Native.Nat.{ℕ, _≤_, _<_}
@@ -19,10 +19,6 @@ is-false false h = refl
 pub both-true : (a b : Bool) → (a && b) ≡ true → (a ≡ true) × (b ≡ true)
 both-true true b e = (refl, e)
 both-true false b e = absurd (true≢false (sym e))
-
-pub either-true : (a : Bool) → (a || true) ≡ true
-either-true true = refl
-either-true false = refl
 
 pub implies-true : (a b : Bool) → implies a b ≡ true → a ≡ true → b ≡ true
 implies-true true b h e = h
@@ -60,12 +56,6 @@ pub same-test : (a b : Bool) → (a ≡ true → b ≡ true) → (b ≡ true →
 same-test true b f g = sym (f refl)
 same-test false false f g = refl
 same-test false true f g = g refl
-
-pub or-swap : (a b : Bool) → (a || b) ≡ (b || a)
-or-swap true true = refl
-or-swap true false = refl
-or-swap false true = refl
-or-swap false false = refl
 
 pub same-or-not : (a b : ℕ) → (a ≡ b) ⊎ (a ≡ b → ⊥)
 same-or-not a b = cases (eqb a b) refl
