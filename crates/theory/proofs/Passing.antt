@@ -1,7 +1,7 @@
 -- What a job that rows 1 to 5 pass has: its index is that of all its words. Assumes nothing.
 use mathlib.Core.List.{List}
 use mathlib.Core.Path.{_≡_, _∙_}
-use Prim.Native.Nat.{ℕ}
+use Prim.Native.Nat.{ℕ, _≤_}
 use native.Mathlib.Omega.{arith}
 use borrow.Author.Tests.{eq-eqb}
 use lib.ListN.{length}
@@ -14,6 +14,8 @@ use Rattle.job.specs.Code.Parts.{formulaCount}
 use Rattle.job.specs.Code.WellFormed.{WellFormed, Indexed}
 use Rattle.job.proofs.WellFormed.{well-formed}
 use Rattle.answers.proofs.Rows.{or-none}
+use Rattle.facts.specs.Facts.{factsOf}
+use Rattle.facts.proofs.Lists.{facts-fit}
 use Rattle.starts.specs.Rows.{startsRefusal}
 use Rattle.theory.specs.Answers.{planRefusal}
 use Rattle.job.proofs.WordPositions.{placed, positions-count}
@@ -29,6 +31,10 @@ job-clear job starts clear = or-none (jobRefusal job) (startsRefusal job starts)
 
 pub plan-formed : (job starts : List ℕ) → planRefusal job starts .number ≡ 0 → WellFormed job
 plan-formed job starts clear = well-formed job (job-clear job starts clear)
+
+-- it has at most 4,096 facts
+pub few-facts : (job starts : List ℕ) → planRefusal job starts .number ≡ 0 → length (factsOf job starts) ≤ 4096
+few-facts job starts clear = facts-fit job starts (plan-formed job starts clear)
 
 module _ (job : List ℕ) {index : Index} (clear : jobRefusal job .number ≡ 0) (is : index ≡ checkedOf job .index) where
   formed : WellFormed job

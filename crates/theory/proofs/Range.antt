@@ -1,6 +1,5 @@
 -- Whatever the lists of 32-bit words, of any length, the answers of check and fill fit their fields. Assumes nothing.
 use mathlib.Core.List.{List, [], _∷_}
-use mathlib.Core.Path.{_≡_}
 use Prim.Native.Nat.{ℕ, suc, _+_, _^_, _≤_, _<_}
 use native.Mathlib.Omega.{arith}
 use lib.Dec.{eqb, ltb}
@@ -10,13 +9,12 @@ use Rattle.answers.specs.Code.Packed.{InRange}
 use Rattle.answers.proofs.Rows.{or-none}
 use Rattle.answers.proofs.Range.{Fitting, refusal-fits, passed-fits, next-fits, or-fits, row-fits, answer-fits}
 use Rattle.job.specs.Refusal.{jobRefusal}
-use Rattle.job.proofs.WellFormed.{well-formed}
 use Rattle.job.proofs.Fits.{job-fits}
 use Rattle.facts.specs.Facts.{factsOf}
-use Rattle.facts.proofs.Lists.{facts-fit}
 use Rattle.starts.specs.Rows.{startsRefusal}
 use Rattle.starts.proofs.RefusalFits.{starts-fit}
 use Rattle.theory.proofs.Laws.{check-rows}
+use Rattle.theory.proofs.Passing.{few-facts}
 use Rattle.theory.specs.Answers.{bufferRefusal, planRefusal, factsRefusal, checkRefusal, fillRefusal, checkAnswer, fillAnswer}
 
 differ-fits : (given wanted : List ℕ) (i : ℕ) → i + length wanted ≤ 4096 → Fitting (factsRefusal given wanted i)
@@ -25,11 +23,6 @@ differ-fits [] [] i l = passed-fits
 differ-fits [] (b ∷ wanted) i l = refusal-fits (omega arith) (omega arith)
 differ-fits (a ∷ given) [] i l = refusal-fits (omega arith) (omega arith)
 differ-fits (a ∷ given) (b ∷ wanted) i l = cond-all Fitting (eqb a b) (differ-fits given wanted (suc i) (omega arith)) (refusal-fits (omega arith) (omega arith))
-
--- a plan that passes rows 1 to 10 has at most 4,096 facts
-few-facts : (job starts : List ℕ) → planRefusal job starts .number ≡ 0 → length (factsOf job starts) ≤ 4096
-unfolding planRefusal
-few-facts job starts e = facts-fit job starts (well-formed job (or-none (jobRefusal job) (startsRefusal job starts) e .0))
 
 module _ (job starts : List ℕ) (words : (i : ℕ) → getD starts i 0 < 2 ^ 32) where
   plan-fits : Fitting (planRefusal job starts)
