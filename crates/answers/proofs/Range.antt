@@ -1,13 +1,12 @@
 -- Refusals whose number and position are bounded fit the fields of an answer. Assumes nothing.
-use mathlib.Core.Bool.{Bool, true, false, cond}
-use mathlib.Core.Path.{_≡_, refl}
+use mathlib.Core.Bool.{Bool}
+use mathlib.Core.Path.{_≡_}
 use Prim.Native.Nat.{ℕ, zero, suc, _^_, _≤_, _<_}
 use native.Mathlib.Omega.{arith}
 use borrow.Author.Tests.{eqb-true}
 use lib.Dec.{eqb}
 use Rattle.words.proofs.Choices.{cond-when, cond-all}
 use Rattle.answers.specs.declared.Refusal.{Refusal}
-use Rattle.answers.specs.declared.Answer.the-variants.{Accepted, Refused}
 use Rattle.answers.specs.Rows.{refusal, passed, row, firstRefusal, refusalAt, firstOf}
 use Rattle.answers.specs.Packed.{answerOf}
 use Rattle.answers.specs.Code.Packed.{InRange}
@@ -48,8 +47,7 @@ first-fits f h n l = first-all Fitting f n passed-fits (λ i m. refusal-fits (h 
 
 -- an answer of such rows is in range, where its length and count are; they are asked for only where it is accepted
 pub answer-fits : (r : Refusal) (l c : ℕ) → Fitting r → (r .number ≡ 0 → (l < 2 ^ 16) × (c < 2 ^ 24)) → InRange (answerOf r l c)
-answer-fits r l c h m = cases (eqb (r .number) 0) refl
-  where
-    cases : (t : Bool) → eqb (r .number) 0 ≡ t → InRange (cond t (Accepted l c) (Refused (r .number) (r .position) 0))
-    cases true e = let b = m (eqb-true (r .number) 0 e) in record { number = omega arith; position = omega arith; length = b .0; count = b .1 }
-    cases false e = record { number = h .number; position = h .position; length = omega arith; count = omega arith }
+answer-fits r l c h m =
+    cond-when InRange (eqb (r .number) 0)
+    (λ e. let b = m (eqb-true (r .number) 0 e) in record { number = omega arith; position = omega arith; length = b .0; count = b .1 })
+    (λ e. record { number = h .number; position = h .position; length = omega arith; count = omega arith })

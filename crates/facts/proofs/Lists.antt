@@ -1,6 +1,5 @@
 -- The lists of facts: moment by moment, how long they are, and how one is written after another. Assumes nothing.
-use mathlib.Core.Bool.{Bool, true, false, cond}
-use mathlib.Core.List.{List, [], _∷_, _++_}
+use mathlib.Core.List.{List, [], _++_}
 use mathlib.Core.Path.{_≡_, refl, ap, _∙_}
 use Prim.Native.Nat.{ℕ, _+_, _-_, _*_, _≤_, _<_}
 use native.Mathlib.Omega.{arith}
@@ -9,9 +8,10 @@ use lib.ListN.{length, getD, length-append}
 use lib.Seq.{length-sets}
 use Rattle.words.specs.Scan.{concatBelow}
 use Rattle.words.specs.Lists.{insert}
+use Rattle.words.proofs.Choices.{cond-all}
 use Rattle.words.proofs.Copies.{sets-append}
 use Rattle.words.proofs.Concat.{concat-more, concat-cong, concat-most, concat-split}
-use Rattle.words.specs.Fields.{unknown, startMoment, startAction, factWord}
+use Rattle.words.specs.Fields.{unknown, startMoment, startAction}
 use Rattle.job.specs.Parts.{headWord, fluents, lastMoment, duration}
 use Rattle.job.specs.Code.WellFormed.{WellFormed}
 use Rattle.history.specs.Values.{valueAt}
@@ -35,11 +35,7 @@ module _ {old : List ℕ} {at : ℕ} where
   written-size {words} w = ap length (w .held) ∙ length-sets old at words
 
 fact-most : (head t f value : ℕ) → length (factOf head t f value) ≤ 1
-fact-most head t f value = cases (eqb value unknown)
-  where
-    cases : (b : Bool) → length (cond b [] (factWord head t f value ∷ [])) ≤ 1
-    cases true = omega arith
-    cases false = omega arith
+fact-most head t f value = cond-all (λ l. length l ≤ 1) (eqb value unknown) (omega arith) (omega arith)
 
 facts-most : (head t : ℕ) (value : ℕ → ℕ) (n : ℕ) → length (concatBelow (λ f. factOf head t f (value f)) n) ≤ n
 facts-most head t value n = omega (arith, concat-most (λ (f : ℕ). factOf head t f (value f)) 1 n (λ f. fact-most head t f (value f)))

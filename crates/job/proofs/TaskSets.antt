@@ -1,6 +1,6 @@
 -- The task sets of a job that is not refused: members and conditions stand after their set, as many and such as the rules allow.
 -- Assumes nothing.
-use mathlib.Core.Bool.{Bool, true, false, _&&_, _||_, true≢false}
+use mathlib.Core.Bool.{Bool, true, false, _&&_, _||_, true≢false, or-false}
 use mathlib.Core.List.{List}
 use mathlib.Core.Logic.{by-cases}
 use mathlib.Core.Path.{_≡_, refl, sym, _∙_}
@@ -68,15 +68,11 @@ no-empty job at k f none e = true≢false (sym (rw (latest-more job at 6, k, f, 
 second : (w n : ℕ) → conditionShape w ≡ true → implies (leb (form w) 1 || eqb (form w) 4) (ltb (conditionJ w) n) ≡ true → 0 < n → conditionJ w < n
 second w n s r some = cases (leb (form w) 1) (eqb (form w) 4) refl refl
   where
-    left : (x : Bool) → (x || false) ≡ true → x ≡ true
-    left true e = refl
-    left false e = e
-
     cases : (a b : Bool) → leb (form w) 1 ≡ a → eqb (form w) 4 ≡ b → conditionJ w < n
     cases true b e f = ltb-true (conditionJ w) n (rw e at r)
     cases false true e f = ltb-true (conditionJ w) n (rw (e, f) at r)
     cases false false e f =
-        let z = eqb-true (conditionJ w) 0 (both-true (within 2 3 (form w)) (spare w 14 12) (left (within 2 3 (form w) && spare w 14 12) (rw (e, f) at s)) .1) in
+        let z = eqb-true (conditionJ w) 0 (both-true (within 2 3 (form w)) (spare w 14 12) (sym (or-false (within 2 3 (form w) && spare w 14 12)) ∙ rw (e, f) at s) .1) in
         omega arith
 
 module _ (job : List ℕ) (ok : jobRefusal job .number ≡ 0) {p at : ℕ} (node : IsWord job 6 p at) (set : form (getD job at 0) ≡ 8) where
