@@ -2,6 +2,7 @@
  * Prints each fault, and exits with 1 if there is one. */
 #define _POSIX_C_SOURCE 200809L
 #include "planreader.h"
+#include "example3.h"
 #include "plan.h"
 #include <pthread.h>
 #include <stdio.h>
@@ -68,11 +69,6 @@ static void small(void)
 /* Example 3 of 004 with the theory of its Example 1, the scope's P3: it has one reading alone, and the facts are 004's six states. */
 static void example3(void)
 {
-    const uint32_t windows[] = {0x10030305u, 0x20000040u, 0x20000041u, 0x20000042u, 0x30000002u, 0x40000082u, 0x30000042u, 0x40000081u, 0x30000083u,
-                                0x40000001u, 0x40000002u, 0x40000080u, 0x60000000u, 0x60040000u, 0x66001000u, 0x60080000u, 0x67083000u};
-    const uint32_t three[] = {0x90000000u, 0x90000001u, 0x90000082u};
-    const uint32_t states[] = {0xa0000001u, 0xa0000003u, 0xa0000005u, 0xa0000081u, 0xa0000101u, 0xa0000102u, 0xa0000104u,
-                               0xa0000182u, 0xa0000184u, 0xa0000202u, 0xa0000204u, 0xa0000280u, 0xa0000282u, 0xa0000284u};
     const uint32_t reading[] = {0xb0004005u, 0xb0002002u, 0xb0000002u, 0xb0001002u, 0xb0003085u};
     for (size_t i = 0; i < 5000; i++) buffer[i] = before[i];
     expect("fill, Example 3", fill(windows, 17, three, 3, buffer, 5000), 0, 0, 14);

@@ -3,6 +3,7 @@
  * sides of every list; and the door of the examples, whose files it reads: run it in the repository's root. Prints each fault, and exits
  * with 1 if there is one. */
 #include "planreader.h"
+#include "example3.h"
 #include <stdio.h>
 #include <string.h>
 
@@ -392,11 +393,6 @@ static void needs(void)
 /* Example 3 of 004, the scope's P3, started with the higher number first: b and c at 0, a at 2. The states are 004's six. */
 static void example3(void)
 {
-    const uint32_t windows[] = {0x10030305u, 0x20000040u, 0x20000041u, 0x20000042u, 0x30000002u, 0x40000082u, 0x30000042u, 0x40000081u, 0x30000083u,
-                                0x40000001u, 0x40000002u, 0x40000080u, 0x60000000u, 0x60040000u, 0x66001000u, 0x60080000u, 0x67083000u};
-    const uint32_t three[] = {0x90000000u, 0x90000001u, 0x90000082u};
-    const uint32_t states[] = {0xa0000001u, 0xa0000003u, 0xa0000005u, 0xa0000081u, 0xa0000101u, 0xa0000102u, 0xa0000104u,
-                               0xa0000182u, 0xa0000184u, 0xa0000202u, 0xa0000204u, 0xa0000280u, 0xa0000282u, 0xa0000284u};
     const unsigned known[] = {3, 4, 7, 9, 11, 14};
     TAKE_JOB(windows);
     begins("Example 3, begin", TRIAL, 0, 0);

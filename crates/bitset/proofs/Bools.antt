@@ -30,9 +30,3 @@ pub implied : (a b c : Bool) → (c ≡ true → b ≡ true) → (a && b && c) �
 implied false b c h = refl
 implied true b false h = and-false b
 implied true b true h = ap (λ (t : Bool). t && true) (h refl)
-
--- two tests that imply each other
-pub same-test : (a b : Bool) → (a ≡ true → b ≡ true) → (b ≡ true → a ≡ true) → a ≡ b
-same-test true b f g = sym (f refl)
-same-test false false f g = refl
-same-test false true f g = g refl

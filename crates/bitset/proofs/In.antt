@@ -1,5 +1,5 @@
 -- The members of the sets that the operations make, by the relation `In`. Assumes nothing.
-use Prim.Native.Nat.{ℕ, zero, suc, _+_, _^_, _≤_, _<_, max}
+use Prim.Native.Nat.{ℕ, zero, _+_, _^_, _≤_, _<_, max}
 use mathlib.Core.Path.{_≡_, refl, sym, ap, _∙_}
 use mathlib.Core.Bool.{true, not, _&&_, _||_}
 use mathlib.Core.Logic.{_↔_, _⊎_, inl, inr, ⊎-elim}
@@ -7,8 +7,9 @@ use mathlib.Core.List.{List}
 use lib.Dec.{leb, ltb, eqb}
 use lib.ListN.{getD, replicate}
 use borrow.Author.Tests.{leb-true, ltb-true, eqb-true, le-leb, lt-ltb, eq-eqb, ne-eqb}
-use Rattle.bitset.specs.Code.Members.{has, IsSetOf, In, Max, InSomeRow}
+use Rattle.bitset.specs.Code.Members.{has, IsSetOf, In, Lowest, Dropped, Max, InSomeRow}
 use Rattle.words.proofs.Choices.{both-true}
+use Rattle.words.proofs.Entries.{entries-alike}
 use Rattle.bitset.proofs.Bools.{not-both, either, or-cases, or-left, or-right, both}
 use Rattle.bitset.proofs.Digits.{has-zero, has-below}
 
@@ -51,6 +52,10 @@ in-without {x = x} {a = a} h e = (
   λ t. record { yes = h e ∙ both (t .0 .yes) (ap not (ne-eqb e a (t .1))) },
 )
 
+-- without its lowest
+pub in-dropped : {x r m : ℕ} → Lowest x m → Dropped x r → (e : ℕ) → In r e ↔ (In x e × (e ≡ m → ⊥))
+in-dropped l d = in-without (d .rest _ l)
+
 pub in-single : {r a : ℕ} → IsSetOf r (λ k. eqb k a) → (e : ℕ) → In r e ↔ (e ≡ a)
 in-single {a = a} h e = (λ t. eqb-true e a (sym (h e) ∙ t .yes), λ q. record { yes = h e ∙ eq-eqb e a q })
 
@@ -87,6 +92,4 @@ in-max h k = (
 
 -- an array of empty sets
 pub empty-entry : (k i : ℕ) → getD (replicate k zero) i 0 ≡ 0
-empty-entry zero i = refl
-empty-entry (suc k) zero = refl
-empty-entry (suc k) (suc i) = empty-entry k i
+empty-entry k i = entries-alike (λ w. w ≡ 0) k 0 refl refl i

@@ -9,3 +9,9 @@ pub sum-cong : {f g : ℕ → ℕ} (n : ℕ) → ((i : ℕ) → i < n → f i �
 unfolding sumBelow
 sum-cong zero h = refl
 sum-cong (suc n) h = ap₂ _+_ (sum-cong n (λ i l. h i (omega arith))) (h n (omega arith))
+
+-- the first term apart
+pub sum-front : (f : ℕ → ℕ) (n : ℕ) → sumBelow f (suc n) ≡ f 0 + sumBelow (λ i. f (suc i)) n
+unfolding sumBelow
+sum-front f zero = omega arith
+sum-front f (suc n) = omega (arith, sum-front f n)

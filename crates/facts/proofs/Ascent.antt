@@ -12,7 +12,7 @@ use Rattle.job.specs.Parts.{headWord, fluents, lastMoment}
 use Rattle.job.specs.Code.WellFormed.{WellFormed}
 use Rattle.history.specs.Values.{valueAt}
 use Rattle.facts.specs.Facts.{factOf, factsAt, factsUpto, factsOf}
-use Rattle.history.proofs.Values.{pick-most}
+use Rattle.words.proofs.Choices.{cond-all}
 
 -- the words ascend strictly, and lie from low to below high
 data Climbs : ℕ → List ℕ → ℕ → Type 0 where
@@ -57,7 +57,7 @@ fact-climbs head t f value = cases (eqb value unknown) (eqb value holds)
     cases : (b c : Bool) → Climbs (least t f) (cond b [] ((least t f + cond c 0 1) ∷ [])) (least t (suc f))
     cases true c = let h : least t f ≤ least t (suc f) = omega arith in done h
     cases false c =
-        let p : cond c 0 1 ≤ 1 = pick-most c 0 1 (omega arith) (omega arith) in
+        let p : cond c 0 1 ≤ 1 = cond-all (λ n. n ≤ 1) c (omega arith) (omega arith) in
         let low : least t f ≤ least t f + cond c 0 1 = omega arith in
         let high : suc (least t f + cond c 0 1) ≤ least t (suc f) = omega arith in
         next low (done high)

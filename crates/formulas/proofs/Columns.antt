@@ -4,11 +4,11 @@ use mathlib.Core.Path.{_≡_}
 use Prim.Native.Nat.{ℕ, _+_, _*_, _≤_, _<_}
 use native.Mathlib.Omega.{arith}
 use borrow.Author.Count.{below-more}
-use lib.ListN.{length, getD, set, replicate, length-set, length-replicate}
-use lib.Seq.{getD-set-same, getD-set-other}
+use lib.ListN.{length, set, replicate, length-set, length-replicate}
+use lib.Seq.{getD-set-other}
+use Rattle.words.proofs.Entries.{entries-set, entries-more, entries-alike}
 use Rattle.job.specs.Parts.{lastMoment}
 use Rattle.job.specs.Code.Parts.{formulaCount}
-use Rattle.history.proofs.Stores.{set-all, replicate-all}
 use Rattle.formulas.specs.Values.{formulaAt}
 use Rattle.formulas.specs.Code.Table.{Small, ColumnAt, ColumnsBefore, FormulaTable}
 
@@ -23,7 +23,7 @@ module _ {conj disj job : List ℕ} {fluent : ℕ → ℕ → ℕ} where
   columns-none =
       record {
         size = length-replicate {A = ℕ} 4096 0;
-        small = record { most = replicate-all (λ (v : ℕ). v ≤ 2) 4096 0 (omega arith) (omega arith) };
+        small = record { most = entries-alike (λ v. v ≤ 2) 4096 0 (omega arith) (omega arith) };
         column = λ u l. absurd (omega arith);
       }
 
@@ -47,15 +47,13 @@ module _ {conj disj job : List ℕ} {fluent : ℕ → ℕ → ℕ} where
     pub fill-entry : t < 64 → (k : ℕ) → k < 64 → (values : List ℕ) (v : ℕ) → v ≤ 2 → Filling conj disj job fluent t k values
         → v ≡ formulaAt conj disj job fluent k t → Filling conj disj job fluent t (k + 1) (set values (k * 64 + t) v)
     fill-entry l k m values v most h e =
+        let room : k * 64 + t < length values = omega (arith, h .size) in
         record {
           size = rw length-set (h .size);
-          small = record { most = set-all (λ (v : ℕ). v ≤ 2) values (k * 64 + t) v (h .small .most) most };
+          small = record { most = entries-set (λ i x. x ≤ 2) values (k * 64 + t) v room most (h .small .most) };
           here =
               record {
-                entry =
-                    below-more (λ (x : ℕ). getD (set values (k * 64 + t) v) (x * 64 + t) 0 ≡ formulaAt conj disj job fluent x t) k
-                    (λ x b. rw (getD-set-other values (k * 64 + t) (x * 64 + t) v 0 (λ q. omega arith)) (h .here .entry x b))
-                    (rw (getD-set-same values (k * 64 + t) v 0 (omega (arith, h .size))) e);
+                entry = entries-more (λ x. x * 64 + t) (λ x y. y ≡ formulaAt conj disj job fluent x t) values k v room (λ x b q. omega arith) (h .here .entry) e;
               };
           others =
               λ u b.

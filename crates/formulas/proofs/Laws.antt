@@ -8,28 +8,25 @@ use native.Mathlib.Omega.{arith}
 use borrow.Author.Tests.{eqb-true, eqb-false, eq-eqb}
 use lib.Dec.{eqb}
 use lib.ListN.{getD}
+use Rattle.words.proofs.Choices.{cond-when, cond-all}
 use Rattle.words.specs.Fields.{form, holds, formulaX, formulaY, atomFluent}
 use Rattle.job.specs.Parts.{headWord, fluents, lastMoment, formulaWord}
 use Rattle.job.specs.Code.Parts.{formulaCount}
 use Rattle.job.specs.Code.WellFormed.{WellFormed, Indexed}
 use Rattle.history.specs.Values.{valueAt}
 use Rattle.history.specs.Code.Tables.{History}
-use Rattle.history.proofs.Values.{pick-most, value-most}
+use Rattle.history.proofs.Values.{value-most}
 use Rattle.formulas.specs.Values.{byTable, formValue, formulaBelow, formulaAt}
 use Rattle.formulas.specs.Code.Table.{Connectives, tabled, Valued, Grounds, ColumnAt, FormulaTable}
-
-pick-when : (t : Bool) {a : ℕ} (b : ℕ) {m : ℕ} → (t ≡ true → a ≤ m) → b ≤ m → cond t a b ≤ m
-pick-when true b h l = h refl
-pick-when false b h l = l
 
 module _ (conj disj : List ℕ) (head w : ℕ) where
   pub form-most : Connectives conj disj → (fluent lower : ℕ → ℕ → ℕ) (t : ℕ) → (form w ≡ 1 → fluent t (atomFluent head w) ≤ 2) → formValue conj disj head w fluent lower t ≤ 2
   unfolding formValue
   form-most c fluent lower t h =
-      pick-most (eqb (form w) 0) holds _ (omega arith)
-      (pick-when (eqb (form w) 1) _ (λ e. h (eqb-true (form w) 1 e))
-      (pick-most (eqb (form w) 2) _ _ (omega arith)
-      (pick-most (eqb (form w) 3) _ _ (c .conjunction .most _) (c .disjunction .most _))))
+      cond-all (λ v. v ≤ 2) (eqb (form w) 0) (omega arith)
+      (cond-when (λ v. v ≤ 2) (eqb (form w) 1) (λ e. h (eqb-true (form w) 1 e))
+      (λ e. cond-all (λ v. v ≤ 2) (eqb (form w) 2) (omega arith)
+      (cond-all (λ v. v ≤ 2) (eqb (form w) 3) (c .conjunction .most _) (c .disjunction .most _))))
 
   -- only what the form refers to matters
   pub form-agree : (fluent fluent' lower lower' : ℕ → ℕ → ℕ) (t : ℕ) → (form w ≡ 1 → fluent t (atomFluent head w) ≡ fluent' t (atomFluent head w))

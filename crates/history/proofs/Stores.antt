@@ -2,7 +2,7 @@
 use mathlib.Core.Bool.{Bool, true, false, cond, _&&_, _||_}
 use mathlib.Core.List.{List, [], _∷_}
 use mathlib.Core.Path.{_≡_, refl, sym, ap, _∙_}
-use Prim.Native.Nat.{ℕ, zero, suc, _+_, _-_, _*_, _≤_, _<_}
+use Prim.Native.Nat.{ℕ, _+_, _-_, _*_, _≤_, _<_}
 use native.Mathlib.Omega.{arith}
 use borrow.Author.Count.{below-more}
 use borrow.Author.Tests.{eqb-true, eqb-false}
@@ -12,6 +12,7 @@ use lib.Seq.{getD-set-same, getD-set-other}
 use Rattle.words.specs.Fields.{unknown}
 use Rattle.words.specs.Scan.{any, findOr}
 use Rattle.words.proofs.Scan.{drop-next, gives-end}
+use Rattle.words.proofs.Entries.{entries-more}
 use Rattle.history.specs.Code.Stores.{Overlaid, Mapped, RowStored}
 
 module _ {n : ℕ} {test : ℕ → ℕ → Bool} {gives : ℕ → ℕ → ℕ} {old : List ℕ} where
@@ -77,9 +78,7 @@ module _ {make : ℕ → ℕ → ℕ} {old : List ℕ} where
       record {
         size = length-set cur n v ∙ h .size;
         value =
-            below-more (λ (f : ℕ). getD (set cur n v) f 0 ≡ make f (getD old f 0)) n
-            (λ f l. rw (getD-set-other cur n f v 0 (λ q. omega arith)) (h .value f l))
-            (rw (getD-set-same cur n v 0 r, ← h .rest n (omega arith)) e);
+            entries-more (λ f. f) (λ f x. x ≡ make f (getD old f 0)) cur n v r (λ f l q. omega arith) (h .value) (rw (← h .rest n (omega arith)) e);
         rest = λ f l. rw (getD-set-other cur n f v 0 (λ q. omega arith)) (h .rest f (omega arith));
       }
 
@@ -92,10 +91,7 @@ module _ {row : List ℕ} {a : ℕ} {old : List ℕ} where
   row-more {n} cur r h =
       record {
         size = length-set cur (a * 64 + n) (getD row n 0) ∙ h .size;
-        here =
-            below-more (λ (f : ℕ). getD (set cur (a * 64 + n) (getD row n 0)) (a * 64 + f) 0 ≡ getD row f 0) n
-            (λ f l. rw (getD-set-other cur (a * 64 + n) (a * 64 + f) (getD row n 0) 0 (λ q. omega arith)) (h .here f l))
-            (getD-set-same cur (a * 64 + n) (getD row n 0) 0 r);
+        here = entries-more (λ f. a * 64 + f) (λ f x. x ≡ getD row f 0) cur n (getD row n 0) r (λ f l q. omega arith) (h .here) refl;
         earlier = λ i l. rw (getD-set-other cur (a * 64 + n) i (getD row n 0) 0 (λ q. omega arith)) (h .earlier i l);
       }
 
@@ -121,25 +117,3 @@ module _ {value : ℕ → ℕ → ℕ} {n : ℕ} where
             (stored .here f (omega arith) ∙ this f m)
             b l;
       }
-
--- a store at i: what holds of each element below i, and of the value stored, holds below i + 1
-pub fill-more : (P : ℕ → ℕ → Type 0) (l : List ℕ) (i v : ℕ) → i < length l
-    → ((k : ℕ) → k < i → P k (getD l k 0)) → P i v → (k : ℕ) → k < i + 1 → P k (getD (set l i v) k 0)
-fill-more P l i v h all here =
-    below-more (λ (k : ℕ). P k (getD (set l i v) k 0)) i
-    (λ k b. rw (getD-set-other l i k v 0 (λ e. omega arith)) (all k b))
-    (rw (getD-set-same l i v 0 h) here)
-
--- what holds of every element, and of the value stored, holds after the store
-pub set-all : (P : ℕ → Type 0) (l : List ℕ) (i v : ℕ) → ((k : ℕ) → P (getD l k 0)) → P v → (k : ℕ) → P (getD (set l i v) k 0)
-set-all P [] i v h p k = h k
-set-all P (x ∷ l) zero v h p zero = p
-set-all P (x ∷ l) zero v h p (suc k) = h (suc k)
-set-all P (x ∷ l) (suc i) v h p zero = h zero
-set-all P (x ∷ l) (suc i) v h p (suc k) = set-all P l i v (λ j. h (suc j)) p k
-
--- of a list of one value, every element is that value, or 0 past its end
-pub replicate-all : (P : ℕ → Type 0) (n v : ℕ) → P v → P 0 → (k : ℕ) → P (getD (replicate n v) k 0)
-replicate-all P zero v p q k = q
-replicate-all P (suc n) v p q zero = p
-replicate-all P (suc n) v p q (suc k) = replicate-all P n v p q k

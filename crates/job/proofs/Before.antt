@@ -16,7 +16,7 @@ use Rattle.job.specs.Children.{wordChildren}
 use Rattle.job.specs.Before.{before, countOfKind, since, latest, named}
 use Rattle.job.specs.Refusal.{nameRefusal}
 use Rattle.job.specs.Code.State.{Tied}
-use Rattle.words.proofs.Choices.{indicator-le}
+use Rattle.words.proofs.Choices.{indicator-le, cond-all}
 
 pub before-suc : (job : List ℕ) (i : ℕ) → before job (suc i) ≡ getD job i 0 ∷ before job i
 unfolding before
@@ -45,11 +45,7 @@ count-le k (w ∷ p) = omega (arith, count-le k p, indicator-le (eqb (kind w) k)
 since-le : (k : ℕ) (p : List ℕ) → length (since k p) ≤ length p
 unfolding since
 since-le k [] = omega arith
-since-le k (w ∷ p) = cases (eqb (kind w) k) (since-le k p)
-  where
-    cases : (t : Bool) → length (since k p) ≤ length p → length (cond t [] (w ∷ since k p)) ≤ suc (length p)
-    cases true h = omega arith
-    cases false h = omega arith
+since-le k (w ∷ p) = cond-all (λ l. length l ≤ suc (length p)) (eqb (kind w) k) {a = []} {b = w ∷ since k p} (omega arith) (omega (arith, since-le k p))
 
 -- a count of the words before position i, and of those since a word of kind m, is at most i
 pub count-before : (k : ℕ) (job : List ℕ) (i : ℕ) → countOfKind k (before job i) ≤ i

@@ -1,7 +1,7 @@
 -- The children that a word names, by the tests of a form that the code makes. Assumes nothing.
-use mathlib.Core.Bool.{Bool, true, false, cond, _&&_, _||_}
+use mathlib.Core.Bool.{Bool, true, false, cond, _&&_, _||_, and-true, and-assoc}
 use mathlib.Core.List.{[], _∷_}
-use mathlib.Core.Path.{_≡_, refl}
+use mathlib.Core.Path.{_≡_, refl, sym}
 use Prim.Native.Nat.{ℕ, zero, suc, _+_}
 use native.Mathlib.Omega.{arith}
 use borrow.Author.Tests.{eqb-true, ne-eqb, le-leb, lt-leb}
@@ -22,27 +22,18 @@ namesY f = within 2 7 f
 abbrev namesM : ℕ → Bool
 namesM f = eqb f 4
 
-two : (a b : Bool) → (a && (b && true)) ≡ ((a && b) && true)
-two true b = refl
-two false b = refl
-
-last : (a b : Bool) → (a && (b && true)) ≡ (a && b)
-last true true = refl
-last true false = refl
-last false b = refl
-
 -- a form's children are below n, and how often v is among them
 below : (w n f : ℕ) → every (λ q. ltb q n) (namedByForm (formNumber f) w)
     ≡ (implies (namesX f) (ltb (nodeX w) n) && implies (namesY f) (ltb (nodeY w) n) && implies (namesM f) (ltb (nodeM w) n))
 unfolding every
 below w n zero = refl
 below w n (suc zero) = refl
-below w n (suc (suc zero)) = two (ltb (nodeX w) n) (ltb (nodeY w) n)
-below w n (suc (suc (suc zero))) = two (ltb (nodeX w) n) (ltb (nodeY w) n)
-below w n (suc (suc (suc (suc zero)))) = last (ltb (nodeY w) n) (ltb (nodeM w) n)
+below w n (suc (suc zero)) = sym (and-assoc (ltb (nodeX w) n) (ltb (nodeY w) n) true)
+below w n (suc (suc (suc zero))) = sym (and-assoc (ltb (nodeX w) n) (ltb (nodeY w) n) true)
+below w n (suc (suc (suc (suc zero)))) = rw (and-true (ltb (nodeM w) n))
 below w n (suc (suc (suc (suc (suc zero))))) = refl
-below w n (suc (suc (suc (suc (suc (suc zero)))))) = two (ltb (nodeX w) n) (ltb (nodeY w) n)
-below w n (suc (suc (suc (suc (suc (suc (suc zero))))))) = two (ltb (nodeX w) n) (ltb (nodeY w) n)
+below w n (suc (suc (suc (suc (suc (suc zero)))))) = sym (and-assoc (ltb (nodeX w) n) (ltb (nodeY w) n) true)
+below w n (suc (suc (suc (suc (suc (suc (suc zero))))))) = sym (and-assoc (ltb (nodeX w) n) (ltb (nodeY w) n) true)
 below w n (suc (suc (suc (suc (suc (suc (suc (suc zero)))))))) = refl
 below w n (suc (suc (suc (suc (suc (suc (suc (suc (suc k))))))))) = rw (le-leb 2 (suc (suc (suc (suc (suc (suc (suc (suc (suc k))))))))) (omega arith), le-leb 6 (suc (suc (suc (suc (suc (suc (suc (suc (suc k))))))))) (omega arith), lt-leb (suc (suc (suc (suc (suc (suc (suc (suc (suc k))))))))) 3 (omega arith), lt-leb (suc (suc (suc (suc (suc (suc (suc (suc (suc k))))))))) 7 (omega arith), ne-eqb (suc (suc (suc (suc (suc (suc (suc (suc (suc k))))))))) 4 (λ z. omega arith))
 

@@ -8,30 +8,33 @@ use lib.Dec.{eqb}
 use lib.ListN.{length, getD}
 use Rattle.words.specs.Tests.{within}
 use Rattle.words.specs.Fields.{kind, actionsOf}
-use Rattle.words.proofs.Choices.{within-true}
+use Rattle.words.proofs.Choices.{within-true, cond-all}
 use Rattle.answers.specs.Rows.{row, firstRefusal, firstOf}
-use Rattle.answers.proofs.Range.{Fitting, pick-number, or-fits, row-fits, first-fits}
+use Rattle.answers.proofs.Range.{Fitting, or-fits, row-fits, first-fits}
 use Rattle.job.specs.Rules.{wordRefusalOf}
 use Rattle.job.specs.Follow.{predecessor, mayFollow}
 use Rattle.job.specs.Before.{before, countOfKind, named}
 use Rattle.job.specs.Refusal.{wordRefusal, refusalOf, nameRefusal, emptySet, endRefusal, jobRefusal}
 use Rattle.job.proofs.Before.{count-before}
 
+abbrev Low : ℕ → Type 0
+Low n = n < 2 ^ 8
+
 tests-number : (a b c : Bool) → wordRefusalOf a b c < 2 ^ 8
 unfolding wordRefusalOf
-tests-number a b c = pick-number a (pick-number b (pick-number c (omega arith) (omega arith)) (omega arith)) (omega arith)
+tests-number a b c = cond-all Low a (cond-all Low b (cond-all Low c (omega arith) (omega arith)) (omega arith)) (omega arith)
 
 word-number : (head : ℕ) (p : List ℕ) (w : ℕ) → wordRefusal head p w < 2 ^ 8
 unfolding wordRefusal
 word-number head p w =
-    pick-number (mayFollow (kind w) (predecessor p))
-    (pick-number (eqb (kind w) 1) (tests-number _ _ _)
-    (pick-number (eqb (kind w) 2) (tests-number _ _ _)
-    (pick-number (eqb (kind w) 3) (tests-number _ _ _)
-    (pick-number (eqb (kind w) 4) (tests-number _ _ _)
-    (pick-number (eqb (kind w) 5) (tests-number _ _ _)
-    (pick-number (eqb (kind w) 6) (tests-number _ _ _)
-    (pick-number (eqb (kind w) 7) (tests-number _ _ _) (pick-number (eqb (kind w) 8) (tests-number _ _ _) (omega arith)))))))))
+    cond-all Low (mayFollow (kind w) (predecessor p))
+    (cond-all Low (eqb (kind w) 1) (tests-number _ _ _)
+    (cond-all Low (eqb (kind w) 2) (tests-number _ _ _)
+    (cond-all Low (eqb (kind w) 3) (tests-number _ _ _)
+    (cond-all Low (eqb (kind w) 4) (tests-number _ _ _)
+    (cond-all Low (eqb (kind w) 5) (tests-number _ _ _)
+    (cond-all Low (eqb (kind w) 6) (tests-number _ _ _)
+    (cond-all Low (eqb (kind w) 7) (tests-number _ _ _) (cond-all Low (eqb (kind w) 8) (tests-number _ _ _) (omega arith)))))))))
     (omega arith)
 
 refusal-number : (job : List ℕ) (i : ℕ) → refusalOf job i < 2 ^ 8
@@ -40,7 +43,7 @@ refusal-number job i = word-number (getD job 0 0) (before job i) (getD job i 0)
 
 name-number : (p : List ℕ) (v : ℕ) → nameRefusal p v < 2 ^ 8
 unfolding nameRefusal
-name-number p v = pick-number (eqb (named v p) 1) (omega arith) (omega arith)
+name-number p v = cond-all Low (eqb (named v p) 1) (omega arith) (omega arith)
 
 end-fits : (job : List ℕ) → length job ≤ 2048 → Fitting (endRefusal (getD job 0 0) (length job) (before job (length job)))
 unfolding endRefusal

@@ -1,5 +1,5 @@
 -- In a job that is not refused the words of kind 2 stand directly after the head, and no two of them list one fluent. Assumes nothing.
-use mathlib.Core.Bool.{Bool, true, _||_}
+use mathlib.Core.Bool.{Bool, true, _||_, true≢false, or-true}
 use mathlib.Core.List.{List}
 use mathlib.Core.Logic.{_⊎_, inl, inr, by-cases}
 use mathlib.Core.Path.{_≡_, sym, _∙_}
@@ -12,7 +12,7 @@ use lib.ListN.{length, getD}
 use Rattle.words.specs.Tests.{within}
 use Rattle.words.specs.Fields.{kind, field, fluentOf, roleOf}
 use Rattle.words.specs.Scan.{any}
-use Rattle.words.proofs.Choices.{true-false, either-true, within-true}
+use Rattle.words.proofs.Choices.{within-true}
 use Rattle.job.specs.Rules.{sameFluent}
 use Rattle.job.specs.Follow.{nothing, setNode}
 use Rattle.job.specs.Before.{before, since}
@@ -33,7 +33,7 @@ since-hit t k job (suc i) j l e n =
     (cases (decLt j i) (λ m. since-hit t k job i j m e (λ u a b. n u a (omega arith))))
   where
     cases : Dec (j < i) → (j < i → any t (since k (before job i)) ≡ true) → (t (getD job i 0) || any t (since k (before job i))) ≡ true
-    cases (yes m) ih = rw (ih m) (either-true (t (getD job i 0)))
+    cases (yes m) ih = rw (ih m) (or-true (t (getD job i 0)))
     cases (no m) ih = let same : j ≡ i = omega arith in rw (← same, e)
 
 module _ (job : List ℕ) (ok : jobRefusal job .number ≡ 0) where
@@ -75,7 +75,7 @@ module _ (job : List ℕ) (ok : jobRefusal job .number ≡ 0) where
       → fluentOf (headWord job) (getD job j 0) ≡ fluentOf (headWord job) (getD job i 0) → ⊥
   fresh i j l m hi hj e =
       let listed = not-true _ (tests-passed _ _ _ (rule job ok 2 i m hi) .2) in
-      true-false (sym (since-hit (sameFluent (headWord job) (getD job i 0)) 1 job i j l same (λ u a b k. later u a b k)) ∙ listed)
+      true≢false (sym (since-hit (sameFluent (headWord job) (getD job i 0)) 1 job i j l same (λ u a b k. later u a b k)) ∙ listed)
     where
       later : (u : ℕ) → j ≤ u → u < i → kind (getD job u 0) ≡ 1 → ⊥
       later zero a b k = let z : j ≡ 0 = omega arith in omega (arith, k, rw z at hj)

@@ -1,23 +1,20 @@
 -- The parts of a job that is not refused: its head, actions, formulas and nodes. Assumes nothing.
-use mathlib.Core.Bool.{true, false, _&&_, _||_}
+use mathlib.Core.Bool.{true, false, _&&_, _||_, or-true}
 use mathlib.Core.List.{List}
-use mathlib.Core.Logic.{_⊎_, inl, inr, by-cases}
-use mathlib.Core.Path.{_≡_, refl, sym, _∙_}
-use Prim.Native.Nat.{ℕ, _-_, _≤_, _<_}
-use native.Mathlib.Nat.{add-zero}
-use native.Mathlib.Decide.{decLt}
+use mathlib.Core.Logic.{_⊎_, inl, inr}
+use mathlib.Core.Path.{_≡_, refl}
+use Prim.Native.Nat.{ℕ, _≤_, _<_}
 use native.Mathlib.Omega.{arith}
 use borrow.Author.Tests.{not-false, leb-true, ltb-true, eq-eqb, ne-eqb, le-leb, lt-leb}
 use lib.Dec.{eqb, leb, ltb}
 use lib.ListN.{length, getD}
-use lib.Seq.{getD-drop}
 use Rattle.words.specs.Tests.{implies, within}
 use Rattle.words.specs.Fields.{kind, form, actionNumber, durationOf, formulaX, formulaY, atomFluent, nodeX, nodeM, nodeN}
-use Rattle.words.proofs.Choices.{true-false, both-true, either-true, implies-true, within-true, true-within}
+use Rattle.words.proofs.Choices.{both-true, implies-true, within-true, true-within, true-upto}
 use Rattle.answers.proofs.Rows.{row-none}
 use Rattle.job.specs.Rules.{formulaShape, formulaRange, nodeShape, nodeRange}
 use Rattle.job.specs.Children.{nodeChildren}
-use Rattle.job.specs.Follow.{predecessor}
+use Rattle.job.specs.Follow.{nothing, predecessor}
 use Rattle.job.specs.Before.{before, countOfKind}
 use Rattle.job.specs.Refusal.{jobRefusal}
 use Rattle.job.specs.Code.Index.{positions}
@@ -25,14 +22,15 @@ use Rattle.job.specs.Parts.{headWord, fluents, actions, lastMoment, tota
 use Rattle.job.specs.Code.WellFormed.{FormulaFormed, NodeFormed}
 use Rattle.words.specs.Scan.{every}
 use Rattle.words.proofs.Scan.{every-true}
-use Rattle.job.proofs.Follow.{first-head}
+use Rattle.job.proofs.Follow.{only-after}
 use Rattle.job.proofs.Before.{count-grows}
 use Rattle.job.proofs.Refusal.{followed, ruled, tests-passed, within-limit, word-passed, Clear, clear, EndClear, end-clear}
-use Rattle.job.proofs.WordPositions.{IsWord, is-word, positions-count, from-position}
+use Rattle.job.proofs.WordPositions.{IsWord, is-word, positions-count, place-of}
+use Rattle.job.proofs.ByPlace.{word-place}
 
 -- the forms that a shape allows
 formula-low : (hd w : ℕ) → formulaShape hd w ≡ true → form w ≤ 4
-formula-low hd w e = by-cases (decLt 4 (form w)) (λ h. absurd (true-false (sym e ∙ high h))) (λ h. omega arith)
+formula-low hd w = true-upto 4 (form w) (formulaShape hd w) high
   where
     high : 4 < form w → formulaShape hd w ≡ false
     high h =
@@ -45,7 +43,7 @@ formula-low hd w e = by-cases (decLt 4 (form w)) (λ h. absurd (true-false (sym 
         )
 
 node-low : (w : ℕ) → nodeShape w ≡ true → form w ≤ 8
-node-low w e = by-cases (decLt 8 (form w)) (λ h. absurd (true-false (sym e ∙ high h))) (λ h. omega arith)
+node-low w = true-upto 8 (form w) (nodeShape w) high
   where
     high : 8 < form w → nodeShape w ≡ false
     high h =
@@ -77,7 +75,7 @@ module _ (job : List ℕ) (ok : jobRefusal job .number ≡ 0) where
   -- word 0 is the head
   pub head : kind (getD job 0 0) ≡ 1
   unfolding before predecessor
-  head = first-head (kind (getD job 0 0)) (follows (kind (getD job 0 0)) 0 (size .0) refl)
+  head = only-after 1 nothing refl (kind (getD job 0 0)) (follows (kind (getD job 0 0)) 0 (size .0) refl)
 
   pub ranges : ((1 ≤ fluents job) × (fluents job ≤ 64)) × ((1 ≤ actions job) × (actions job ≤ 64)) × (lastMoment job ≤ 63)
   ranges =
@@ -98,7 +96,7 @@ module _ (job : List ℕ) (ok : jobRefusal job .number ≡ 0) where
 
   -- and what it is
   pub word-at : (k j i : ℕ) → IsWord job k j i → wordOfKind k job j ≡ getD job i 0
-  word-at k j i w = rw (from-position k job i j (w .inside) (w .of-kind) (w .numbered), getD-drop, add-zero)
+  word-at k j i w = word-place k job j i (place-of w)
 
   -- an action lasts
   pub lasts : {a i : ℕ} → IsWord job 3 a i → 0 < duration job a
@@ -157,4 +155,4 @@ module _ (job : List ℕ) (ok : jobRefusal job .number ≡ 0) where
     where
       one-of : (f : ℕ) → (f ≡ 1) ⊎ ((4 ≤ f) × (f ≤ 5)) → (eqb f 1 || within 4 5 f) ≡ true
       one-of f (inl h) = rw (eq-eqb f 1 h)
-      one-of f (inr h) = rw (true-within 4 5 f (h .0) (h .1)) (either-true (eqb f 1))
+      one-of f (inr h) = rw (true-within 4 5 f (h .0) (h .1)) (or-true (eqb f 1))

@@ -79,15 +79,12 @@ module _ (job : List ℕ) where
     pub word-passed : (k i : ℕ) → i < length job → kind (getD job i 0) ≡ k → (followed job i k ≡ true) × (ruled job i k ≡ 0)
     word-passed k i l h = passes job i k h (first-none (refusalOf job) (length job) none i l)
 
-    pub rule-passed : (k i : ℕ) → i < length job → kind (getD job i 0) ≡ k → ruled job i k ≡ 0
-    rule-passed k i l h = word-passed k i l h .1
-
     -- a kind whose rule lets a word pass only with fewer than 64 before it
     abbrev pub Limits : ℕ → Type 0
     Limits k = (p : List ℕ) (w : ℕ) → byKind 2 k (rules (getD job 0 0) p w) ≡ 0 → countOfKind k p < 64
 
     pub few : (k : ℕ) → Limits k → countOfKind k (before job (length job)) ≤ 64
-    few k limits = bounded k (length job) (λ i l h. limits (before job i) (getD job i 0) (rule-passed k i l h))
+    few k limits = bounded k (length job) (λ i l h. limits (before job i) (getD job i 0) (word-passed k i l h .1))
 
     pub limits-actions : Limits 3
     limits-actions p w e = let n = eqb-true (actionNumber w) _ (both-true _ _ (tests-passed _ _ _ e .1) .0) in omega (arith, n)

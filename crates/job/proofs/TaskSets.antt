@@ -1,10 +1,10 @@
 -- The task sets of a job that is not refused: members and conditions stand after their set, as many and such as the rules allow.
 -- Assumes nothing.
-use mathlib.Core.Bool.{Bool, true, false, _&&_, _||_}
+use mathlib.Core.Bool.{Bool, true, false, _&&_, _||_, true≢false, or-false}
 use mathlib.Core.List.{List}
 use mathlib.Core.Logic.{by-cases}
 use mathlib.Core.Path.{_≡_, refl, sym, _∙_}
-use Prim.Native.Nat.{ℕ, zero, suc, _+_, _-_, _*_, _≤_, _<_}
+use Prim.Native.Nat.{ℕ, zero, suc, _+_, _*_, _≤_, _<_}
 use native.Mathlib.Decide.{decLt}
 use native.Mathlib.Nat.{add-zero}
 use native.Mathlib.Omega.{arith}
@@ -15,18 +15,20 @@ use lib.Seq.{getD-drop, drop-drop}
 use Rattle.words.specs.Tests.{implies, indicator, within}
 use Rattle.words.specs.Fields.{ofKind, kind, form, spare, isSet, memberNode, conditionFormula, conditionI, conditionJ, conditionM, conditionN}
 use Rattle.words.specs.Scan.{takeWhile}
-use Rattle.words.proofs.Choices.{true-false, both-true, implies-true, true-within}
+use Rattle.words.proofs.Choices.{both-true, implies-true, true-within, true-upto}
 use Rattle.words.proofs.Scan.{takeWhile-entry, takeWhile-stop, dropWhile-drop}
 use Rattle.job.specs.Rules.{conditionShape, conditionRange}
+use Rattle.job.specs.Follow.{setNode}
 use Rattle.job.specs.Before.{before, countOfKind, since}
 use Rattle.job.specs.Refusal.{emptySet, jobRefusal}
 use Rattle.job.specs.Parts.{memberWords, conditionWords}
 use Rattle.job.specs.Code.WellFormed.{ConditionFormed, SetFormed}
 use Rattle.job.proofs.Before.{before-more, latest-more, count-more, count-since-more, count-grows}
-use Rattle.job.proofs.Follow.{set-member, set-before}
-use Rattle.job.proofs.Refusal.{within-limit, rule-passed, Clear, clear, end-clear}
-use Rattle.job.proofs.WordPositions.{IsWord, from-position}
-use Rattle.job.proofs.Parts.{follows}
+use Rattle.job.proofs.Follow.{only-after, set-before}
+use Rattle.job.proofs.Refusal.{within-limit, Clear, clear, end-clear}
+use Rattle.job.proofs.WordPositions.{IsWord, place-of}
+use Rattle.job.proofs.ByPlace.{members-place, conditions-place}
+use Rattle.job.proofs.Parts.{follows, rule}
 
 -- n words of kind k from position s on
 abbrev Run : List ℕ → ℕ → ℕ → ℕ → Type 0
@@ -52,7 +54,7 @@ module _ (job : List ℕ) (k : ℕ) (s : ℕ) where
       rw e (more ∙ rw here (omega (arith, run-count j n (λ i l. r i (omega arith)))))
 
 condition-low : (w : ℕ) → conditionShape w ≡ true → form w ≤ 4
-condition-low w e = by-cases (decLt 4 (form w)) (λ h. absurd (true-false (sym e ∙ high h))) (λ h. omega arith)
+condition-low w = true-upto 4 (form w) (conditionShape w) high
   where
     high : 4 < form w → conditionShape w ≡ false
     high h = rw (lt-leb (form w) 1 (omega arith), le-leb 2 (form w) (omega arith), lt-leb (form w) 3 (omega arith), ne-eqb (form w) 4 (λ z. omega arith))
@@ -60,40 +62,32 @@ condition-low w e = by-cases (decLt 4 (form w)) (λ h. absurd (true-false (sym e
 -- a set that is the last word is refused
 no-empty : (job : List ℕ) (at : ℕ) → kind (getD job at 0) ≡ 6 → form (getD job at 0) ≡ 8 → countOfKind 7 (since 6 (before job (at + 1))) ≡ 0
     → emptySet (before job (at + 1)) ≡ false → ⊥
-no-empty job at k f none e = true-false (sym (rw (latest-more job at 6, k, f, none)) ∙ e)
+no-empty job at k f none e = true≢false (sym (rw (latest-more job at 6, k, f, none)) ∙ e)
 
 -- a condition that names no second member has 0 there
 second : (w n : ℕ) → conditionShape w ≡ true → implies (leb (form w) 1 || eqb (form w) 4) (ltb (conditionJ w) n) ≡ true → 0 < n → conditionJ w < n
 second w n s r some = cases (leb (form w) 1) (eqb (form w) 4) refl refl
   where
-    left : (x : Bool) → (x || false) ≡ true → x ≡ true
-    left true e = refl
-    left false e = e
-
     cases : (a b : Bool) → leb (form w) 1 ≡ a → eqb (form w) 4 ≡ b → conditionJ w < n
     cases true b e f = ltb-true (conditionJ w) n (rw e at r)
     cases false true e f = ltb-true (conditionJ w) n (rw (e, f) at r)
     cases false false e f =
-        let z = eqb-true (conditionJ w) 0 (both-true (within 2 3 (form w)) (spare w 14 12) (left (within 2 3 (form w) && spare w 14 12) (rw (e, f) at s)) .1) in
+        let z = eqb-true (conditionJ w) 0 (both-true (within 2 3 (form w)) (spare w 14 12) (sym (or-false (within 2 3 (form w) && spare w 14 12)) ∙ rw (e, f) at s) .1) in
         omega arith
 
 module _ (job : List ℕ) (ok : jobRefusal job .number ≡ 0) {p at : ℕ} (node : IsWord job 6 p at) (set : form (getD job at 0) ≡ 8) where
   c : Clear job
   c = clear job ok
 
-  from : drop 1 (drop at job) ≡ drop (at + 1) job
-  from = drop-drop 1 at job
-
   m : ℕ
   m = length (takeWhile (ofKind 7) (drop (at + 1) job))
 
   members-are : memberWords job p ≡ takeWhile (ofKind 7) (drop (at + 1) job)
-  unfolding memberWords
-  members-are = rw (from-position 6 job at p (node .inside) (node .of-kind) (node .numbered), from)
+  members-are = members-place job p at (place-of node)
 
   conditions-are : conditionWords job p ≡ takeWhile (ofKind 8) (drop (at + 1 + m) job)
-  unfolding conditionWords m
-  conditions-are = rw (from-position 6 job at p (node .inside) (node .of-kind) (node .numbered), from, dropWhile-drop (ofKind 7) (drop (at + 1) job), drop-drop)
+  unfolding m
+  conditions-are = conditions-place job p at (place-of node) ∙ rw (dropWhile-drop (ofKind 7) (drop (at + 1) job), drop-drop)
 
   -- a word of a run that leads what follows position s
   led : (k s i : ℕ) → i < length (takeWhile (ofKind k) (drop s job))
@@ -119,7 +113,7 @@ module _ (job : List ℕ) (ok : jobRefusal job .number ≡ 0) {p at : ℕ} (node
   member i h =
       let w = led 7 (at + 1) i h in
       let q = before job (at + 1 + i) in
-      let g = within-limit 4 (countOfKind 7 (since 6 q)) _ (ltb (memberNode (getD job (at + 1 + i) 0) + 1) (countOfKind 6 q)) (rule-passed job (c .words) 7 (at + 1 + i) (w .2) (w .1)) in
+      let g = within-limit 4 (countOfKind 7 (since 6 q)) _ (ltb (memberNode (getD job (at + 1 + i) 0) + 1) (countOfKind 6 q)) (rule job ok 7 (at + 1 + i) (w .2) (w .1)) in
       let sofar : Run job 7 (at + 1) i = λ j l. led 7 (at + 1) j (omega arith) .1 in
       let members = run-since job 7 (at + 1) 7 i (λ z. omega arith) sofar in
       let nodes = run-count job 7 (at + 1) 6 i sofar in
@@ -141,7 +135,7 @@ module _ (job : List ℕ) (ok : jobRefusal job .number ≡ 0) {p at : ℕ} (node
           let stop = takeWhile-stop (ofKind 7) (drop (at + 1) job) (omega (arith, length-drop (at + 1) job)) in
           let other : eqb (kind w) 7 ≡ false = rw (z, getD-drop, add-zero) at stop in
           let may = follows job ok (kind w) (at + 1) l refl in
-          eqb-false (kind w) 7 other (set-member (kind w) (rw (before-more job at, set-before (getD job at 0) (before job at) is-set) at may))
+          eqb-false (kind w) 7 other (only-after 7 setNode refl (kind w) (rw (before-more job at, set-before (getD job at 0) (before job at) is-set) at may))
 
       -- and the last node's set has members
       ends : m ≡ 0 → (at + 1 < length job → ⊥) → ⊥
@@ -162,7 +156,7 @@ module _ (job : List ℕ) (ok : jobRefusal job .number ≡ 0) {p at : ℕ} (node
       let q = before job pos in
       let n = countOfKind 7 (since 6 q) in
       let forms = countOfKind 5 q in
-      let g = within-limit 8 (countOfKind 8 (since 6 q)) (conditionShape w) (conditionRange forms n w) (rule-passed job (c .words) 8 pos (a .2) (a .1)) in
+      let g = within-limit 8 (countOfKind 8 (since 6 q)) (conditionShape w) (conditionRange forms n w) (rule job ok 8 pos (a .2) (a .1)) in
       let members : Run job 7 (at + 1) m = run 7 (at + 1) in
       let sofar : Run job 8 (at + 1 + m) i = λ j l. led 8 (at + 1 + m) j (omega arith) .1 in
       let sevens = run-since job 7 (at + 1) 7 m (λ z. omega arith) members in

@@ -1,11 +1,11 @@
 -- A job that is not refused is well formed. Assumes nothing.
-use mathlib.Core.Bool.{Bool, true, false, cond}
 use mathlib.Core.List.{List}
-use mathlib.Core.Path.{_≡_, refl, ap, sym, _∙_}
-use Prim.Native.Nat.{ℕ, zero, suc, _-_, _<_}
+use mathlib.Core.Logic.{by-cases}
+use mathlib.Core.Path.{_≡_, ap, sym, _∙_}
+use Prim.Native.Nat.{ℕ}
+use native.Mathlib.Decide.{ℕ-discrete}
 use native.Mathlib.Omega.{arith}
-use borrow.Author.Tests.{eqb-true, eqb-false, ltb-true}
-use lib.Dec.{eqb}
+use borrow.Author.Tests.{eqb-false, ltb-true}
 use lib.ListN.{getD}
 use Rattle.words.specs.Fields.{form}
 use Rattle.answers.proofs.Rows.{first-none}
@@ -13,6 +13,7 @@ use Rattle.job.specs.Before.{named}
 use Rattle.job.specs.Refusal.{nameRefusal, jobRefusal}
 use Rattle.job.specs.Parts.{total, nodeWord}
 use Rattle.job.specs.Code.WellFormed.{WellFormed}
+use Rattle.job.proofs.Before.{not-once}
 use Rattle.job.proofs.Refusal.{tests-passed, few, limits-formulas, limits-nodes, clear}
 use Rattle.job.proofs.Parts.{size, ranges, rule, ends, word, word-at, lasts, formula, node}
 use Rattle.job.proofs.Known.{known-front, known-once}
@@ -20,12 +21,7 @@ use Rattle.job.proofs.TaskSets.{set-formed}
 
 -- a node that gives no number is named exactly once
 named-once : (p : List ℕ) (v : ℕ) → nameRefusal p v ≡ 0 → named v p ≡ 1
-unfolding nameRefusal
-named-once p v = cases (eqb (named v p) 1) refl
-  where
-    cases : (t : Bool) → eqb (named v p) 1 ≡ t → _≡_ {A = ℕ} (cond t 0 5) 0 → named v p ≡ 1
-    cases true e h = eqb-true (named v p) 1 e
-    cases false e h = absurd (omega arith)
+named-once p v e = by-cases (ℕ-discrete (named v p) 1) (λ q. q) (λ n. absurd (omega (arith, not-once p v n)))
 
 pub well-formed : (job : List ℕ) → jobRefusal job .number ≡ 0 → WellFormed job
 unfolding nodeWord
@@ -52,16 +48,12 @@ well-formed job ok =
       law = λ i l h. ltb-true _ _ (tests-passed _ _ _ (rule job ok 4 i l h) .1);
       few-formulas = few job words 5 (limits-formulas job words);
       formula = λ k l. formula job ok (word job ok 5 k l .1);
-      some-nodes = omega (arith, positive (total 6 job) none);
+      some-nodes = omega arith;
       few-nodes = nodes;
       node = λ p l. node job ok (word job ok 6 p l .1);
       set = λ p l f. let w = word job ok 6 p l in set-formed job ok (w .1) (sym (word-form p (w .0) (word-at job ok 6 p (w .0) (w .1))) ∙ f);
       once = λ v l. named-once _ v (first-none _ _ (e .named) v (omega arith));
     }
   where
-    positive : (n : ℕ) → (n ≡ 0 → ⊥) → 0 < n
-    positive zero h = absurd (h refl)
-    positive (suc n) h = omega arith
-
     word-form : (p i : ℕ) → nodeWord job p ≡ getD job i 0 → form (nodeWord job p) ≡ form (getD job i 0)
     word-form p i e = ap form e

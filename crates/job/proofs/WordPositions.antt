@@ -15,17 +15,13 @@ use lib.Seq.{sets, sets-eq, getD-at}
 use Rattle.words.specs.Tests.{indicator}
 use Rattle.words.specs.Fields.{ofKind, kind}
 use Rattle.words.proofs.Choices.{same-or-not}
+use Rattle.words.proofs.Copies.{sets-append}
 use Rattle.job.specs.Before.{before, countOfKind}
 use Rattle.words.specs.Scan.{fromNth}
 use Rattle.job.specs.Code.Index.{positions, placesUpto}
-use Rattle.job.specs.Parts.{total}
+use Rattle.job.specs.Parts.{total, wordsFrom}
 use Rattle.job.specs.Code.WellFormed.{Indexed}
 use Rattle.job.proofs.Before.{count-more, count-none, count-grows}
-
--- one more word stored after others
-pub sets-more : (l : List ℕ) (i : ℕ) (vs : List ℕ) (a : ℕ) → set (sets l i vs) (i + length vs) a ≡ sets l i (vs ++ (a ∷ []))
-sets-more l i [] a = let e : i + 0 ≡ i = omega arith in rw e
-sets-more l i (v ∷ vs) a = let e : i + suc (length vs) ≡ suc i + length vs = omega arith in rw e (sets-more (set l i v) (suc i) vs a)
 
 module _ (k : ℕ) (job : List ℕ) where
   pub positions-none : positions k job 0 ≡ []
@@ -78,7 +74,7 @@ module _ {k : ℕ} {job : List ℕ} {i : ℕ} {ps : List ℕ} {n : ℕ} (m : Mar
       record {
         long = rw length-set (m .long);
         total = ap (λ (t : ℕ). t + 1) (m .total) ∙ sym (ap length e ∙ length-append (positions k job i) (i ∷ []));
-        entries = rw (m .entries, m .total, e) (rw zero-add at (sets-more (replicate 64 0) 0 (positions k job i) i));
+        entries = rw (m .entries, m .total, e) (rw zero-add at (sym (sets-append (positions k job i) (i ∷ []) (replicate 64 0) 0)));
       }
 
   pub miss : (kind (getD job i 0) ≡ k → ⊥) → Marked k job (i + 1) ps n
@@ -132,13 +128,16 @@ from-position k (w ∷ ws) (suc i) j l h c = cases (eqb (kind w) k) refl j (rw (
     cases false e zero c ih = rw e (ih zero (let z = rw e at c in omega arith))
     cases false e (suc j) c ih = rw e (ih (suc j) (let z = rw e at c in omega arith))
 
+pub place-of : {job : List ℕ} {k j i : ℕ} → IsWord job k j i → wordsFrom k job j ≡ drop i job
+place-of {job} {k} {j} {i} w = from-position k job i j (w .inside) (w .of-kind) (w .numbered)
+
 -- the array of positions
 pub in-front : (l : List ℕ) (j : ℕ) → j < length l → length l ≤ 64 → getD (sets (replicate 64 0) 0 l) j 0 ≡ getD l j 0
 in-front l j h few = rw (sets-eq l (replicate 64 0) 0 (omega arith)) (List·getD-append l _ 0 j h)
 
 pub placed : (job : List ℕ) (k : ℕ) → total k job ≤ 64 → Indexed job k (placesUpto k job (length job) .position)
 unfolding placesUpto
-placed job k few = record { inside = λ j h. at j h .inside; words = λ j h. from-position k job _ j (at j h .inside) (at j h .of-kind) (at j h .numbered) }
+placed job k few = record { inside = λ j h. at j h .inside; words = λ j h. place-of (at j h) }
   where
     at : (j : ℕ) → j < total k job → IsWord job k j (getD (sets (replicate 64 0) 0 (positions k job (length job))) j 0)
     at j h =

@@ -1,5 +1,5 @@
 -- A start that is accepted leaves lawful starts lawful. Assumes nothing.
-use mathlib.Core.Bool.{true, false}
+use mathlib.Core.Bool.{true, false, true≢false}
 use mathlib.Core.List.{List}
 use mathlib.Core.Path.{_≡_, ap, sym, _∙_}
 use Prim.Native.Nat.{ℕ, _+_, _<_, _≤_}
@@ -8,7 +8,7 @@ use borrow.Author.Tests.{leb-false, ltb-true, ltb-false, lt-ltb, le-leb, eqb-tru
 use lib.Dec.{eqb, ltb}
 use Rattle.words.specs.Fields.{field, kind, startMoment, startAction, startWord}
 use Rattle.words.specs.Lists.{Each, insert}
-use Rattle.words.proofs.Choices.{true-false, is-false, both-true}
+use Rattle.words.proofs.Choices.{is-false, both-true}
 use Rattle.words.proofs.Lists.{each-map, each-with, none-any}
 use Rattle.words.proofs.Insert.{each-insert, pairs-insert, order-insert}
 use Rattle.answers.proofs.Rows.{or-none, row-none}
@@ -103,7 +103,7 @@ module _ (job : List ℕ) (formed : WellFormed job) (T : Trial) (a : ℕ) (now :
           le-leb (startMoment s) u (omega arith),
           lt-ltb u (finish job s) (omega (arith, formed .lasting a (ok .named), ap (duration job) act)),
         ) in
-        true-false (sym z ∙ idle)
+        true≢false (sym z ∙ idle)
 
     not-again : restarts job s w ≡ false
     not-again = is-false (restarts job s w) (λ e.
@@ -115,7 +115,7 @@ module _ (job : List ℕ) (formed : WellFormed job) (T : Trial) (a : ℕ) (now :
           le-leb (startMoment s) u (omega (arith, ltb-true (startMoment s) (startMoment w) (q .0), at-u)),
           lt-ltb u (finish job s) (omega (arith, ltb-true (startMoment w) (finish job s) (q .1), at-u)),
         ) in
-        true-false (sym z ∙ idle))
+        true≢false (sym z ∙ idle))
 
   -- a start that is not later does not restart it
   not-later : (s : ℕ) → startMoment s ≤ u → restarts job w s ≡ false

@@ -1,5 +1,5 @@
 -- Every trial that moves give passes the tests, and its starts are those that were accepted. Assumes nothing.
-use mathlib.Core.Bool.{Bool, true, false, cond, _||_}
+use mathlib.Core.Bool.{Bool, true, false, cond, _||_, true≢false}
 use mathlib.Core.List.{List, [], _∷_}
 use mathlib.Core.Path.{_≡_, refl, sym, _∙_}
 use Prim.Native.Nat.{ℕ, zero, suc, _^_, _<_, _≤_}
@@ -10,7 +10,7 @@ use lib.ListN.{length, getD}
 use Rattle.words.specs.Fields.{startMoment, startWord}
 use Rattle.words.specs.Scan.{any}
 use Rattle.words.specs.Lists.{Each, each-none, each-more, pairs-none, sorted}
-use Rattle.words.proofs.Choices.{true-false}
+use Rattle.words.proofs.Choices.{cond-when}
 use Rattle.words.proofs.Lists.{each-map, any-none, none-any}
 use Rattle.words.proofs.Insert.{each-insert}
 use Rattle.answers.specs.Rows.{row, refusalAt}
@@ -35,7 +35,7 @@ pub record Passing (job : List ℕ) (T : Trial) : Type 0 where
   pub lawful : Lawful job (T .starts)
 
 or-false : (a b : Bool) → (a || b) ≡ false → (a ≡ false) × (b ≡ false)
-or-false true b e = absurd (true-false e)
+or-false true b e = absurd (true≢false e)
 or-false false b e = (refl, e)
 
 pub small-at : {S : List ℕ} → Each (λ s. s < 2 ^ 32) S → (i : ℕ) → getD S i 0 < 2 ^ 32
@@ -132,13 +132,13 @@ module _ (job : List ℕ) where
       let b = or-none (trialRefusal job T) (ownRefusal job T m) (a .1) in
       record { good = a .0; given = b .0; own = b .1 }
 
-  after-passes : WellFormed job → (T : Trial) (m : Move) → Passing job T → Passing job (after job T m)
+  -- what holds of a trial, and of it moved where no row of the move fits, holds after the move
+  pub after-all : (P : Trial → Type 0) (T : Trial) (m : Move) → (ownRefusal job T m .number ≡ 0 → P (moved T m)) → P T → P (after job T m)
   unfolding after
-  after-passes formed T m h = cases (eqb (moveRefusal job T m .number) 0) refl
-    where
-      cases : (t : Bool) → eqb (moveRefusal job T m .number) 0 ≡ t → Passing job (cond t (moved T m) T)
-      cases true e = move-passes formed T m h (accepts T m (eqb-true _ 0 e) .own)
-      cases false e = h
+  after-all P T m p q = cond-when P (eqb (moveRefusal job T m .number) 0) (λ e. p (accepts T m (eqb-true _ 0 e) .own)) (λ e. q)
+
+  after-passes : WellFormed job → (T : Trial) (m : Move) → Passing job T → Passing job (after job T m)
+  after-passes formed T m h = after-all (Passing job) T m (move-passes formed T m h) h
 
   pub played-passing : WellFormed job → (ms : List Move) → Passing job (played job ms)
   unfolding played

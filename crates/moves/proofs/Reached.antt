@@ -1,5 +1,5 @@
 -- Every trial that passes is given by some moves from a fresh one: back over its moments and its starts, the last word first. Assumes nothing.
-use mathlib.Core.Bool.{true, false, cond}
+use mathlib.Core.Bool.{true, false, cond, true≢false}
 use mathlib.Core.List.{List, [], _∷_, _++_}
 use mathlib.Core.Path.{_≡_, refl, sym, _∙_}
 use Prim.Native.Nat.{ℕ, zero, suc, _+_, _^_, _<_, _≤_}
@@ -11,7 +11,7 @@ use lib.Dec.{eqb, leb, ltb}
 use lib.ListN.{length, length-append}
 use Rattle.words.specs.Fields.{startMoment, startAction, startWord}
 use Rattle.words.specs.Lists.{Each, each-none, Pairs, insert}
-use Rattle.words.proofs.Choices.{true-false, is-false, both-true}
+use Rattle.words.proofs.Choices.{is-false, both-true}
 use Rattle.words.proofs.Lists.{each-map, each-with, any-none, Last, no-last, the-last, last-of, each-init, each-last, pairs-init}
 use Rattle.words.proofs.Insert.{insert-last}
 use Rattle.job.specs.Parts.{actions, lastMoment, duration}
@@ -128,7 +128,7 @@ module _ (job : List ℕ) (good : jobRefusal job .number ≡ 0) where
         let p = both-true (eqb (startAction s) (startAction w)) _ e in
         let q = both-true (leb (startMoment s) (startMoment w)) (ltb (startMoment w) (finish job s)) (p .1) in
         let z : restarts job s w ≡ true = rw (p .0, lt-ltb _ _ (sooner (eqb-true _ _ (p .0))), q .1) in
-        true-false (sym z ∙ free))
+        true≢false (sym z ∙ free))
 
     strict : Each (λ s. startAction s ≡ startAction w → startMoment s < startMoment w) S
     strict = each-map (λ s o. o .1) (in-order right (smalls .1) (words .0) (smalls .0) (order .1))

@@ -1,11 +1,9 @@
 -- What is shown of a trial: the filler's facts for its starts, up to its moment; no move takes one back. Assumes nothing.
-use mathlib.Core.Bool.{Bool, true, false, cond}
 use mathlib.Core.List.{List, [], _∷_, _++_, append-assoc, append-nil}
-use mathlib.Core.Path.{_≡_, refl, sym, _∙_}
+use mathlib.Core.Path.{_≡_, sym, _∙_}
 use Prim.Native.Nat.{ℕ, _+_}
 use native.Mathlib.Omega.{arith}
-use borrow.Author.Tests.{eqb-true, eq-eqb, ne-eqb, le-ltb}
-use lib.Dec.{eqb}
+use borrow.Author.Tests.{eq-eqb, ne-eqb, le-ltb}
 use Rattle.words.specs.Fields.{startWord}
 use Rattle.job.specs.Refusal.{jobRefusal}
 use Rattle.job.specs.Code.WellFormed.{WellFormed}
@@ -19,7 +17,7 @@ use Rattle.moves.specs.Trials.{Trial, Move, Start, On, ownRefusal, moveR
 use Rattle.moves.specs.Calls.{shownFacts}
 use Rattle.moves.specs.Promises.{FillAccepts, ShownAreFilled, RefusedKeeps, Extended, ShownStay}
 use Rattle.moves.proofs.Accept.{startable, at-u, new-lasts}
-use Rattle.moves.proofs.Passing.{Passing, accepts, played-passing, played-starts}
+use Rattle.moves.proofs.Passing.{Passing, after-all, played-passing, played-starts}
 
 pub fill-accepts : FillAccepts
 unfolding fillAnswer fillRefusal planRefusal
@@ -52,12 +50,8 @@ module _ (job : List ℕ) (good : jobRefusal job .number ≡ 0) where
   move-adds T On h e = record { rest = factsAt job (T .starts) (T .moment + 1); same = facts-next job (T .starts) (T .moment) }
 
   after-adds : (T : Trial) (m : Move) → Passing job T → Extended (shownFacts job T) (shownFacts job (after job T m))
-  unfolding after
-  after-adds T m h = cases (eqb (moveRefusal job T m .number) 0) refl
-    where
-      cases : (t : Bool) → eqb (moveRefusal job T m .number) 0 ≡ t → Extended (shownFacts job T) (shownFacts job (cond t (moved T m) T))
-      cases true e = move-adds T m h (accepts job T m (eqb-true _ 0 e) .own)
-      cases false e = record { rest = []; same = sym (append-nil _) }
+  after-adds T m h =
+      after-all job (λ U. Extended (shownFacts job T) (shownFacts job U)) T m (move-adds T m h) (record { rest = []; same = sym (append-nil _) })
 
 pub shown-stay : ShownStay
 unfolding played

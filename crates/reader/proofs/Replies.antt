@@ -1,12 +1,12 @@
 -- What was written is the reply, and fits the buffer of bytes. Assumes nothing.
 use Prim.Native.Nat.{ℕ, _-_, _≤_}
-use mathlib.Core.Bool.{true, false, _&&_}
+use mathlib.Core.Bool.{true, false, _&&_, true≢false}
 use mathlib.Core.List.{List}
 use mathlib.Core.Path.{_≡_, sym, _∙_}
 use lib.ListN.{length, take, drop, length-replicate}
 use Rattle.io.specs.Counts.{Counts}
 use Rattle.answers.specs.declared.Answer.{Answer}
-use Rattle.words.proofs.Choices.{true-false, both-true}
+use Rattle.words.proofs.Choices.{both-true}
 use Rattle.finder.specs.Find.{Outcome}
 use Rattle.text.specs.Files.{sized, startsOf, wordsOf}
 use Rattle.text.proofs.Plans.{starts-before, facts-after}
@@ -31,10 +31,10 @@ answered job plan before after out s r a fresh ends outcome text = (
 -- a bad file, and two good files
 module _ (job plan : List ℕ) where
   pub reply-bad : (text : List ℕ) → goodFiles job plan ≡ false → text ≡ badFile → Reply job plan text
-  reply-bad text h so = record { bad = λ _. so; good = λ e. absurd (true-false (sym e ∙ h)) }
+  reply-bad text h so = record { bad = λ _. so; good = λ e. absurd (true≢false (sym e ∙ h)) }
 
   pub reply-good : (text : List ℕ) → goodFiles job plan ≡ true → Answered (wordsOf job) (wordsOf plan) text → Reply job plan text
-  reply-good text h so = record { bad = λ e. absurd (true-false (sym h ∙ e)); good = λ _. so }
+  reply-good text h so = record { bad = λ e. absurd (true≢false (sym h ∙ e)); good = λ _. so }
 
 pub good-most : (n m : ℕ) → (sized n && sized m) ≡ true → (n ≤ 32768) × (m ≤ 32768)
 good-most n m h = let two = both-true (sized n) (sized m) h in (sized-most n (two .0), sized-most m (two .1))

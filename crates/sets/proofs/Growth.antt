@@ -9,7 +9,7 @@ use native.Mathlib.Omega.{arith}
 use lib.Dec.{eqb}
 use Rattle.bitset.specs.Code.Members.{has, In, IsSetOf, popCount, Lowest, Dropped}
 use Rattle.bitset.proofs.Counts.{count-but}
-use Rattle.bitset.proofs.In.{in-without, in-zero}
+use Rattle.bitset.proofs.In.{in-dropped, in-zero}
 use Rattle.sets.specs.Code.Rows.{entryAt}
 use Rattle.sets.specs.Code.Search.{Masked, InTables, BoundsHave, SearchReady, Grown, InDomains, SoughtPlacement, FindsAll}
 use Rattle.sets.specs.declared.search.Open.{Open}
@@ -18,13 +18,6 @@ use Rattle.sets.specs.declared.search.Found.{Found}
 -- one member fewer is left
 pub fewer : (x r i : ℕ) → IsSetOf r (λ k. has x k && not (eqb k i)) → In x i → i < 64 → popCount r + 1 ≡ popCount x
 fewer x r i but t l = count-but (has x) (has r) i but 64 (t .yes) l
-
--- all members of a word but the lowest
-pub all-but-lowest : {x r m k : ℕ} → Lowest x m → Dropped x r → In x k → (k ≡ m → ⊥) → In r k
-all-but-lowest {k = k} l d t n = in-without (d .rest _ l) k .1 (t, n)
-
-pub kept-in : {x r m k : ℕ} → Lowest x m → Dropped x r → In r k → In x k
-kept-in {k = k} l d t = in-without (d .rest _ l) k .0 t .0
 
 module _ {cs allow ends : List ℕ} {count b : ℕ} where
   pub grown-none : {f : Found} → Grown cs allow ends count b f f
@@ -79,7 +72,7 @@ module _ {cs allow ends goes later bounds : List ℕ} {count : ℕ} where
         (λ t. inl (grown .kept e t))
         (λ t. by-cases (ℕ-discrete (bs i) x)
         (λ z. inl (⊎-elim (λ f. grown .kept e (subst (λ (k : ℕ). In (r .ends) k) (s .final) f)) (λ f. all e bs es l (sought-as p q s f)) (place bs es (s .tables) (s .bounded) (s .fits) z)))
-        (λ z. inr (all-but-lowest low drop t z)))
+        (λ z. inr (in-dropped low drop (bs i) .1 (t, z))))
         (h .each e bs es (subst (λ (k : ℕ). e ≤ k) (grown .upto) l) s);
   }
 
@@ -89,7 +82,7 @@ module _ {cs allow ends goes later bounds : List ℕ} {count : ℕ} where
       → Untried cs allow ends goes later bounds count o r (Begin rest i) → Untried cs allow ends goes later bounds count o r (Begin rest′ i)
   skipped {i = i} {x = x} low drop none h = record {
     each = λ e bs es l s. ⊎-elim inl
-        (λ t. by-cases (ℕ-discrete (bs i) x) (λ z. absurd (none bs es (s .tables) (s .fits) z)) (λ z. inr (all-but-lowest low drop t z)))
+        (λ t. by-cases (ℕ-discrete (bs i) x) (λ z. absurd (none bs es (s .tables) (s .fits) z)) (λ z. inr (in-dropped low drop (bs i) .1 (t, z))))
         (h .each e bs es l s);
   }
 
@@ -103,7 +96,7 @@ module _ {cs allow ends goes later bounds : List ℕ} {count : ℕ} where
         (λ t. inl (grown .kept e t))
         (λ t. by-cases (ℕ-discrete (t .0) i)
         (λ z. inl (all e bs es l (sought-as p q s (over bs es (s .fits) (subst (λ (k : ℕ). bs k ≤ g) z (t .2)) (subst (λ (k : ℕ). late ≤ es k) z (t .3))))))
-        (λ z. inr (t .0, all-but-lowest low drop (t .1) z, t .2, t .3)))
+        (λ z. inr (t .0, in-dropped low drop (t .0) .1 (t .1, z), t .2, t .3)))
         (h .each e bs es (subst (λ (k : ℕ). e ≤ k) (grown .upto) l) s);
   }
 

@@ -1,7 +1,7 @@
 -- The bounds of begins by ends, as they are filled. Assumes nothing.
 use Prim.Native.Nat.{ℕ, _+_, _*_, _≤_, _<_}
 use mathlib.Core.Path.{_≡_, refl, sym, subst, _∙_}
-use mathlib.Core.Logic.{_↔_, _⊎_, inl, by-cases, ⊎-elim}
+use mathlib.Core.Logic.{_↔_, _⊎_, inl, inr, by-cases, ⊎-elim}
 use mathlib.Core.List.{List}
 use native.Mathlib.Decide.{ℕ-discrete}
 use native.Mathlib.Omega.{arith}
@@ -43,6 +43,23 @@ marked-more g h = record {
 
 pub marked-same : {l : List ℕ} {p y v e : ℕ} → v ≡ y → EndMarked l p y e → EndMarked l p v e
 marked-same {l} {p} {e = e} q = subst (λ (y : ℕ). EndMarked l p y e) (sym q)
+
+-- one entry more has what it had and what the one before it, `prev`, has: so those in D′ have all that R lets them have, where those in D do
+pub joined-more : {old l : List ℕ} (base e prev v : ℕ) {D D′ : ℕ → Type 0} {R : ℕ → ℕ → Type 0} → Grows old l → base + e < 2048
+    → ((y : ℕ) → In v y ↔ (In (getD l (base + e) 0) y ⊎ In (getD l (base + prev) 0) y))
+    → ((d : ℕ) → D′ d → (d ≡ e → ⊥) → D d) → D prev → ((f : ℕ) → R e f → (f ≡ e → ⊥) → R prev f)
+    → ((d f y : ℕ) → D d → R d f → In (getD old (base + f) 0) y → In (getD l (base + d) 0) y)
+    → Grows old (set l (base + e) v)
+    × ((d f y : ℕ) → D′ d → R d f → In (getD old (base + f) 0) y → In (getD (set l (base + e) v) (base + d) 0) y)
+joined-more {old} {l} base e prev v {R = R} g b new less here on joined =
+    let s = grows-set {l = l} (base + e) v (g .long) b (λ y t. new y .1 (inl t)) in (
+      grows-more g s,
+      λ d f y m k t. by-cases (ℕ-discrete d e)
+          (λ q. in-new l (base + e) v (omega (arith, g .long)) (omega arith) (new y .1 (by-cases (ℕ-discrete f e)
+          (λ r. inl (g .kept _ _ (subst (λ (f : ℕ). In (getD old (base + f) 0) y) r t)))
+          (λ r. inr (joined prev f y here (on f (subst (λ (d : ℕ). R d f) q k) r) t)))))
+          (λ q. s .kept _ _ (joined d f y (less d m q) k t)),
+    )
 
 -- marked first, then each half is joined
 pub bounded-joined : {l m n : List ℕ} {p y e : ℕ} → Grows l m → Grows m n

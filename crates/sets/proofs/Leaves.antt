@@ -12,7 +12,9 @@ use Rattle.bitset.specs.Code.Members.{has, Highest, In}
 use Rattle.bitset.proofs.Bools.{not-both, either}
 use Rattle.words.specs.Fields.{conditionI}
 use Rattle.model.specs.Forms.{conditionForm}
+use Rattle.sets.specs.Code.Rows.{entryAt}
 use Rattle.sets.specs.Code.Cover.{Coverable}
+use Rattle.sets.specs.Code.Masks.{EndsReady}
 use Rattle.sets.specs.Code.Search.{asked, partnerOf, MetByMask, pairAt, EndAt, Masked, SearchReady, ReadsWith}
 use Rattle.sets.proofs.Cover.{coverable, covering}
 use Rattle.sets.proofs.Masks.{partner-less}
@@ -35,6 +37,15 @@ greatest x (suc e) = ⊎-elim
     step f k l h = by-cases (decLt k (suc e)) (λ g. h (omega arith)) (λ g. let q : suc e ≡ k = omega arith in subst (λ (j : ℕ). has x j ≡ false) q f)
 
 -- ---- the ends depend on the begins of the members alone
+
+-- what the ends with given begins need, of a search
+pub ends-ready : {cs ends begins : List ℕ} {count lo hi : ℕ} → SearchReady cs ends count lo hi → ((i : ℕ) → entryAt begins i < 64) → EndsReady cs count begins
+ends-ready r moments = record {
+  few = r .few;
+  conditions = r .conditions;
+  named = λ d l. let n = r .named d l in (omega (arith, n .0, r .few), omega (arith, n .1, r .few));
+  moments = moments;
+}
 
 met-same : (cs allow : List ℕ) (bs bs′ : ℕ → ℕ) (c e : ℕ) → let w = getD cs c 0 in bs (partnerOf w) ≡ bs′ (partnerOf w) → bs (conditionI w) ≡ bs′ (conditionI w)
     → MetByMask cs allow bs c e → MetByMask cs allow bs′ c e

@@ -8,10 +8,10 @@ use native.Mathlib.Decide.{decLt, ℕ-discrete}
 use native.Mathlib.Omega.{arith}
 use lib.Dec.{eqb, leb}
 use lib.ListN.{length, getD, set}
-use lib.Seq.{getD-set-same, getD-set-other}
 use lib.Count.{trailingZeros}
 use borrow.Author.Count.{below-more}
 use borrow.Author.Tests.{eqb-true, eq-eqb}
+use Rattle.words.proofs.Entries.{entry-set}
 use Rattle.bitset.specs.Code.Members.{has, IsSetOf, In, Highest}
 use Rattle.bitset.proofs.Bools.{not-both}
 use Rattle.bitset.proofs.Ends.{lowest}
@@ -98,14 +98,6 @@ pub mask-met : (value : ℕ → ℕ → ℕ) (n w a z x : ℕ) {f k M N r : ℕ}
     → MaskOf (conditionNumber f) value n k M N a z x r → (y : ℕ) → In r y ↔ ((a ≤ y) × (y ≤ z) × MetAt value n w y y x)
 mask-met value n w a z x qf qk qm qn h y = rw (qf, qk, qm, qn) at (h y)
 
--- the mask of one begin more, at base + x
-pub begin-more : (allow : List ℕ) (base a x v : ℕ) (P : ℕ → ℕ → Type 0) → base + x < length allow → ((y : ℕ) → In v y ↔ P x y)
-    → ((u y : ℕ) → a ≤ u → u < x → In (getD allow (base + u) 0) y ↔ P u y)
-    → (u y : ℕ) → a ≤ u → u < x + 1 → In (getD (set allow (base + x) v) (base + u) 0) y ↔ P u y
-begin-more allow base a x v P l new old u y g h = by-cases (decLt u x)
-    (λ b. rw (getD-set-other allow (base + x) (base + u) v 0 (omega arith)) (old u y g b))
-    (λ b. let q : u ≡ x = omega arith in rw (q, getD-set-same allow (base + x) v 0 l) (new y))
-
 -- the masks of one condition more
 pub allowed-more : {value : ℕ → ℕ → ℕ} {cs old new : List ℕ} {n lo hi : ℕ} (c : ℕ) → hi < 64 → Allowed value cs n lo hi c old
     → ((x y : ℕ) → lo ≤ x → x ≤ hi → In (getD new (c * 64 + x) 0) y ↔ ((lo ≤ y) × (y ≤ hi) × MetAt value n (getD cs c 0) y y x))
@@ -150,9 +142,8 @@ module _ {cs allow begins old new : List ℕ} {c : ℕ} (i m v : ℕ) (on : i �
     (both : (e : ℕ) → In v e ↔ (In (entryAt new i) e × In m e)) where
   pub narrow-more : Narrowed cs allow begins old c new → Narrowed cs allow begins old (c + 1) (set new i v)
   narrow-more h = record {
-    mask = λ j e. by-cases (ℕ-discrete j i)
-        (λ q. rw (q, getD-set-same new i v 0 (omega arith)) (here e))
-        (λ q. rw (getD-set-other new i j v 0 q) (other j e q));
+    mask = λ j e. entry-set (λ w. In w e ↔ (In (entryAt old j) e × ((d : ℕ) → d < c + 1 → MaskAsks cs allow begins j e d))) new i v (omega arith)
+        (λ q. rw q (here e)) (other j e);
   }
     where
       -- the member that the condition is on
@@ -172,16 +163,3 @@ module _ {cs allow begins old new : List ℕ} {c : ℕ} (i m v : ℕ) (on : i �
       )
 
 -- ---- stores into an array of masks
-
-module _ (r : List ℕ) (i v : ℕ) (l : i < length r) where
-  -- one entry more is as f has it
-  pub each-set : (f : ℕ → ℕ) → v ≡ f i → ((j : ℕ) → j < i → entryAt r j ≡ f j) → (j : ℕ) → j < i + 1 → entryAt (set r i v) j ≡ f j
-  each-set f q h j g = by-cases (decLt j i)
-      (λ b. getD-set-other r i j v 0 (omega arith) ∙ h j b)
-      (λ b. let e : j ≡ i = omega arith in rw (e, getD-set-same r i v 0 l) q)
-
-  -- masks of moments stay such
-  pub small-set : ((e : ℕ) → In v e → e < 64) → ((j e : ℕ) → In (entryAt r j) e → e < 64) → (j e : ℕ) → In (entryAt (set r i v) j) e → e < 64
-  small-set g h j e t = by-cases (ℕ-discrete j i)
-      (λ q. g e (rw (q, getD-set-same r i v 0 l) at t))
-      (λ q. h j e (rw (getD-set-other r i j v 0 q) at t))

@@ -1,18 +1,16 @@
 -- Open sets: their arrays are of four words; a store in such an array; what fits still fits where begins and ends are left out. Assumes nothing.
 use Prim.Native.Nat.{ℕ, zero, suc, _^_, _<_}
-use mathlib.Core.Path.{_≡_, sym, subst}
-use mathlib.Core.Logic.{by-cases}
+use mathlib.Core.Path.{_≡_, subst}
 use mathlib.Core.List.{List, [], _∷_, map, map-id}
-use native.Mathlib.Decide.{ℕ-discrete}
 use native.Mathlib.Omega.{arith}
 use lib.ListN.{length, set}
-use lib.Seq.{getD-set-same, getD-set-other}
 use mir.Syntax.{w64}
 use mir.Val.{Val}
 use denote.Shadow.{shadow}
 use denote.Plain.{UInt}
 use denote.Array.{Array, each}
 use denote.Laws.{Is}
+use Rattle.words.proofs.Entries.{entries-set}
 use Rattle.bitset.specs.Code.Members.{In}
 use Rattle.bitset.proofs.In.{in-below}
 use Rattle.sets.specs.Code.Rows.{entryAt}
@@ -42,21 +40,14 @@ open-begins o vs h = words (o .begins) _ (h .1 .1 .1 .1 .1 .0)
 pub open-ends : (o : Open) (vs : List Val) → Is the-row o vs → Words (o .ends)
 open-ends o vs h = words (o .ends) _ (h .1 .1 .1 .1 .1 .1 .0)
 
--- what holds of each entry and of the new one holds of each after the store
-pub set-entries : (P : ℕ → ℕ → Type 0) (l : List ℕ) (i v : ℕ) → i < length l → P i v → ((j : ℕ) → P j (entryAt l j))
-    → (j : ℕ) → P j (entryAt (set l i v) j)
-set-entries P l i v room new old j = by-cases (ℕ-discrete j i)
-    (λ q. subst (λ (k : ℕ). P k (entryAt (set l i v) k)) (sym q) (subst (P i) (sym (getD-set-same l i v 0 room)) new))
-    (λ n. subst (P j) (sym (getD-set-other l i j v 0 n)) (old j))
-
 -- masks after a store: each has its number of xs, where the new one does; none gains a member, where the new one does not
 pub set-kept : {count : ℕ} {xs : ℕ → ℕ} (l : List ℕ) (i v : ℕ) → i < length l → (i < count → In v (xs i))
     → ((j : ℕ) → j < count → In (entryAt l j) (xs j)) → (j : ℕ) → j < count → In (entryAt (set l i v) j) (xs j)
-set-kept {count} {xs} l i v room new old = set-entries (λ j m. j < count → In m (xs j)) l i v room new old
+set-kept {count} {xs} l i v room new old = entries-set (λ j m. j < count → In m (xs j)) l i v room new old
 
 pub set-fewer : (l : List ℕ) (i v : ℕ) → i < length l → ((x : ℕ) → In v x → In (entryAt l i) x)
     → (j x : ℕ) → In (entryAt (set l i v) j) x → In (entryAt l j) x
-set-fewer l i v room less = set-entries (λ j m. (x : ℕ) → In m x → In (entryAt l j) x) l i v room less (λ j x t. t)
+set-fewer l i v room less = entries-set (λ j m. (x : ℕ) → In m x → In (entryAt l j) x) l i v room less (λ j x t. t)
 
 -- what fits still fits where the masks keep its begins and ends and no begin is added
 pub fits-kept : {count : ℕ} {o : Open} {bs es : ℕ → ℕ} (begins ends : List ℕ) → InDomains count o bs es

@@ -1,11 +1,10 @@
 -- What members keep as one of them is placed. Assumes nothing.
 use Prim.Native.Nat.{ℕ, _≤_, _<_}
 use mathlib.Core.Path.{_≡_, sym, _∙_}
-use mathlib.Core.Logic.{_↔_, by-cases}
+use mathlib.Core.Logic.{_↔_}
 use mathlib.Core.List.{List}
-use native.Mathlib.Decide.{ℕ-discrete}
 use lib.ListN.{length, set}
-use lib.Seq.{getD-set-same, getD-set-other}
+use Rattle.words.proofs.Entries.{entry-set}
 use Rattle.bitset.specs.Code.Members.{In}
 use Rattle.sets.specs.Code.Rows.{entryAt}
 use Rattle.sets.specs.Code.Search.{InDomains}
@@ -31,9 +30,8 @@ pub has-start : {count : ℕ} (begins ends : List ℕ) {left left′ last : ℕ}
 has-start {count} begins ends {left} {left′} {last} i w x {bs} {es} long inside single without q begin end fixed = record {
   begin = set-kept begins i w long (λ l. single (bs i) .1 q) begin;
   end = end;
-  fixed = λ j y l n. by-cases (ℕ-discrete j i)
-      (λ r. rw (r, getD-set-same begins i w 0 long) (λ t. single y .0 t ∙ sym q))
-      (λ r. rw (getD-set-other begins i j w 0 r) (fixed j y l (λ t. n (without j .1 (t, r)))));
+  fixed = λ j y l n. entry-set (λ m. In m y → y ≡ bs j) begins i w long
+      (λ r t. rw r (single y .0 t ∙ sym q)) (λ r. fixed j y l (λ t. n (without j .1 (t, r))));
   final = end last inside;
 }
 

@@ -36,11 +36,6 @@ in-kept l k v {q} {e} t same = by-cases (ℕ-discrete q k)
 pub stored-in : (l : List ℕ) (k v : ℕ) {e : ℕ} → In (getD (set l k v) k 0) e → In v e
 stored-in l k v t = let g = simp length-set at (in-range (set l k v) k t) in rw (getD-set-same l k v 0 g) at t
 
-pub in-stored : (l : List ℕ) (k v : ℕ) {q e : ℕ} → k < length l → (q ≡ k → In v e) → ((q ≡ k → ⊥) → In (getD l q 0) e) → In (getD (set l k v) q 0) e
-in-stored l k v {q} {e} g same other = by-cases (ℕ-discrete q k)
-    (λ h. rw (h, getD-set-same l k v 0 g) (same h))
-    (λ h. rw (getD-set-other l k q v 0 h) (other h))
-
 -- ---- a condition by its mask
 
 -- a condition that asks for the begin or the end of member i asks the same where both are that moment, and nothing of any but its partner

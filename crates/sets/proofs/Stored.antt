@@ -1,19 +1,21 @@
 -- The rows of a set, stored one after the other. Assumes nothing.
-use Prim.Native.Nat.{ℕ, zero, suc, _+_, _*_, _≤_, _<_}
+use Prim.Native.Nat.{ℕ, _+_, _*_, _≤_, _<_}
 use mathlib.Core.Path.{_≡_, refl, sym, subst}
+use mathlib.Core.Bool.{_&&_}
 use mathlib.Core.Logic.{_↔_, _⊎_, ⊎-elim}
 use mathlib.Core.List.{List, [], _∷_}
 use native.Mathlib.Omega.{arith}
 use borrow.Author.Count.{below-more}
-use lib.ListN.{length, getD, set, replicate, length-set}
+use lib.Dec.{leb, ltb}
+use lib.ListN.{length, getD, set, replicate, length-set, getD-replicate}
 use lib.Seq.{getD-set-same, getD-set-other}
-use Rattle.bitset.specs.Code.Members.{In}
+use Rattle.bitset.specs.Code.Members.{In, IsSetOf}
 use Rattle.sets.specs.Set.{TaskSet, memberCount}
 use Rattle.sets.specs.Code.Set.{member, SetRule}
 use Rattle.sets.specs.Code.Rows.{SetRows, Placed}
 use Rattle.sets.specs.Code.Search.{Masked, EndsHave, BoundsHave, InSpan, InTables, SearchReady, Grown, Unpruned, Tables}
 use Rattle.sets.specs.declared.search.Found.{Found}
-use Rattle.bitset.proofs.In.{in-zero, empty-entry}
+use Rattle.bitset.proofs.In.{in-zero, in-from, empty-entry}
 use Rattle.model.specs.Code.Table.{InTable}
 
 -- the rule asks R of the members' rows alone
@@ -101,13 +103,8 @@ row-found {s} {R} {a} {z} {b} {allow} {ends} {goes} {later} bounds f r goal coun
     q (λ filled g all. record { finds = row-finds bounds r goal t filled from all; reads = row-reads t from none last g })
 
 -- an array of one word, every entry of which has all moments
-pub every-entry : (k v i : ℕ) → i < k → getD (replicate k v) i 0 ≡ v
-every-entry zero v i l = absurd (omega arith)
-every-entry (suc k) v zero l = refl
-every-entry (suc k) v (suc i) l = every-entry k v i (omega arith)
-
-pub every-unpruned : {v : ℕ} → ((e : ℕ) → e < 64 → In v e) → Unpruned (replicate 1024 v)
-every-unpruned {v} h p e l m = subst (λ (x : ℕ). In x e) (sym (every-entry 1024 v p l)) (h e m)
+pub every-unpruned : (v : ℕ) → IsSetOf v (λ k. leb 0 k && ltb k 64) → Unpruned (replicate 1024 v)
+every-unpruned v h p e l m = subst (λ (x : ℕ). In x e) (sym (getD-replicate 1024 p v 0 l)) (in-from h e .1 (omega arith, m))
 
 -- no begins yet
 pub no-begins : (i : ℕ) → getD (0 ∷ 0 ∷ 0 ∷ 0 ∷ []) i 0 < 64

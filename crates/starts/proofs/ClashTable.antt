@@ -3,12 +3,11 @@ use mathlib.Core.Bool.{Bool, true, false, _&&_, _||_}
 use mathlib.Core.List.{List}
 use mathlib.Core.Path.{_≡_, refl, sym, _∙_}
 use Prim.Native.Nat.{ℕ, _+_, _*_, _/_, _%_, _≤_, _<_}
-use native.Mathlib.Decide.{decLt}
 use native.Mathlib.Omega.{arith}
 use lib.Dec.{eqb}
 use lib.ListN.{length, getD, set, length-set}
-use lib.Seq.{getD-set-same, getD-set-other}
 use Rattle.words.specs.Tests.{indicator}
+use Rattle.words.proofs.Entries.{entries-more}
 use Rattle.job.specs.Parts.{fluents, actions}
 use Rattle.job.specs.Code.WellFormed.{WellFormed}
 use Rattle.starts.specs.Rows.{opposed, clash}
@@ -43,13 +42,8 @@ module _ (job : List ℕ) where
   entered-start table e = record { size = e; entry = λ m l. absurd (omega arith) }
 
   pub entered-more : (k v : ℕ) (table : List ℕ) → Entered job k table → k < 4096 → EntryIs job k v → Entered job (k + 1) (set table k v)
-  entered-more k v table h l e = record { size = length-set table k v ∙ h .size; entry = λ m n. cases m (decLt m k) n }
-    where
-      cases : (m : ℕ) → Dec (m < k) → m < k + 1 → EntryIs job m (getD (set table k v) m 0)
-      cases m (yes s) n = rw (getD-set-other table k m v 0 (λ z. omega arith)) (h .entry m s)
-      cases m (no s) n =
-          let same : m ≡ k = omega arith in
-          rw (same, getD-set-same table k v 0 (omega (arith, h .size))) e
+  entered-more k v table h l e =
+      record { size = length-set table k v ∙ h .size; entry = entries-more (λ m. m) (EntryIs job) table k v (omega (arith, h .size)) (λ m n q. omega arith) (h .entry) e }
 
   pub entered-all : WellFormed job → (k : ℕ) (table : List ℕ) → 4096 ≤ k → Entered job k table → Clashes job table
   entered-all formed k table l h = record { entry = λ a b m n. at a b (omega (arith, formed .few-actions)) (omega (arith, formed .few-actions)) m n }

@@ -1,61 +1,31 @@
 -- Rows 8 and 9 by the latest finish of each action: an earlier start of an action is still in hand where its latest one is. Assumes nothing.
-use mathlib.Core.Bool.{Bool, true, false, _&&_}
+use mathlib.Core.Bool.{Bool, true, false}
 use mathlib.Core.List.{List}
 use mathlib.Core.Path.{_≡_, refl, ap, sym, _∙_}
-use Prim.Native.Nat.{ℕ, zero, suc, _+_, _^_, _≤_, _<_}
+use Prim.Native.Nat.{ℕ, _+_, _^_, _≤_, _<_}
 use native.Mathlib.Decide.{decLt}
 use native.Mathlib.Omega.{arith}
-use borrow.Author.Tests.{eqb-true, eqb-false, leb-true, ltb-true, ltb-false, le-leb, lt-ltb, eq-eqb}
-use lib.Dec.{eqb, leb, ltb}
+use borrow.Author.Tests.{eqb-true, eqb-false, ltb-true, ltb-false, lt-ltb, eq-eqb}
+use lib.Dec.{eqb, ltb}
 use lib.ListN.{length, getD, set, replicate, length-set}
 use lib.Seq.{getD-set-same, getD-set-other}
 use Rattle.words.specs.Fields.{startMoment, startAction}
 use Rattle.words.proofs.Choices.{is-false, both-true}
-use Rattle.job.specs.Parts.{actions, lastMoment, duration}
-use Rattle.history.specs.Actions.{finish, inHand}
+use Rattle.job.specs.Parts.{actions, duration}
+use Rattle.history.specs.Actions.{finish}
 use Rattle.starts.specs.Rows.{restarts, inHandAlready, together, clashing, clashes}
 use Rattle.words.specs.Scan.{anyBelow}
 use Rattle.starts.specs.Code.Latest.{Unfinished, Latest, clashesAfter}
 use Rattle.starts.specs.Code.Given.{Timed}
 use Rattle.words.proofs.AnyBelow.{some-none, some-hit, some-same}
+use Rattle.words.proofs.Entries.{entries-alike}
+use Rattle.starts.proofs.Opposed.{together-later}
 use Rattle.starts.proofs.StartsFormed.{right-word, finish-is, moments-ordered}
 
 -- before the first start no entry is above 0
-zeros : (n a : ℕ) → _≡_ {A = ℕ} (getD (replicate n 0) a 0) 0
-zeros zero a = refl
-zeros (suc n) zero = refl
-zeros (suc n) (suc a) = zeros n a
-
 pub latest-start : (job starts : List ℕ) → Latest job starts 0 (replicate 64 0)
-latest-start job starts = record { size = refl; covers = λ j l. absurd (omega arith); comes = λ a u l. absurd (omega (arith, zeros 64 a)) }
-
--- a start that is not later than another, which lasts and is at a moment of the job: they are in hand together where the first has not
--- finished when the other begins
-module _ (job : List ℕ) (s s' : ℕ) (lasts : 0 < duration job (startAction s')) (first : startMoment s ≤ startMoment s')
-    (moment : startMoment s' ≤ lastMoment job) where
-  abbrev inBoth : ℕ → Bool
-  inBoth t = inHand job t s && inHand job t s'
-
-  together-is : together job s s' ≡ ltb (startMoment s') (finish job s)
-  unfolding together
-  together-is = cases (ltb (startMoment s') (finish job s)) refl
-    where
-      -- a moment in both is in hand of the first, and not before the other
-      apart : finish job s ≤ startMoment s' → (t : ℕ) → inBoth t ≡ true → ⊥
-      apart l t e =
-          let a = both-true (inHand job t s) (inHand job t s') e in
-          let b = both-true (leb (startMoment s) t) (ltb t (finish job s)) (a .0) in
-          let c = both-true (leb (startMoment s') t) (ltb t (finish job s')) (a .1) in
-          omega (arith, ltb-true t (finish job s) (b .1), leb-true (startMoment s') t (c .0))
-
-      cases : (b : Bool) → ltb (startMoment s') (finish job s) ≡ b → anyBelow inBoth (lastMoment job + 1) ≡ b
-      cases true e =
-          let u = startMoment s' in
-          some-hit inBoth (lastMoment job + 1) u (omega arith)
-          (rw (le-leb (startMoment s) u first, e, le-leb u u (omega arith), lt-ltb u (finish job s') (omega arith)))
-      cases false e =
-          some-none inBoth (lastMoment job + 1)
-          (λ t l. is-false (inBoth t) (apart (ltb-false (startMoment s') (finish job s) e) t))
+latest-start job starts =
+    record { size = refl; covers = λ j l. absurd (omega arith); comes = λ a u l. absurd (omega (arith, entries-alike (λ v. v ≤ 0) 64 0 (omega arith) (omega arith) a)) }
 
 -- of word i the code has read the action a; the table is that of the starts before it
 module _ {job durations starts : List ℕ} (given : Timed job durations starts) (words : (i : ℕ) → getD starts i 0 < 2 ^ 32)
@@ -135,7 +105,7 @@ module _ {job durations starts : List ℕ} (given : Timed job durations starts) 
         joint : (j : ℕ) → j < i → together job (getD starts j 0) s ≡ ltb (startMoment s) (finish job (getD starts j 0))
         joint j m =
             let r = right-word (given .words) i l in
-            together-is job (getD starts j 0) s (given .formed .lasting (startAction s) (r .action)) (earlier m .0) (r .moment)
+            together-later job (getD starts j 0) s (earlier m .0) (omega (arith, given .formed .lasting (startAction s) (r .action))) (r .moment)
 
         to : (j : ℕ) → j < i → test j ≡ true → anyBelow (clashesAfter job table (startAction s) (startMoment s)) (actions job) ≡ true
         to j m e =

@@ -1,43 +1,32 @@
 -- Two starts clash whichever comes first; when a start clashes with one that does not begin later. Assumes nothing.
-use mathlib.Core.Bool.{Bool, true, false, _&&_, _||_}
+use mathlib.Core.Bool.{Bool, true, false, _&&_, _||_, and-comm, or-comm}
 use mathlib.Core.List.{List}
 use mathlib.Core.Path.{_≡_, refl}
-use Prim.Native.Nat.{ℕ, zero, suc, _+_, _≤_, _<_}
+use Prim.Native.Nat.{ℕ, _+_, _≤_, _<_}
 use native.Mathlib.Omega.{arith}
 use borrow.Author.Tests.{ltb-true, ltb-false, leb-true, lt-ltb, le-leb}
 use lib.Dec.{eqb, leb, ltb}
 use Rattle.words.specs.Fields.{holds, fails, startMoment, startAction}
 use Rattle.words.specs.Scan.{anyBelow}
-use Rattle.words.proofs.Choices.{both-true, or-swap, is-false}
-use Rattle.words.proofs.AnyBelow.{some-hit, some-none}
+use Rattle.words.proofs.Choices.{both-true, is-false}
+use Rattle.words.proofs.AnyBelow.{some-hit, some-none, some-cong}
 use Rattle.job.specs.Parts.{fluents, lastMoment}
 use Rattle.history.specs.Actions.{effect, finish, inHand}
 use Rattle.starts.specs.Rows.{opposed, clash, together, clashing}
-
-and-swap : (a b : Bool) → (a && b) ≡ (b && a)
-and-swap true true = refl
-and-swap true false = refl
-and-swap false true = refl
-and-swap false false = refl
-
-any-same : (f g : ℕ → Bool) (n : ℕ) → ((i : ℕ) → f i ≡ g i) → anyBelow f n ≡ anyBelow g n
-unfolding anyBelow
-any-same f g zero h = refl
-any-same f g (suc n) h = rw (any-same f g n h, h n)
 
 module _ (job : List ℕ) where
   clash-swap : (a b : ℕ) → clash job a b ≡ clash job b a
   unfolding clash
   clash-swap a b =
-      any-same (opposed job a b) (opposed job b a) (fluents job)
-      (λ f. swap (eqb (effect job a f) holds) (eqb (effect job b f) fails) (eqb (effect job a f) fails) (eqb (effect job b f) holds))
+      some-cong (opposed job a b) (opposed job b a) (fluents job)
+      (λ f l. swap (eqb (effect job a f) holds) (eqb (effect job b f) fails) (eqb (effect job a f) fails) (eqb (effect job b f) holds))
     where
       swap : (p q r s : Bool) → ((p && q) || (r && s)) ≡ ((s && r) || (q && p))
-      swap p q r s = rw (and-swap p q, and-swap r s) (or-swap (q && p) (s && r))
+      swap p q r s = rw (and-comm p q, and-comm r s) (or-comm (q && p) (s && r))
 
   together-swap : (s s' : ℕ) → together job s s' ≡ together job s' s
   unfolding together
-  together-swap s s' = any-same _ _ (lastMoment job + 1) (λ t. and-swap (inHand job t s) (inHand job t s'))
+  together-swap s s' = some-cong _ _ (lastMoment job + 1) (λ t l. and-comm (inHand job t s) (inHand job t s'))
 
   pub clashing-swap : (s s' : ℕ) → clashing job s s' ≡ clashing job s' s
   clashing-swap s s' = rw (together-swap s s', clash-swap (startAction s) (startAction s'))

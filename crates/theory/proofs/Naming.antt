@@ -13,7 +13,7 @@ use Rattle.words.specs.Fields.{ofKind, kind, form, isSet, memberNode}
 use Rattle.words.specs.Scan.{takeWhile, fromNth, count}
 use Rattle.words.proofs.Choices.{both-true, same-or-not}
 use Rattle.bitset.specs.Code.Members.{sumBelow}
-use Rattle.bitset.proofs.Sums.{sum-cong}
+use Rattle.bitset.proofs.Sums.{sum-cong, sum-front}
 use Rattle.model.specs.Code.Forms.{children}
 use Rattle.job.specs.Children.{nodeChildren, wordChildren}
 use Rattle.job.specs.Before.{before, countOfKind, named}
@@ -31,12 +31,6 @@ use Rattle.job.proofs.WellFormed.{well-formed}
 -- how often node p of a list of words has node v as a child
 abbrev childTimes : List ℕ → ℕ → ℕ → ℕ
 childTimes ws v p = count v (children (procedureOf ws) p)
-
--- a sum with its first term apart
-sum-first : (f : ℕ → ℕ) (n : ℕ) → sumBelow f (suc n) ≡ f 0 + sumBelow (λ i. f (suc i)) n
-unfolding sumBelow
-sum-first f zero = omega arith
-sum-first f (suc n) = omega (arith, sum-first f n)
 
 -- how often a node is named, with the first word apart
 named-cons : (v w : ℕ) (ws : List ℕ) (i : ℕ) → named v (before (w ∷ ws) (suc i)) ≡ count v (wordChildren w) + named v (before ws i)
@@ -125,7 +119,7 @@ module _ (v w : ℕ) (ws : List ℕ) where
   sum-node : Led (w ∷ ws) → kind w ≡ 6 → all ≡ count v (wordChildren w) + leads v ws + rest
   sum-node led h =
       let more : nodeCount (w ∷ ws) ≡ suc (nodeCount ws) = count-cons 6 w ws (length ws) ∙ rw h (omega arith) in
-      ap (sumBelow (childTimes (w ∷ ws) v)) more ∙ sum-first (childTimes (w ∷ ws) v) (nodeCount ws)
+      ap (sumBelow (childTimes (w ∷ ws) v)) more ∙ sum-front (childTimes (w ∷ ws) v) (nodeCount ws)
       ∙ rw (node-first h led, sum-cong {f = λ p. childTimes (w ∷ ws) v (suc p)} {g = childTimes ws v} (nodeCount ws) (λ p l. node-next h p))
 
   sum-other : (kind w ≡ 6 → ⊥) → all ≡ rest

@@ -1,19 +1,21 @@
 -- What a job that rows 1 to 5 pass has: its index is that of all its words. Assumes nothing.
 use mathlib.Core.List.{List}
-use mathlib.Core.Path.{_≡_}
-use Prim.Native.Nat.{ℕ}
+use mathlib.Core.Path.{_≡_, _∙_}
+use Prim.Native.Nat.{ℕ, _≤_}
 use native.Mathlib.Omega.{arith}
 use borrow.Author.Tests.{eq-eqb}
 use lib.ListN.{length}
 use Rattle.job.specs.declared.Checked.{Checked}
 use Rattle.job.specs.declared.Index.{Index}
 use Rattle.job.specs.Refusal.{jobRefusal}
-use Rattle.job.specs.Code.Index.{placesUpto, checkedOf}
+use Rattle.job.specs.Code.Index.{placesUpto, indexUpto, checkedOf}
 use Rattle.job.specs.Parts.{total, nodeCount}
 use Rattle.job.specs.Code.Parts.{formulaCount}
 use Rattle.job.specs.Code.WellFormed.{WellFormed, Indexed}
 use Rattle.job.proofs.WellFormed.{well-formed}
 use Rattle.answers.proofs.Rows.{or-none}
+use Rattle.facts.specs.Facts.{factsOf}
+use Rattle.facts.proofs.Lists.{facts-fit}
 use Rattle.starts.specs.Rows.{startsRefusal}
 use Rattle.theory.specs.Answers.{planRefusal}
 use Rattle.job.proofs.WordPositions.{placed, positions-count}
@@ -30,26 +32,32 @@ job-clear job starts clear = or-none (jobRefusal job) (startsRefusal job starts)
 pub plan-formed : (job starts : List ℕ) → planRefusal job starts .number ≡ 0 → WellFormed job
 plan-formed job starts clear = well-formed job (job-clear job starts clear)
 
+-- it has at most 4,096 facts
+pub few-facts : (job starts : List ℕ) → planRefusal job starts .number ≡ 0 → length (factsOf job starts) ≤ 4096
+few-facts job starts clear = facts-fit job starts (plan-formed job starts clear)
+
 module _ (job : List ℕ) {index : Index} (clear : jobRefusal job .number ≡ 0) (is : index ≡ checkedOf job .index) where
   formed : WellFormed job
   formed = well-formed job clear
 
-  pub actions-indexed : Indexed job 3 (index .actions .position)
+  -- the index is that of all words
+  whole : index ≡ indexUpto job (length job)
   unfolding checkedOf
-  actions-indexed = rw (is, eq-eqb (jobRefusal job .number) 0 clear) (placed job 3 (omega (arith, formed .counted, formed .few-actions)))
+  whole = is ∙ rw (eq-eqb (jobRefusal job .number) 0 clear)
+
+  pub actions-indexed : Indexed job 3 (index .actions .position)
+  actions-indexed = rw whole (placed job 3 (omega (arith, formed .counted, formed .few-actions)))
 
   pub formulas-indexed : Indexed job 5 (index .formulas .position)
-  unfolding checkedOf
-  formulas-indexed = rw (is, eq-eqb (jobRefusal job .number) 0 clear) (placed job 5 (formed .few-formulas))
+  formulas-indexed = rw whole (placed job 5 (formed .few-formulas))
 
   pub nodes-indexed : Indexed job 6 (index .nodes .position)
-  unfolding checkedOf
-  nodes-indexed = rw (is, eq-eqb (jobRefusal job .number) 0 clear) (placed job 6 (formed .few-nodes))
+  nodes-indexed = rw whole (placed job 6 (formed .few-nodes))
 
   pub formulas-counted : index .formulas .total ≡ formulaCount job
-  unfolding checkedOf placesUpto
-  formulas-counted = rw (is, eq-eqb (jobRefusal job .number) 0 clear) (positions-count 5 job (length job))
+  unfolding placesUpto
+  formulas-counted = rw whole (positions-count 5 job (length job))
 
   pub nodes-counted : index .nodes .total ≡ nodeCount job
-  unfolding checkedOf placesUpto
-  nodes-counted = rw (is, eq-eqb (jobRefusal job .number) 0 clear) (positions-count 6 job (length job))
+  unfolding placesUpto
+  nodes-counted = rw whole (positions-count 6 job (length job))

@@ -1,46 +1,28 @@
 -- Whatever the lists of 32-bit words, of any length, the answers of check and fill fit their fields. Assumes nothing.
-use mathlib.Core.Bool.{Bool, true, false, cond}
 use mathlib.Core.List.{List, [], _∷_}
-use mathlib.Core.Path.{_≡_, refl}
 use Prim.Native.Nat.{ℕ, suc, _+_, _^_, _≤_, _<_}
 use native.Mathlib.Omega.{arith}
-use borrow.Author.Tests.{eqb-true}
 use lib.Dec.{eqb, ltb}
 use lib.ListN.{length, getD}
-use Rattle.answers.specs.declared.Refusal.{Refusal}
-use Rattle.answers.specs.Rows.{firstRefusal}
+use Rattle.words.proofs.Choices.{cond-all}
 use Rattle.answers.specs.Code.Packed.{InRange}
 use Rattle.answers.proofs.Rows.{or-none}
-use Rattle.answers.proofs.Range.{Fitting, pick-fits, refusal-fits, passed-fits, or-fits, row-fits, answer-fits}
+use Rattle.answers.proofs.Range.{Fitting, refusal-fits, passed-fits, next-fits, or-fits, row-fits, answer-fits}
 use Rattle.job.specs.Refusal.{jobRefusal}
-use Rattle.job.proofs.WellFormed.{well-formed}
 use Rattle.job.proofs.Fits.{job-fits}
 use Rattle.facts.specs.Facts.{factsOf}
-use Rattle.facts.proofs.Lists.{facts-fit}
 use Rattle.starts.specs.Rows.{startsRefusal}
 use Rattle.starts.proofs.RefusalFits.{starts-fit}
 use Rattle.theory.proofs.Laws.{check-rows}
+use Rattle.theory.proofs.Passing.{few-facts}
 use Rattle.theory.specs.Answers.{bufferRefusal, planRefusal, factsRefusal, checkRefusal, fillRefusal, checkAnswer, fillAnswer}
-
--- a second row that fits only where it is reached
-next-fits : (a b : Refusal) → Fitting a → (a .number ≡ 0 → Fitting b) → Fitting (firstRefusal a b)
-next-fits a b h l = cases (eqb (a .number) 0) refl
-  where
-    cases : (t : Bool) → eqb (a .number) 0 ≡ t → Fitting (cond t b a)
-    cases true e = l (eqb-true (a .number) 0 e)
-    cases false e = h
 
 differ-fits : (given wanted : List ℕ) (i : ℕ) → i + length wanted ≤ 4096 → Fitting (factsRefusal given wanted i)
 unfolding factsRefusal
 differ-fits [] [] i l = passed-fits
 differ-fits [] (b ∷ wanted) i l = refusal-fits (omega arith) (omega arith)
 differ-fits (a ∷ given) [] i l = refusal-fits (omega arith) (omega arith)
-differ-fits (a ∷ given) (b ∷ wanted) i l = pick-fits (eqb a b) (differ-fits given wanted (suc i) (omega arith)) (refusal-fits (omega arith) (omega arith))
-
--- a plan that passes rows 1 to 10 has at most 4,096 facts
-few-facts : (job starts : List ℕ) → planRefusal job starts .number ≡ 0 → length (factsOf job starts) ≤ 4096
-unfolding planRefusal
-few-facts job starts e = facts-fit job starts (well-formed job (or-none (jobRefusal job) (startsRefusal job starts) e .0))
+differ-fits (a ∷ given) (b ∷ wanted) i l = cond-all Fitting (eqb a b) (differ-fits given wanted (suc i) (omega arith)) (refusal-fits (omega arith) (omega arith))
 
 module _ (job starts : List ℕ) (words : (i : ℕ) → getD starts i 0 < 2 ^ 32) where
   plan-fits : Fitting (planRefusal job starts)

@@ -6,12 +6,12 @@ use Prim.Native.Nat.{ℕ, zero, suc, _*_, _+_, _<_, _≤_}
 use native.Mathlib.Omega.{arith}
 use lib.ListN.{getD}
 use Rattle.bitset.specs.Code.Members.{has}
-use Rattle.words.specs.Fields.{ofKind, form, nodeX, memberNode}
-use Rattle.words.specs.Scan.{any, takeWhile, dropWhile}
+use Rattle.words.specs.Fields.{form, nodeX, memberNode}
+use Rattle.words.specs.Scan.{any}
 use Rattle.job.specs.Parts.{actions, lastMoment, nodeCount, nodeWord, memberWords, conditionWords}
 use Rattle.job.specs.Code.Parts.{formulaCount}
 use Rattle.job.specs.Code.WellFormed.{WellFormed, Indexed}
-use Rattle.job.proofs.ByPlace.{word-place, words-after}
+use Rattle.job.proofs.ByPlace.{word-place, members-place, conditions-place}
 use Rattle.history.specs.Values.{valueAt}
 use Rattle.history.specs.Code.Tables.{Durations}
 use Rattle.formulas.specs.Values.{andTable, orTable, formulaAt}
@@ -48,15 +48,13 @@ module _ (job starts : List ℕ) (w : Arrays) (formed : WellFormed job) (c : Hel
   module _ (p : ℕ) (h : p < nodeCount job) where
     node-word : nodeWord job p ≡ P .node p
     unfolding nodeWord
-    node-word = word-place (c .places) p h
+    node-word = word-place 6 job p (getD (w .places) p 0) (c .places .words p h)
 
     members-are : memberWords job p ≡ membersAt job (getD (w .places) p 0)
-    unfolding memberWords
-    members-are = ap (takeWhile (ofKind 7)) (words-after (c .places) p h)
+    members-are = members-place job p (getD (w .places) p 0) (c .places .words p h)
 
     conditions-are : conditionWords job p ≡ conditionsAt job (getD (w .places) p 0)
-    unfolding conditionWords
-    conditions-are = ap (λ (ws : List ℕ). takeWhile (ofKind 8) (dropWhile (ofKind 7) ws)) (words-after (c .places) p h)
+    conditions-are = conditions-place job p (getD (w .places) p 0) (c .places .words p h)
 
     -- an action is the job's, and so is each formula that the node asks for
     action : form (P .node p) ≡ 0 → nodeX (P .node p) < actions job

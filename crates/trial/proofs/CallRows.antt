@@ -5,15 +5,15 @@ use mathlib.Core.Path.{_≡_, refl, ap, _∙_}
 use Prim.Native.Nat.{ℕ, _≤_, _<_}
 use native.Mathlib.Omega.{arith}
 use borrow.Author.Tests.{lt-ltb, le-ltb, ne-eqb}
-use lib.Dec.{eqb, ltb}
+use lib.Dec.{eqb}
 use lib.ListN.{length}
 use Rattle.answers.specs.declared.Refusal.{Refusal}
 use Rattle.answers.specs.declared.Answer.{Answer}
-use Rattle.answers.specs.Rows.{refusal, passed, row, firstRow, firstRefusal}
+use Rattle.answers.specs.Rows.{refusal, passed, firstRow, firstRefusal}
 use Rattle.answers.specs.Packed.{answerOf}
 use Rattle.answers.proofs.Rows.{or-none, answer-refused}
 use Rattle.job.specs.Refusal.{jobRefusal}
-use Rattle.theory.specs.Answers.{written}
+use Rattle.theory.specs.Answers.{bufferRefusal, written}
 use Rattle.moves.specs.Trials as trials
 use Rattle.moves.specs.Trials.{Move, fresh, moveRefusal, after}
 use Rattle.moves.specs.Calls.{trialIn, beginAnswer, moveAnswer, shownFacts, showAnswer, handedBack}
@@ -76,11 +76,11 @@ module _ (job words : List ℕ) {r : Answer} where
 -- showing
 module _ (job words buffer : List ℕ) {r : Answer} where
   pub short-show : length words < 4098
-      → r ≡ answerOf (firstRefusal (row (ltb (length buffer) 4096) 12 0) (firstRow (jobRefusal job ∷ refusal 14 0 ∷ []))) 0 0
+      → r ≡ answerOf (firstRefusal (bufferRefusal (length buffer)) (firstRow (jobRefusal job ∷ refusal 14 0 ∷ []))) 0 0
       → (r ≡ showAnswer (length buffer) job words) × (buffer ≡ written r (shownFacts job (trialIn words)) buffer)
   unfolding showAnswer
   short-show short is =
-      let first = row (ltb (length buffer) 4096) 12 0 in
+      let first = bufferRefusal (length buffer) in
       let never : firstRefusal first (firstRow (jobRefusal job ∷ refusal 14 0 ∷ [])) .number ≡ 0 → ⊥ = λ z. never-short job (or-none first _ z .1) in (
         is ∙ answer-refused _ 0 0 (length (shownFacts job (trialIn words))) 0 never ∙ rw (lt-ltb (length words) 4098 short),
         rw (is, ne-eqb _ 0 never),

@@ -4,7 +4,7 @@ use mathlib.Core.Path.{_≡_, refl, ap, sym, _∙_}
 use Prim.Native.Nat.{ℕ, _+_, _<_, _≤_}
 use native.Mathlib.Numerals.{add-one}
 use native.Mathlib.Omega.{arith}
-use borrow.Author.Tests.{eq-eqb, ne-eqb, leb-false}
+use borrow.Author.Tests.{eq-eqb, leb-false}
 use lib.Dec.{leb}
 use lib.ListN.{length, take}
 use lib.Seq.{sets, sets-eq, length-sets, length-take-le, take-at}
@@ -13,8 +13,8 @@ use Rattle.words.specs.Lists.{insert, firstWords}
 use Rattle.words.proofs.Lists.{firstWords-take}
 use Rattle.words.proofs.Insert.{insert-length}
 use Rattle.answers.specs.declared.Refusal.{Refusal}
-use Rattle.answers.specs.Rows.{row, firstRow}
-use Rattle.answers.proofs.Rows.{or-assoc, row-none}
+use Rattle.answers.specs.Rows.{row, firstRow, firstRefusal}
+use Rattle.answers.proofs.Rows.{or-assoc, or-refused, or-passed, row-none}
 use Rattle.job.specs.Parts.{lastMoment}
 use Rattle.job.specs.Refusal.{jobRefusal}
 use Rattle.job.specs.Code.WellFormed.{WellFormed}
@@ -45,21 +45,15 @@ module _ (t : Trial) (w : ℕ) (s : Sized t) (room : t .length < 4096) {next : L
 
 -- the rows before the move's own refuse, or leave it to them
 module _ (job : List ℕ) (t : Trial) (m : Move) {early : Refusal} (is : early ≡ firstRow (jobRefusal job ∷ trialRefusal job (trialOf t) ∷ [])) where
-  pub early-refused : (early .number ≡ 0 → ⊥) → early ≡ moveRefusal job (trialOf t) m
+  then-own : firstRefusal early (ownRefusal job (trialOf t) m) ≡ moveRefusal job (trialOf t) m
   unfolding moveRefusal
-  early-refused never =
-      let first = jobRefusal job in
-      let second = trialRefusal job (trialOf t) in
-      let own = ownRefusal job (trialOf t) m in
-      rw (or-assoc first second own, ← is, ne-eqb (early .number) 0 never)
+  then-own = rw is (sym (or-assoc (jobRefusal job) (trialRefusal job (trialOf t)) (ownRefusal job (trialOf t) m)))
+
+  pub early-refused : (early .number ≡ 0 → ⊥) → early ≡ moveRefusal job (trialOf t) m
+  early-refused never = or-refused early (ownRefusal job (trialOf t) m) never ∙ then-own
 
   pub own-next : early .number ≡ 0 → ownRefusal job (trialOf t) m ≡ moveRefusal job (trialOf t) m
-  unfolding moveRefusal
-  own-next z =
-      let first = jobRefusal job in
-      let second = trialRefusal job (trialOf t) in
-      let own = ownRefusal job (trialOf t) m in
-      rw (or-assoc first second own, ← is, eq-eqb (early .number) 0 z)
+  own-next z = or-passed early (ownRefusal job (trialOf t) m) z ∙ then-own
 
 -- a refused move, and an accepted one
 module _ (job : List ℕ) (t : Trial) (m : Move) {r : Refusal} (is : r ≡ moveRefusal job (trialOf t) m) where

@@ -2,14 +2,14 @@
 use mathlib.Core.List.{List}
 use Prim.Native.Nat.{ℕ, _+_}
 use native.Mathlib.Omega.{arith}
-use lib.Dec.{eqb, leb, ltb}
+use lib.Dec.{leb, ltb}
 use lib.ListN.{length}
 use Rattle.words.specs.Fields.{startWord}
 use Rattle.words.specs.Scan.{any}
 use Rattle.answers.specs.Rows.{row, refusalAt}
 use Rattle.answers.specs.Code.Packed.{InRange}
 use Rattle.answers.proofs.Rows.{or-none}
-use Rattle.answers.proofs.Range.{Fitting, pick-fits, refusal-fits, passed-fits, or-fits, row-fits, answer-fits}
+use Rattle.answers.proofs.Range.{Fitting, or-fits, row-fits, at-fits, answer-fits}
 use Rattle.job.specs.Parts.{actions, lastMoment, duration}
 use Rattle.job.specs.Refusal.{jobRefusal}
 use Rattle.job.proofs.Fits.{job-fits}
@@ -29,7 +29,7 @@ trial-fits : (job : List ℕ) (T : Trial) → Fitting (trialRefusal job T)
 unfolding trialRefusal
 trial-fits job T =
     or-fits (row (outside job T) 14 0) (refusalAt 0 (startsRefusal job (T .starts) .number)) (row-fits (outside job T) 14 0 (omega arith) (omega arith))
-    (pick-fits (eqb (startsRefusal job (T .starts) .number) 0) passed-fits (refusal-fits (starts-number job (T .starts)) (omega arith)))
+    (at-fits (starts-number job (T .starts)) (omega arith))
 
 own-fits : (job : List ℕ) (T : Trial) (m : Move) → Fitting (ownRefusal job T m)
 unfolding startRefusal onRefusal

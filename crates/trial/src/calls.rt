@@ -19,9 +19,12 @@ use answers::Refusal;
 use answers::answer_of;
 use answers::first_refusal;
 use answers::refuse;
-use answers::row_of;
 use job::check_job;
+use theory::buffer_refusal;
 use words::copy_words;
+
+// The words that a trial takes: the moment, the number, and room for the starts.
+const TRIAL_WORDS: usize = 4098;
 
 // The trial that words say.
 fn taken(words: &[u32]) -> Trial
@@ -31,7 +34,7 @@ fn taken(words: &[u32]) -> Trial
     let moment = words[0] as usize;
     let length = words[1] as usize;
     let mut starts = [0u32; 4096];
-    copy_words(&words[2..4098], 0, &mut starts);
+    copy_words(&words[2..TRIAL_WORDS], 0, &mut starts);
     Trial {
         moment,
         length,
@@ -76,7 +79,7 @@ fn short_refusal(job: &[u32]) -> Refusal
 pub fn begin_words(job: &[u32], words: &mut [u32]) -> Answer
     ensures { λ r. ⌜ (r ≡ beginAnswer (length (now (words .entry))) (now (job .entry))) × (now (words .exit) ≡ handedBack r fresh (now (words .entry))) ⌝ }
 {
-    if words.len() < 4098 {
+    if words.len() < TRIAL_WORDS {
         return answer_of(short_refusal(job), 0, 0);
     }
     put_back(Trial::begin(job), words)
@@ -86,7 +89,7 @@ pub fn begin_words(job: &[u32], words: &mut [u32]) -> Answer
 pub fn start_words(job: &[u32], words: &mut [u32], action: u32) -> Answer
     ensures { λ r. ⌜ (r ≡ moveAnswer (now (job .entry)) (now (words .entry)) (Start action)) × (now (words .exit) ≡ handedBack r (after (now (job .entry)) (trialIn (now (words .entry))) (Start action)) (now (words .entry))) ⌝ }
 {
-    if words.len() < 4098 {
+    if words.len() < TRIAL_WORDS {
         return answer_of(short_refusal(job), 0, 0);
     }
     put_back(taken(words).start(job, action), words)
@@ -96,7 +99,7 @@ pub fn start_words(job: &[u32], words: &mut [u32], action: u32) -> Answer
 pub fn on_words(job: &[u32], words: &mut [u32]) -> Answer
     ensures { λ r. ⌜ (r ≡ moveAnswer (now (job .entry)) (now (words .entry)) On) × (now (words .exit) ≡ handedBack r (after (now (job .entry)) (trialIn (now (words .entry))) On) (now (words .entry))) ⌝ }
 {
-    if words.len() < 4098 {
+    if words.len() < TRIAL_WORDS {
         return answer_of(short_refusal(job), 0, 0);
     }
     put_back(taken(words).on(job), words)
@@ -106,8 +109,8 @@ pub fn on_words(job: &[u32], words: &mut [u32]) -> Answer
 pub fn show_words(job: &[u32], words: &[u32], buffer: &mut [u32]) -> Answer
     ensures { λ r. ⌜ (r ≡ showAnswer (length (now (buffer .entry))) (now (job .entry)) (now (words .entry))) × (now (buffer .exit) ≡ written r (shownFacts (now (job .entry)) (trialIn (now (words .entry)))) (now (buffer .entry))) ⌝ }
 {
-    if words.len() < 4098 {
-        let short = row_of(buffer.len() < 4096, 12, 0);
+    if words.len() < TRIAL_WORDS {
+        let short = buffer_refusal(buffer.len());
         return answer_of(first_refusal(short, short_refusal(job)), 0, 0);
     }
     taken(words).show(job, buffer)

@@ -20,6 +20,7 @@ use answers::row_of;
 use facts::fill_upto;
 use job::check_job;
 use theory::Plan;
+use theory::buffer_refusal;
 use theory::judge_starts;
 use theory::refused;
 use words::insert_word;
@@ -28,6 +29,9 @@ use words::start_word;
 
 pub mod calls;
 pub mod rows;
+
+// The starts that a trial has room for.
+const MOST_STARTS: usize = 4096;
 
 // The moment, the number of starts, and the starts, ascending; the words after them say nothing.
 pub struct Trial {
@@ -78,7 +82,7 @@ impl Trial {
         let moment = self.moment;
         let length = self.length;
         let starts = self.starts;
-        if 4096 < length {
+        if MOST_STARTS < length {
             return true;
         }
         if last_of(job[0]) < moment {
@@ -201,8 +205,9 @@ impl Trial {
         ensures { λ r. ⌜ r ≡ showAnswerOf (length (now (buffer .entry))) (now (job .entry)) (trialOf self) ⌝ }
         ensures { λ r. ⌜ now (buffer .exit) ≡ written r (shownFacts (now (job .entry)) (trialOf self)) (now (buffer .entry)) ⌝ }
     {
-        if buffer.len() < 4096 {
-            return answer_of(refuse(12, 0), 0, 0);
+        let short = buffer_refusal(buffer.len());
+        if short.number != 0 {
+            return answer_of(short, 0, 0);
         }
         let plan = self.judged(job);
         let refused = plan.refusal;

@@ -1,12 +1,12 @@
 -- Whether some number below n passes a test. Assumes nothing.
-use mathlib.Core.Bool.{Bool, true, false, _||_}
+use mathlib.Core.Bool.{Bool, true, false, _||_, true≢false, or-true}
 use mathlib.Core.Path.{_≡_, refl, sym, _∙_}
 use Prim.Native.Nat.{ℕ, zero, suc, _+_, _≤_, _<_}
 use native.Mathlib.Decide.{decLt}
 use native.Mathlib.Numerals.{add-one}
 use native.Mathlib.Omega.{arith}
 use Rattle.words.specs.Scan.{anyBelow}
-use Rattle.words.proofs.Choices.{true-false, is-false, either-true}
+use Rattle.words.proofs.Choices.{is-false, same-test}
 
 module _ (test : ℕ → Bool) where
   pub some-none : (n : ℕ) → ((i : ℕ) → i < n → test i ≡ false) → anyBelow test n ≡ false
@@ -21,12 +21,12 @@ module _ (test : ℕ → Bool) where
     where
       cases : Dec (i < n) → (i < n → anyBelow test n ≡ true) → (anyBelow test n || test n) ≡ true
       cases (yes m) ih = rw (ih m)
-      cases (no m) ih = let same : i ≡ n = omega arith in rw (← same, e) (either-true (anyBelow test i))
+      cases (no m) ih = let same : i ≡ n = omega arith in rw (← same, e) (or-true (anyBelow test i))
 
   -- what each position that passes implies, some position that passes does
   some-implies : (n : ℕ) (b : Bool) → ((i : ℕ) → i < n → test i ≡ true → b ≡ true) → anyBelow test n ≡ true → b ≡ true
   unfolding anyBelow
-  some-implies zero b h e = absurd (true-false (sym e))
+  some-implies zero b h e = absurd (true≢false (sym e))
   some-implies (suc n) b h e = cases (anyBelow test n) (some-implies n b (λ i l. h i (omega arith))) e
     where
       cases : (a : Bool) → (a ≡ true → b ≡ true) → (a || test n) ≡ true → b ≡ true
@@ -35,18 +35,19 @@ module _ (test : ℕ → Bool) where
 
   -- none passes where not some does
   pub none-below : (n : ℕ) → anyBelow test n ≡ false → (i : ℕ) → i < n → test i ≡ false
-  none-below n e i l = is-false (test i) (λ q. true-false (sym (some-hit n i l q) ∙ e))
+  none-below n e i l = is-false (test i) (λ q. true≢false (sym (some-hit n i l q) ∙ e))
 
 -- two tests of which each, where it passes somewhere, makes the other pass somewhere
 pub some-same : (f g : ℕ → Bool) (n m : ℕ) → ((i : ℕ) → i < n → f i ≡ true → anyBelow g m ≡ true)
     → ((j : ℕ) → j < m → g j ≡ true → anyBelow f n ≡ true) → anyBelow f n ≡ anyBelow g m
 some-same f g n m to from =
-    cases (anyBelow f n) (anyBelow g m) (some-implies f n (anyBelow g m) to) (some-implies g m (anyBelow f n) from)
-  where
-    cases : (a b : Bool) → (a ≡ true → b ≡ true) → (b ≡ true → a ≡ true) → a ≡ b
-    cases true b p q = sym (p refl)
-    cases false true p q = q refl
-    cases false false p q = refl
+    same-test (anyBelow f n) (anyBelow g m) (some-implies f n (anyBelow g m) to) (some-implies g m (anyBelow f n) from)
+
+-- two tests that are the same below n
+pub some-cong : (f g : ℕ → Bool) (n : ℕ) → ((i : ℕ) → i < n → f i ≡ g i) → anyBelow f n ≡ anyBelow g n
+unfolding anyBelow
+some-cong f g zero h = refl
+some-cong f g (suc n) h = rw (some-cong f g n (λ i l. h i (omega arith)), h n (omega arith))
 
 -- a loop at number i of n: none before it passes
 pub record Sought (test : ℕ → Bool) (n i : ℕ) : Type 0 where

@@ -1,15 +1,16 @@
 -- What tests put together say. Assumes nothing.
-use mathlib.Core.Bool.{Bool, true, false, _||_, cond, _&&_}
-use mathlib.Core.Logic.{_⊎_, inl, inr}
-use mathlib.Core.Path.{_≡_, refl, ap, sym}
-use Prim.Native.Nat.{ℕ, _≤_}
+use mathlib.Core.Bool.{Bool, true, false, cond, _&&_, true≢false}
+use mathlib.Core.Logic.{_⊎_, inl, inr, by-cases}
+use mathlib.Core.Path.{_≡_, refl, sym, _∙_}
+use Prim.Native.Nat.{ℕ, _≤_, _<_}
+use native.Mathlib.Decide.{decLt}
 use native.Mathlib.Omega.{arith}
 use borrow.Author.Tests.{leb-true, le-leb, eqb-true, eqb-false, ne-eqb}
 use lib.Dec.{eqb, leb}
 use Rattle.words.specs.Tests.{implies, indicator, within}
 
 pub true-false : true ≡ false → ⊥
-true-false e = let z : _≡_ {A = ℕ} 1 0 = ap indicator e in omega arith
+true-false = true≢false
 
 pub is-false : (b : Bool) → (b ≡ true → ⊥) → b ≡ false
 is-false true h = absurd (h refl)
@@ -17,19 +18,23 @@ is-false false h = refl
 
 pub both-true : (a b : Bool) → (a && b) ≡ true → (a ≡ true) × (b ≡ true)
 both-true true b e = (refl, e)
-both-true false b e = absurd (true-false (sym e))
-
-pub either-true : (a : Bool) → (a || true) ≡ true
-either-true true = refl
-either-true false = refl
+both-true false b e = absurd (true≢false (sym e))
 
 pub implies-true : (a b : Bool) → implies a b ≡ true → a ≡ true → b ≡ true
 implies-true true b h e = h
-implies-true false b h e = absurd (true-false (sym e))
+implies-true false b h e = absurd (true≢false (sym e))
 
 pub cond-same : {A : Type 0} (t : Bool) (a : A) → cond t a a ≡ a
 cond-same true a = refl
 cond-same false a = refl
+
+-- what holds of each of two values where it is taken holds of the one taken
+pub cond-when : {A : Type 0} (P : A → Type 0) (t : Bool) {a b : A} → (t ≡ true → P a) → (t ≡ false → P b) → P (cond t a b)
+cond-when P true p q = p refl
+cond-when P false p q = q refl
+
+pub cond-all : {A : Type 0} (P : A → Type 0) (t : Bool) {a b : A} → P a → P b → P (cond t a b)
+cond-all P t p q = cond-when P t (λ e. p) (λ e. q)
 
 pub indicator-le : (t : Bool) → indicator t ≤ 1
 indicator-le true = omega arith
@@ -42,11 +47,15 @@ module _ (low high n : ℕ) where
   pub true-within : low ≤ n → n ≤ high → within low high n ≡ true
   true-within l h = rw (le-leb low n l, le-leb n high h)
 
-pub or-swap : (a b : Bool) → (a || b) ≡ (b || a)
-or-swap true true = refl
-or-swap true false = refl
-or-swap false true = refl
-or-swap false false = refl
+-- a test that fails above n
+pub true-upto : (n m : ℕ) (t : Bool) → (n < m → t ≡ false) → t ≡ true → m ≤ n
+true-upto n m t h e = by-cases (decLt n m) (λ l. absurd (true≢false (sym e ∙ h l))) (λ l. omega arith)
+
+-- two tests that imply each other
+pub same-test : (a b : Bool) → (a ≡ true → b ≡ true) → (b ≡ true → a ≡ true) → a ≡ b
+same-test true b f g = sym (f refl)
+same-test false false f g = refl
+same-test false true f g = g refl
 
 pub same-or-not : (a b : ℕ) → (a ≡ b) ⊎ (a ≡ b → ⊥)
 same-or-not a b = cases (eqb a b) refl

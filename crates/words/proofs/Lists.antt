@@ -1,6 +1,6 @@
 -- Each word of a list and each two of them: by their positions, by a test, and without the last word; the first words of a list. Assumes
 -- nothing.
-use mathlib.Core.Bool.{Bool, true, false, _||_}
+use mathlib.Core.Bool.{Bool, true, false, _||_, true≢false}
 use mathlib.Core.List.{List, [], _∷_, _++_}
 use mathlib.Core.Path.{_≡_, refl}
 use Prim.Native.Nat.{ℕ, zero, suc, _+_, _≤_, _<_}
@@ -9,7 +9,6 @@ use lib.ListN.{length, getD, take, replicate, length-append, length-replicate}
 use lib.Seq.{length-take-le, take-append-le}
 use Rattle.words.specs.Scan.{any}
 use Rattle.words.specs.Lists.{Each, each-none, each-more, Pairs, pairs-none, pairs-more, firstWords}
-use Rattle.words.proofs.Choices.{true-false}
 
 module _ {P : ℕ → Type 0} where
   pub each-of : (S : List ℕ) → ((i : ℕ) → i < length S → P (getD S i 0)) → Each P S
@@ -54,7 +53,7 @@ module _ (test : ℕ → Bool) where
   none-any (s ∷ S) e = cases (test s) refl e (none-any S)
     where
       cases : (t : Bool) → test s ≡ t → (t || any test S) ≡ false → (any test S ≡ false → Each (λ s. test s ≡ false) S) → Each (λ s. test s ≡ false) (s ∷ S)
-      cases true q e ih = absurd (true-false e)
+      cases true q e ih = absurd (true≢false e)
       cases false q e ih = each-more q (ih e)
 
 -- a list is empty, or has a last word

@@ -4,11 +4,11 @@ use mathlib.Core.Bool.{Bool, true, false, cond}
 use mathlib.Core.List.{List, [], _∷_}
 use mathlib.Core.Logic.{by-cases}
 use mathlib.Core.Path.{_≡_, refl, ap, sym, _∙_}
-use Prim.Native.Nat.{ℕ, zero, suc, _+_, _<_, _≤_}
+use Prim.Native.Nat.{ℕ, zero, suc, _+_, _-_, _<_, _≤_}
 use native.Mathlib.Numerals.{add-one}
 use native.Mathlib.Decide.{decLt}
 use native.Mathlib.Omega.{arith}
-use lib.ListN.{length, getD, take, drop, drop-of-length-le}
+use lib.ListN.{length, getD, take, drop, drop-of-length-le, length-drop}
 use lib.Seq.{drop-cons}
 use Rattle.words.specs.Scan.{any, every, findOr, takeWhile, dropWhile, count}
 use Rattle.words.specs.Tests.{indicator}
@@ -125,6 +125,18 @@ module _ (test : ℕ → Bool) where
   -- there are no more of them than words
   pub takeWhile-fits : (ws : List ℕ) → length (takeWhile test ws) ≤ length ws
   takeWhile-fits ws = by-cases (decLt (length ws) (length (takeWhile test ws))) (λ h. absurd (let z = takeWhile-entry ws (length ws) h in omega (arith, z .2))) (λ h. omega arith)
+
+-- a part of a list, from its start up to its end
+pub part-from : (ws : List ℕ) (a r : ℕ) → take (a + r - a) (drop a ws) ≡ take r (drop a ws)
+part-from ws a r = let q : a + r - a ≡ r = omega arith in rw q
+
+-- the leading ones from a position on are such a part
+module _ (test : ℕ → Bool) (ws : List ℕ) (a r : ℕ) (e : r ≡ length (takeWhile test (drop a ws))) where
+  pub run-inside : a ≤ length ws → a + r ≤ length ws
+  run-inside h = omega (arith, takeWhile-fits test (drop a ws), length-drop a ws)
+
+  pub run-part : take r (drop a ws) ≡ takeWhile test (drop a ws)
+  run-part = rw e (takeWhile-take test (drop a ws))
 
 pub every-true : (test : ℕ → Bool) (xs : List ℕ) → every test xs ≡ true → (q : ℕ) → 0 < count q xs → test q ≡ true
 unfolding every count

@@ -3,14 +3,16 @@ use Prim.Native.Nat.{_+_, _≤_}
 use native.Mathlib.Omega.{arith}
 use lib.ListN.{length}
 use denote.Ref.{now}
-use Rattle.model.proofs.Sets.{run-inside, set-words}
+use Rattle.words.specs.Fields.{ofKind}
+use Rattle.words.proofs.Scan.{run-inside}
+use Rattle.model.proofs.Sets.{set-words}
 use borrow.Author.Needs.{needs}
 use Rattle.model.proofs.set_counts.Statement.{statement}
 use Rattle.model.proofs.set_counts.Tie as tie
 
 -- the members are there
 members-inside : (c : tie.After-run-length) → c .before .before .args .place + 1 + c .run-length .result ≤ length (now (c .before .before .args .words))
-members-inside c = let s = c .before .before in run-inside (now (s .args .words)) 7 (s .args .place + 1) (c .run-length .result) (omega (arith, s .pre)) (c .run-length .ensures)
+members-inside c = let s = c .before .before in run-inside (ofKind 7) (now (s .args .words)) (s .args .place + 1) (c .run-length .result) (c .run-length .ensures) (omega (arith, s .pre))
 
 returns : tie.Need-returns
 returns c =

@@ -9,11 +9,10 @@ use Rattle.answers.specs.declared.Refusal.{Refusal}
 use Rattle.answers.specs.Packed.{answerOf}
 use Rattle.facts.specs.Facts.{factsOf}
 use Rattle.facts.specs.Code.Written.{Filled}
-use Rattle.facts.proofs.Lists.{facts-fit}
 use Rattle.theory.specs.Answers.{planRefusal, fillRefusal, fillAnswer}
 use Rattle.answers.proofs.Rows.{answer-refused}
 use Rattle.theory.proofs.Laws.{has-room, lacks-room, answer-short, filled-front}
-use Rattle.theory.proofs.Passing.{plan-formed}
+use Rattle.theory.proofs.Passing.{plan-formed, few-facts}
 use borrow.Author.Needs.{needs}
 use native.Mathlib.Omega.{arith}
 use Rattle.theory.proofs.fill_plan.Statement.{statement}
@@ -79,7 +78,7 @@ returns-3 c =
     let j = judged e in
     let s = entry j in
     let enough = room j in
-    let fit = facts-fit (s .args .job .now) (s .args .starts .now) (plan-formed _ _ (clear e)) in (
+    let fit = few-facts (s .args .job .now) (s .args .starts .now) (clear e) in (
       c .answer-of3 .ensures ∙ ap (λ (n : ℕ). answerOf (j .judge .result .refusal) n 0) (filled f .count)
           ∙ ap (λ (r : Refusal). answerOf r (length (factsOf (s .args .job .now) (s .args .starts .now))) 0) (j .judge .ensures .refusal) ∙ rw (le-ltb _ _ enough),
       rw (c .answer-of3 .ensures, eq-eqb _ 0 (e .if2 .left)) (filled-front (filled f) (omega arith) .1),

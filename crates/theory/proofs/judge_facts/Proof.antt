@@ -7,12 +7,11 @@ use lib.Seq.{length-take-le, length-sets}
 use Rattle.answers.specs.declared.Refusal.{Refusal}
 use Rattle.facts.specs.Facts.{factsOf}
 use Rattle.facts.specs.Code.Written.{Filled}
-use Rattle.facts.proofs.Lists.{facts-fit}
 use Rattle.theory.specs.Answers.{planRefusal, factsRefusal}
 use Rattle.theory.specs.Code.Judged.{Passed}
 use Rattle.answers.proofs.Rows.{or-refused, or-passed}
 use Rattle.theory.proofs.Laws.{check-rows, filled-front}
-use Rattle.theory.proofs.Passing.{plan-formed}
+use Rattle.theory.proofs.Passing.{plan-formed, few-facts}
 use borrow.Author.Needs.{needs}
 use native.Mathlib.Omega.{arith}
 use Rattle.theory.proofs.judge_facts.Statement.{statement}
@@ -49,7 +48,7 @@ filled c = c .fill-facts .ensures _ (passing (ahead c) .history)
 fits : (c : tie.After-fill-facts) → c .fill-facts .result ≤ length (wanted c)
 fits c =
     let s = entry (judged (ahead c)) in
-    let fit = facts-fit (s .args .job .now) (s .args .starts .now) (plan-formed _ _ (clear (ahead c))) in
+    let fit = few-facts (s .args .job .now) (s .args .starts .now) (clear (ahead c)) in
     let len : length (wanted c) ≡ 4096 = ap length (filled c .held) ∙ simp length-sets in
     omega (arith, filled c .count)
 
@@ -67,7 +66,7 @@ returns-2 c =
     let f = c .before .before .before in
     let s = entry (judged (ahead f)) in
     let facts = factsOf (s .args .job .now) (s .args .starts .now) in
-    let fit = facts-fit (s .args .job .now) (s .args .starts .now) (plan-formed _ _ (clear (ahead f))) in
+    let fit = few-facts (s .args .job .now) (s .args .starts .now) (clear (ahead f)) in
     let same = filled-front (filled f) (omega arith) .0 in
     let p = passing (ahead f) in
     record {

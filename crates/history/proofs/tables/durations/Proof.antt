@@ -5,7 +5,7 @@ use Prim.Native.Nat.{ℕ, _-_, _<_, _≤_}
 use lib.ListN.{length, getD, length-set}
 use Rattle.job.specs.Parts.{total, duration}
 use Rattle.job.proofs.ByPlace.{duration-place, action-counted}
-use Rattle.history.proofs.Stores.{fill-more, set-all, replicate-all}
+use Rattle.words.proofs.Entries.{entries-set, entries-more, entries-alike}
 use native.Mathlib.Omega.{arith}
 use borrow.Author.Needs.{needs}
 use Rattle.history.proofs.tables.durations.Statement.{statement}
@@ -40,7 +40,7 @@ loop-holds c =
       few = rw (c .actions-of .ensures .0) (c .before .before .before .pre .0 .few-actions);
       size = refl;
       stored = λ k l. absurd (omega arith);
-      small = replicate-all (λ (v : ℕ). v < 64) 64 0 (omega arith) (omega arith);
+      small = entries-alike (λ v. v < 64) 64 0 (omega arith) (omega arith);
     }
 
 loop-again : tie.Need-loop-again Inv-loop μ-loop
@@ -54,9 +54,9 @@ loop-again c =
       few = old .few;
       size = rw length-set (old .size);
       stored =
-          fill-more (λ (k v : ℕ). v ≡ duration job k) (turn .table) (turn .a) (c .duration-of .result) (omega (arith, old .size)) (old .stored)
+          entries-more (λ k. k) (λ k v. v ≡ duration job k) (turn .table) (turn .a) (c .duration-of .result) (omega (arith, old .size)) (λ k l q. omega arith) (old .stored)
           (c .duration-of .ensures .0 ∙ sym (duration-place (entry here .pre .1) (turn .a) (counted here)));
-      small = set-all (λ (v : ℕ). v < 64) (turn .table) (turn .a) (c .duration-of .result) (old .small) (c .duration-of .ensures .1);
+      small = entries-set (λ k v. v < 64) (turn .table) (turn .a) (c .duration-of .result) (omega (arith, old .size)) (c .duration-of .ensures .1) (old .small);
     }
 
 returns : tie.Need-returns Inv-loop μ-loop

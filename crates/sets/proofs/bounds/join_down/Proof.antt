@@ -1,15 +1,13 @@
 -- `sets::bounds::join_down` meets its contract. The invariant: the entries from e on have what those after them have. Assumes nothing.
 use Prim.Native.Nat.{ℕ, _+_, _-_, _≤_, _<_}
 use mathlib.Core.Path.{_≡_, subst}
-use mathlib.Core.Logic.{inl, inr, by-cases}
 use mathlib.Core.List.{List}
-use native.Mathlib.Decide.{ℕ-discrete}
 use native.Mathlib.Omega.{arith}
 use lib.ListN.{getD}
 use Rattle.bitset.specs.Code.Members.{In}
 use Rattle.bitset.proofs.In.{in-union}
 use Rattle.sets.specs.Code.Bounds.{Grows}
-use Rattle.sets.proofs.Late.{in-new, grows-none, grows-set, grows-more}
+use Rattle.sets.proofs.Late.{grows-none, joined-more}
 use borrow.Author.Needs.{needs}
 use Rattle.sets.proofs.bounds.join_down.Statement.{statement}
 use Rattle.sets.proofs.bounds.join_down.Tie as tie
@@ -46,18 +44,10 @@ loop-again c =
     let s = entry c in
     let base = s .args .base in
     let e = l .e - 1 in
-    let new = in-union (c .union .ensures) in
     let b : base + e < 2048 = omega (arith, s .pre .0, l .inv .upto, c .before .before .before .loop-test .taken) in
-    let g = grows-set {l = l .bounds} (base + e) (c .union .result) (l .inv .grows .long) b (λ y t. new y .1 (inl t)) in
-    record {
-      upto = omega arith;
-      grows = grows-more (l .inv .grows) g;
-      above = λ d f y m k n t. by-cases (ℕ-discrete d e)
-          (λ q. in-new (l .bounds) (base + e) (c .union .result) (omega (arith, l .inv .grows .long)) (omega arith) (new y .1 (by-cases (ℕ-discrete f e)
-          (λ r. inl (l .inv .grows .kept _ _ (subst (λ (f : ℕ). In (getD (s .args .bounds .now) (base + f) 0) y) r t)))
-          (λ r. inr (l .inv .above (l .e) f y (omega arith) (omega arith) n t)))))
-          (λ q. g .kept _ _ (l .inv .above d f y (omega arith) k n t));
-    }
+    let j = joined-more base e (l .e) (c .union .result) {D = λ d. l .e ≤ d} {D′ = λ d. e ≤ d} {R = λ d f. (d ≤ f) × (f < 64)} (l .inv .grows) b (in-union (c .union .ensures))
+    (λ d m q. omega arith) (omega arith) (λ f k r. let h = k .0 in (omega arith, k .1)) (λ d f y m k. l .inv .above d f y m (k .0) (k .1)) in
+    record { upto = omega arith; grows = j .0; above = λ d f y m k n. j .1 d f y m (k, n) }
 
 pub join-down-spec : {M : Type 1} → statement M
 join-down-spec =

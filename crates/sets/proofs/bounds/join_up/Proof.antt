@@ -1,15 +1,13 @@
 -- `sets::bounds::join_up` meets its contract. The invariant: the entries up to e have what those before them have. Assumes nothing.
 use Prim.Native.Nat.{ℕ, _+_, _-_, _≤_, _<_}
 use mathlib.Core.Path.{_≡_, subst}
-use mathlib.Core.Logic.{inl, inr, by-cases}
 use mathlib.Core.List.{List}
-use native.Mathlib.Decide.{ℕ-discrete}
 use native.Mathlib.Omega.{arith}
 use lib.ListN.{getD}
 use Rattle.bitset.specs.Code.Members.{In}
 use Rattle.bitset.proofs.In.{in-union}
 use Rattle.sets.specs.Code.Bounds.{Grows}
-use Rattle.sets.proofs.Late.{in-new, grows-none, grows-set, grows-more}
+use Rattle.sets.proofs.Late.{grows-none, joined-more}
 use borrow.Author.Needs.{needs}
 use Rattle.sets.proofs.bounds.join_up.Statement.{statement}
 use Rattle.sets.proofs.bounds.join_up.Tie as tie
@@ -46,18 +44,10 @@ loop-again c =
     let s = entry c in
     let base = s .args .base in
     let e = l .e + 1 in
-    let new = in-union (c .union .ensures) in
     let b : base + e < 2048 = omega (arith, s .pre .0, l .inv .upto, c .before .before .before .loop-test .taken) in
-    let g = grows-set {l = l .bounds} (base + e) (c .union .result) (l .inv .grows .long) b (λ y t. new y .1 (inl t)) in
-    record {
-      upto = omega arith;
-      grows = grows-more (l .inv .grows) g;
-      below = λ d f y m k t. by-cases (ℕ-discrete d e)
-          (λ q. in-new (l .bounds) (base + e) (c .union .result) (omega (arith, l .inv .grows .long)) (omega arith) (new y .1 (by-cases (ℕ-discrete f e)
-          (λ r. inl (l .inv .grows .kept _ _ (subst (λ (f : ℕ). In (getD (s .args .bounds .now) (base + f) 0) y) r t)))
-          (λ r. inr (l .inv .below (l .e) f y (omega arith) (omega arith) t)))))
-          (λ q. g .kept _ _ (l .inv .below d f y (omega arith) k t));
-    }
+    let j = joined-more base e (l .e) (c .union .result) {D = λ d. d ≤ l .e} {D′ = λ d. d ≤ e} {R = λ d f. f ≤ d} (l .inv .grows) b (in-union (c .union .ensures))
+    (λ d m q. omega arith) (omega arith) (λ f k r. omega arith) (l .inv .below) in
+    record { upto = omega arith; grows = j .0; below = j .1 }
 
 pub join-up-spec : {M : Type 1} → statement M
 join-up-spec =

@@ -9,9 +9,10 @@ use lib.Seq.{getD-set-other}
 use Rattle.bitset.specs.Code.Members.{In}
 use Rattle.model.specs.Forms.{conditionNumber}
 use Rattle.model.specs.Code.Arrays.{valueIn}
+use Rattle.words.proofs.Entries.{entries-more}
 use Rattle.sets.specs.Set.{MetAt}
 use Rattle.sets.specs.Code.Masks.{Failing}
-use Rattle.sets.proofs.Masks.{mask-met, begin-more}
+use Rattle.sets.proofs.Masks.{mask-met}
 use borrow.Author.Needs.{needs}
 use Rattle.sets.proofs.conditions.fill_masks.Statement.{statement}
 use Rattle.sets.proofs.conditions.fill_masks.Tie as tie
@@ -67,8 +68,8 @@ loop-again c =
       from = omega arith;
       upto = omega arith;
       long = simp length-set (l .inv .long);
-      masks = begin-more (l .allow) (a .c * 64) (a .a) (l .x) (c .mask-at .result) (λ u y. (a .a ≤ y) × (y ≤ a .z) × MetAt (valueIn (a .values .now)) (a .n) (a .w) y y u)
-          (omega arith) (new c) (l .inv .masks);
+      masks = λ u y g h. entries-more (λ u. a .c * 64 + u) (λ u m. a .a ≤ u → (y : ℕ) → In m y ↔ ((a .a ≤ y) × (y ≤ a .z) × MetAt (valueIn (a .values .now)) (a .n) (a .w) y y u))
+          (l .allow) (l .x) (c .mask-at .result) (omega arith) (λ u b q. omega arith) (λ u b k y. l .inv .masks u y k b) (λ k. new c) u h g y;
       others = λ p g. getD-set-other (l .allow) (a .c * 64 + l .x) p (c .mask-at .result) 0 (omega arith) ∙ l .inv .others p g;
     }
 

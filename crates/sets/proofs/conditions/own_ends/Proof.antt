@@ -8,7 +8,7 @@ use Rattle.bitset.specs.Code.Members.{In}
 use Rattle.bitset.proofs.In.{in-zero, in-below, empty-entry}
 use Rattle.sets.specs.Code.Rows.{entryAt}
 use Rattle.sets.specs.Code.Search.{pairAt}
-use Rattle.sets.proofs.Masks.{each-set, small-set}
+use Rattle.words.proofs.Entries.{entries-set, entries-more}
 use borrow.Author.Needs.{needs}
 use Rattle.sets.proofs.conditions.own_ends.Statement.{statement}
 use Rattle.sets.proofs.conditions.own_ends.Tie as tie
@@ -31,8 +31,8 @@ loop-again c = let s = c .before .before .before in let l = c .before .before .l
     record {
       upto = omega arith;
       four = simp length-set (l .inv .four);
-      rows = each-set (l .r) (l .i) (c .own-at .result) (omega arith) (λ j. pairAt (s .args .ends .now) j j (entryAt (s .args .t3) j)) (c .own-at .ensures) (l .inv .rows);
-      small = small-set (l .r) (l .i) (c .own-at .result) (omega arith) (λ e. in-below (c .own-at .ok)) (l .inv .small);
+      rows = entries-more (λ j. j) (λ j w. w ≡ pairAt (s .args .ends .now) j j (entryAt (s .args .t3) j)) (l .r) (l .i) (c .own-at .result) (omega arith) (λ j g q. omega arith) (l .inv .rows) (c .own-at .ensures);
+      small = entries-set (λ j w. (e : ℕ) → In w e → e < 64) (l .r) (l .i) (c .own-at .result) (omega arith) (λ e. in-below (c .own-at .ok)) (l .inv .small);
     }
 
 returns : tie.Need-returns Inv-loop μ-loop

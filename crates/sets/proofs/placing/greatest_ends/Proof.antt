@@ -3,9 +3,8 @@ use Prim.Native.Nat.{ℕ, _-_, _≤_, _<_}
 use mathlib.Core.Path.{_≡_, refl}
 use mathlib.Core.List.{List}
 use native.Mathlib.Omega.{arith}
-use borrow.Author.Count.{below-more}
-use lib.ListN.{length, set, length-set}
-use lib.Seq.{getD-set-same, getD-set-other}
+use lib.ListN.{length, length-set}
+use Rattle.words.proofs.Entries.{entries-more}
 use Rattle.bitset.specs.Code.Members.{Highest}
 use Rattle.sets.specs.Code.Rows.{entryAt}
 use borrow.Author.Needs.{needs}
@@ -31,9 +30,8 @@ loop-again c =
     record {
       upto = omega arith;
       four = simp length-set (l .inv .four);
-      highest = below-more (λ j. Highest (entryAt (s .args .t1) j) (s .args .e) (entryAt (set (l .ends) (l .i) (c .greatest-upto .result)) j)) (l .i)
-          (λ j g. rw (getD-set-other (l .ends) (l .i) j (c .greatest-upto .result) 0 (omega arith)) (l .inv .highest j g))
-          (rw (getD-set-same (l .ends) (l .i) (c .greatest-upto .result) 0 (omega (arith, l .inv .four, s .pre .1, c .before .loop-test .taken))) (c .greatest-upto .ensures));
+      highest = entries-more (λ j. j) (λ j m. Highest (entryAt (s .args .t1) j) (s .args .e) m) (l .ends) (l .i) (c .greatest-upto .result)
+          (omega (arith, l .inv .four, s .pre .1, c .before .loop-test .taken)) (λ j g q. omega arith) (l .inv .highest) (c .greatest-upto .ensures);
     }
 
 pub greatest-ends-spec : {M : Type 1} → statement M

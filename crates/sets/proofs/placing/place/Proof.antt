@@ -8,10 +8,10 @@ use mathlib.Core.List.{List}
 use lib.ListN.{length, length-map}
 use Rattle.words.specs.Fields.{memberNode}
 use Rattle.bitset.specs.Code.Members.{In}
-use Rattle.bitset.proofs.In.{in-from, in-single, in-zero, empty-entry}
+use Rattle.bitset.proofs.In.{in-single, in-zero, empty-entry}
 use Rattle.sets.specs.Code.Rows.{entryAt}
 use Rattle.sets.specs.Code.Search.{SearchReady, Masked, ReadsWith}
-use Rattle.sets.proofs.Leaves.{top-ends}
+use Rattle.sets.proofs.Leaves.{ends-ready, top-ends}
 use Rattle.sets.proofs.Stored.{row-found, every-unpruned, no-begins}
 use borrow.Author.Needs.{needs}
 use Rattle.sets.proofs.placing.place.Statement.{statement}
@@ -78,14 +78,13 @@ fill-requires : tie.Need-fill-requires
 fill-requires c κs =
     let s = entry c in
     let g = s .pre in
-    let all : (e : ℕ) → e < 64 → In (every c .from .result) e = λ e l. in-from (every c .from .ensures) e .1 (omega arith, l) in
     record {
       formed = g .formed;
       rows = g .rows;
       forward = moments s .0;
       upto = moments s .1;
-      unpruned-ends = every-unpruned all;
-      unpruned-goes = every-unpruned all;
+      unpruned-ends = every-unpruned (every c .from .result) (every c .from .ensures);
+      unpruned-goes = every-unpruned (every c .from .result) (every c .from .ensures);
       allow-long = refl;
       later-long = refl;
     }
@@ -93,13 +92,7 @@ fill-requires c κs =
 ends-at-requires : tie.Need-ends-at-requires
 ends-at-requires c κs =
     let k = c .before .before .before in
-    let r = ready (tables (k .before)) in
-    record {
-      few = r .few;
-      conditions = r .conditions;
-      named = λ d l. let n = r .named d l in (omega (arith, n .0, r .few), omega (arith, n .1, r .few));
-      moments = k .row .ensures .0 .moments no-begins;
-    }
+    ends-ready (ready (tables (k .before))) (k .row .ensures .0 .moments no-begins)
 
 greatest-ends-requires : tie.Need-greatest-ends-requires
 greatest-ends-requires c κs =

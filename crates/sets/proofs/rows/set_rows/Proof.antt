@@ -8,7 +8,7 @@ use native.Mathlib.Nat.{le-refl}
 use lib.ListN.{length, length-map}
 use Rattle.words.specs.Fields.{memberNode}
 use Rattle.bitset.specs.Code.Members.{In}
-use Rattle.bitset.proofs.In.{in-from, in-between, empty-entry}
+use Rattle.bitset.proofs.In.{in-between, empty-entry}
 use Rattle.model.specs.Code.Table.{InTable}
 use Rattle.sets.specs.Code.Set.{SetRule}
 use Rattle.sets.specs.Code.Rows.{taskSetOf}
@@ -55,14 +55,13 @@ few s = omega (arith, s .pre .formed .few, length-map (s .args .members .now) me
 fill-requires : tie.Need-fill-requires Inv-loop μ-loop
 fill-requires c κs =
     let g = entry c .pre in
-    let all : (e : ℕ) → e < 64 → In (every c .from .result) e = λ e l. in-from (every c .from .ensures) e .1 (omega arith, l) in
     record {
       formed = g .formed;
       rows = λ i l. omega (arith, g .lower i l, g .room);
       forward = omega arith;
       upto = le-refl _;
-      unpruned-ends = every-unpruned all;
-      unpruned-goes = every-unpruned all;
+      unpruned-ends = every-unpruned (every c .from .result) (every c .from .ensures);
+      unpruned-goes = every-unpruned (every c .from .result) (every c .from .ensures);
       allow-long = refl;
       later-long = refl;
     }

@@ -10,12 +10,12 @@ use borrow.Author.Needs.{needs}
 use borrow.Fn.Kinds.{In}
 use borrow.Fn.PlainCycle.{Measures, is, falls, and}
 use Rattle.bitset.specs.Code.Members.{In as In-mask, popCount}
-use Rattle.bitset.proofs.In.{in-both, in-zero, in-without}
+use Rattle.bitset.proofs.In.{in-both, in-zero, in-without, in-dropped}
 use Rattle.sets.specs.Code.Rows.{entryAt}
 use Rattle.sets.specs.Code.Search.{pairAt, Grown, SoughtPlacement}
 use Rattle.sets.specs.declared.search.Open.{Open}
 use Rattle.sets.specs.declared.search.Found.{Found}
-use Rattle.sets.proofs.Growth.{fewer, kept-in, grown-none, grown-more, grown-as, ready-as, Untried, Begin, tried, skipped, Over, over-both, tried-over, all-tried, finds-none}
+use Rattle.sets.proofs.Growth.{fewer, grown-none, grown-more, grown-as, ready-as, Untried, Begin, tried, skipped, Over, over-both, tried-over, all-tried, finds-none}
 use Rattle.sets.proofs.search.search.Reads as search′
 use Rattle.sets.proofs.search.search.Kinds as search-kinds
 use Rattle.sets.proofs.search.+search+tries.Lts-search as search-lts
@@ -204,7 +204,7 @@ module _ (t : ℕ) where
       let grown = grown-as (w .0) (n .0) in
       record {
         grown = grown-more (v .grown) grown;
-        left = λ i u. v .left i (kept-in (k .lowest2 .ensures) (c .drop-lowest .ensures) u);
+        left = λ i u. v .left i (in-dropped (k .lowest2 .ensures) (c .drop-lowest .ensures) i .0 u .0);
         untried = tried-over (w .0) (w .1) (k .lowest2 .ensures) (c .drop-lowest .ensures) (w .3 (entry l .args .count)) grown (n .1) (v .untried);
       }
 

@@ -1,17 +1,16 @@
 -- `sets::search::first_begins` meets its contract. The invariant: all begins are in a..z, and those before i are members where there are such.
 -- Assumes nothing.
-use Prim.Native.Nat.{ℕ, zero, suc, _+_, _-_, _≤_, _<_}
+use Prim.Native.Nat.{ℕ, _+_, _-_, _≤_, _<_}
 use mathlib.Core.Path.{_≡_, refl}
 use mathlib.Core.Logic.{_↔_, ⊎-elim}
 use mathlib.Core.List.{List}
 use native.Mathlib.Omega.{arith}
 use borrow.Author.Count.{below-more}
 use lib.ListN.{length, set, length-set, replicate, getD-replicate}
-use lib.Seq.{getD-set-same, getD-set-other}
 use Rattle.bitset.specs.Code.Members.{In}
 use Rattle.bitset.proofs.In.{in-both, in-between, in-zero}
 use Rattle.sets.specs.Code.Rows.{entryAt}
-use Rattle.sets.proofs.Moves.{set-entries}
+use Rattle.words.proofs.Entries.{entries-set, entries-more, entries-alike}
 use borrow.Author.Needs.{needs}
 use Rattle.sets.proofs.search.first_begins.Statement.{statement}
 use Rattle.sets.proofs.search.first_begins.Tie as tie
@@ -34,22 +33,21 @@ head c = c .before .before .before .before
 
 module _ (masks : List ℕ) (a z : ℕ) where
   none : a ≤ z → Firsts masks a z 0 (replicate 4 a)
-  none l = record { four = refl; after = λ j g. rw (getD-replicate 4 j a 0 g) (omega arith); upto = upto; members = λ j g. absurd (omega arith) }
-    where
-      upto : (j : ℕ) → entryAt (replicate 4 a) j ≤ z
-      upto zero = l
-      upto (suc zero) = l
-      upto (suc (suc zero)) = l
-      upto (suc (suc (suc zero))) = l
-      upto (suc (suc (suc (suc j)))) = omega arith
+  none l =
+      record {
+        four = refl;
+        after = λ j g. rw (getD-replicate 4 j a 0 g) (omega arith);
+        upto = entries-alike (λ x. x ≤ z) 4 a l (omega arith);
+        members = λ j g. absurd (omega arith);
+      }
 
   turn : (r : List ℕ) (i v : ℕ) → i < 4 → (In (entryAt masks i) v × (a ≤ v) × (v ≤ z)) → Firsts masks a z i r → Firsts masks a z (i + 1) (set r i v)
   turn r i v l new old = record {
     four = simp length-set (old .four);
-    after = set-entries (λ j x. j < 4 → a ≤ x) r i v room (λ g. new .1) (old .after);
-    upto = set-entries (λ j x. x ≤ z) r i v room (new .2) (old .upto);
-    members = below-more (λ j. (x : ℕ) → In (entryAt masks j) x → a ≤ x → x ≤ z → In (entryAt masks j) (entryAt (set r i v) j)) i
-        (λ j g. rw (getD-set-other r i j v 0 (omega arith)) (old .members j g)) (λ x t g h. rw (getD-set-same r i v 0 room) (new .0));
+    after = entries-set (λ j x. j < 4 → a ≤ x) r i v room (λ g. new .1) (old .after);
+    upto = entries-set (λ j x. x ≤ z) r i v room (new .2) (old .upto);
+    members = entries-more (λ j. j) (λ j w. (x : ℕ) → In (entryAt masks j) x → a ≤ x → x ≤ z → In (entryAt masks j) w) r i v room (λ j g q. omega arith)
+        (old .members) (λ x t g h. new .0);
   }
     where
       room : i < length r

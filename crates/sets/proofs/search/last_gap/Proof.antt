@@ -6,8 +6,7 @@ use native.Mathlib.Decide.{ℕ-discrete}
 use native.Mathlib.Omega.{arith}
 use Rattle.bitset.specs.Code.Members.{In}
 use Rattle.bitset.proofs.Ends.{lowest}
-use Rattle.bitset.proofs.In.{in-below, in-zero}
-use Rattle.sets.proofs.Growth.{all-but-lowest}
+use Rattle.bitset.proofs.In.{in-dropped, in-below, in-zero}
 use borrow.Author.Needs.{needs}
 use Rattle.sets.proofs.search.last_gap.Statement.{statement}
 use Rattle.sets.proofs.search.last_gap.Tie as tie
@@ -19,7 +18,7 @@ returns c =
     let s = d .before in
     let low = lowest (s .args .left) (s .pre .0) (s .fits .left .fits) in
     let only : (i : ℕ) → In (s .args .left) i → i ≡ _
-    = λ i t. by-cases (ℕ-discrete i _) (λ q. q) (λ q. in-zero (c .before .if1 .taken) (all-but-lowest low (d .drop-lowest .ensures) t q)) in
+    = λ i t. by-cases (ℕ-discrete i _) (λ q. q) (λ q. in-zero (c .before .if1 .taken) (in-dropped low (d .drop-lowest .ensures) i .1 (t, q))) in
     let h = c .highest .ensures in
     (record { yes = h .member }, omega (arith, h .upto), inr (λ i j t u. only i t ∙ sym (only j u)))
 

@@ -10,7 +10,7 @@ use Rattle.bitset.proofs.In.{in-union, in-zero}
 use Rattle.sets.specs.Code.Rows.{entryAt}
 use Rattle.sets.specs.Code.Search.{SoughtPlacement, ReadsWith, BeginsKept, Grown}
 use Rattle.sets.specs.declared.search.Found.{Found}
-use Rattle.sets.proofs.Leaves.{onward, reads-with, covers-all}
+use Rattle.sets.proofs.Leaves.{ends-ready, onward, reads-with, covers-all}
 use borrow.Author.Needs.{needs}
 use Rattle.sets.proofs.search.leaf.Statement.{statement}
 use Rattle.sets.proofs.search.leaf.Tie as tie
@@ -50,13 +50,7 @@ covered-requires c κs = let f = c .before in let r = entry f .pre .state .ready
     }
 
 ends-at-requires : tie.Need-ends-at-requires
-ends-at-requires c κs = let r = entry c .pre .state .ready in
-    record {
-      few = r .few;
-      conditions = r .conditions;
-      named = λ d l. let n = r .named d l in (omega (arith, n .0, r .few), omega (arith, n .1, r .few));
-      moments = c .first-begins .ensures .1;
-    }
+ends-at-requires c κs = ends-ready (entry c .pre .state .ready) (c .first-begins .ensures .1)
 
 -- what is added, with the begins that are kept
 grown : (u : tie.After-union) (kept : List ℕ) → let a = entry (u .before .before .before) .args in

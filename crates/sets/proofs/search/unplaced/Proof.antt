@@ -3,9 +3,8 @@ use Prim.Native.Nat.{ℕ, _+_, _-_, _*_, _≤_, _<_}
 use mathlib.Core.Path.{_≡_, refl, sym, subst}
 use mathlib.Core.List.{List}
 use native.Mathlib.Omega.{arith}
-use borrow.Author.Count.{below-more}
-use lib.ListN.{length, getD, set, length-set, getD-replicate}
-use lib.Seq.{getD-set-same, getD-set-other}
+use lib.ListN.{length, getD, length-set, getD-replicate}
+use Rattle.words.proofs.Entries.{entries-more}
 use Rattle.bitset.specs.Code.Members.{In}
 use Rattle.bitset.proofs.In.{in-both, in-between, in-upto}
 use Rattle.sets.specs.Code.Rows.{entryAt}
@@ -42,9 +41,8 @@ loop-again c =
     record {
       upto = omega arith;
       four = simp length-set (k .inv .four);
-      same = below-more (λ j. entryAt (set (k .ends) (k .i) v) j ≡ getD L (j * 64 + a) 0) (k .i)
-          (λ j g. rw (getD-set-other (k .ends) (k .i) j v 0 (omega arith)) (k .inv .same j g))
-          (getD-set-same (k .ends) (k .i) v 0 (omega (arith, k .inv .four, s .pre .few, c .before .loop-test .taken)));
+      same = entries-more (λ j. j) (λ j w. w ≡ getD L (j * 64 + a) 0) (k .ends) (k .i) v (omega (arith, k .inv .four, s .pre .few, c .before .loop-test .taken))
+          (λ j g q. omega arith) (k .inv .same) refl;
     }
 
 returns : tie.Need-returns Inv-loop μ-loop

@@ -11,7 +11,7 @@ use lib.Seq.{getD-set-other}
 use Rattle.bitset.specs.Code.Members.{In}
 use Rattle.bitset.proofs.In.{in-union}
 use Rattle.sets.specs.Code.Search.{pairAt}
-use Rattle.sets.proofs.Pairs.{in-stored}
+use Rattle.words.proofs.Entries.{entry-set}
 use borrow.Author.Needs.{needs}
 use Rattle.sets.proofs.tables.fill_later_row.Statement.{statement}
 use Rattle.sets.proofs.tables.fill_later_row.Tie as tie
@@ -51,7 +51,7 @@ loop-again c =
       upto = omega arith;
       long = simp length-set (l .inv .long);
       reached = all;
-      masks = λ v y e m k n t. in-stored (l .later) (i * 64 + x) r (omega (arith, l .inv .long, s .pre .0)) (λ q. all y e (omega arith) n t)
+      masks = λ v y e m k n t. entry-set (λ w. In w e) (l .later) (i * 64 + x) r (omega (arith, l .inv .long, s .pre .0)) (λ q. all y e (omega arith) n t)
           (λ q. l .inv .masks v y e (omega arith) k n t);
       others = λ p m. getD-set-other (l .later) (i * 64 + x) p r 0 (omega arith) ∙ l .inv .others p m;
     }

@@ -12,7 +12,7 @@ use Rattle.answers.specs.Packed.{answerOf}
 use Rattle.answers.proofs.Rows.{answer-refused}
 use Rattle.facts.specs.Code.Written.{Filled}
 use Rattle.facts.proofs.Lists.{facts-few}
-use Rattle.theory.proofs.Laws.{filled-front}
+use Rattle.theory.proofs.Laws.{has-room, lacks-room, answer-short, filled-front}
 use Rattle.moves.specs.Calls.{shownFacts}
 use Rattle.trial.specs.Stepped.{trialOf, showAnswerOf}
 use Rattle.trial.proofs.NewStart.{present-formed}
@@ -20,8 +20,14 @@ use Rattle.trial.proofs.Moves.{facts-shown}
 use Rattle.trial.proofs.Trial.show.Statement.{statement}
 use Rattle.trial.proofs.Trial.show.Tie as tie
 
+abbrev asked : tie.After-buffer-refusal → tie.Start
+asked c = c .before .before .before
+
+abbrev sized : tie.After-judged → tie.After-buffer-refusal
+sized c = c .before .before .before
+
 abbrev entry : tie.After-judged → tie.Start
-entry c = c .before .before .before .before
+entry c = asked (sized c)
 
 abbrev judged : tie.Else2 → tie.After-judged
 judged c = c .before .before .before
@@ -31,6 +37,10 @@ refusing c = c .before .before .before
 
 abbrev ahead : tie.After-fill-upto → tie.Else2
 ahead c = c .before .before .before .before
+
+-- past row 12 there is room
+room : (c : tie.After-judged) → 4096 ≤ length (entry c .args .buffer .now)
+room c = has-room _ (sized c .buffer-refusal .ensures) (c .before .if1 .left)
 
 filled : (c : tie.After-fill-upto)
     → let s = entry (judged (ahead c)) in
@@ -47,13 +57,16 @@ fill-upto-requires c κs =
     let e = c .before .before .before in
     let j = judged e in
     let plan = j .judged .ensures .passed (e .if2 .left) in
-    record { well = present-formed plan; moment = plan .present; room = j .before .if1 .left }
+    record { well = present-formed plan; moment = plan .present; room = room j }
 
 returns : tie.Need-returns
 unfolding showAnswerOf
 returns c =
-    let made = c .answer-of .ensures ∙ ap (λ (r : Refusal). answerOf r 0 0) (c .before .refuse .ensures) in
-    (made ∙ rw (lt-ltb _ _ (c .before .before .if1 .taken)), rw made)
+    let called = c .before .before .before in
+    let is = called .buffer-refusal .ensures in
+    let size = length (asked called .args .buffer .now) in
+    let made = answer-short size is (c .before .if1 .taken) (c .answer-of .ensures) in
+    (made ∙ rw (lt-ltb size 4096 (lacks-room size is (c .before .if1 .taken))), rw made)
 
 returns-2 : tie.Need-returns-2
 unfolding showAnswerOf
@@ -62,7 +75,7 @@ returns-2 c =
     let a = entry j .args in
     let never = c .before .if2 .taken in
     let made = c .answer-of2 .ensures ∙ answer-refused _ 0 0 (length (shownFacts (a .job .now) (trialOf (a .self)))) 0 never in
-    (made ∙ rw (le-ltb _ _ (j .before .if1 .left), ← j .judged .ensures .refusal), rw (c .answer-of2 .ensures, ne-eqb _ 0 never))
+    (made ∙ rw (le-ltb _ _ (room j), ← j .judged .ensures .refusal), rw (c .answer-of2 .ensures, ne-eqb _ 0 never))
 
 returns-3 : tie.Need-returns-3
 unfolding showAnswerOf
@@ -72,13 +85,13 @@ returns-3 c =
     let j = judged e in
     let a = entry j .args in
     let T = trialOf (a .self) in
-    let room = j .before .if1 .left in
+    let enough = room j in
     let plan = j .judged .ensures .passed (e .if2 .left) in
     let formed = present-formed plan in
     let few = facts-few (a .job .now) (T .starts) formed (T .moment) in
-    let fit : length (shownFacts (a .job .now) T) ≤ length (a .buffer .now) = omega (arith, few, plan .present, formed .few-moments, room) in (
+    let fit : length (shownFacts (a .job .now) T) ≤ length (a .buffer .now) = omega (arith, few, plan .present, formed .few-moments) in (
       c .answer-of3 .ensures ∙ ap (λ (n : ℕ). answerOf (j .judged .result .refusal) n 0) (filled f .count)
-          ∙ ap (λ (r : Refusal). answerOf r (length (shownFacts (a .job .now) T)) 0) (j .judged .ensures .refusal) ∙ rw (le-ltb _ _ room),
+          ∙ ap (λ (r : Refusal). answerOf r (length (shownFacts (a .job .now) T)) 0) (j .judged .ensures .refusal) ∙ rw (le-ltb _ _ enough),
       rw (c .answer-of3 .ensures, eq-eqb _ 0 (e .if2 .left)) (filled-front (filled f) fit .1),
     )
 

@@ -10,7 +10,7 @@ use Rattle.trial.proofs.CallRows.{short-show, shown}
 use Rattle.trial.proofs.calls.show_words.Statement.{statement}
 use Rattle.trial.proofs.calls.show_words.Tie as tie
 
-abbrev entry : tie.After-row-of → tie.Start
+abbrev entry : tie.After-buffer-refusal → tie.Start
 entry c = c .before .before .before .before .before
 
 returns : tie.Need-returns
@@ -21,8 +21,8 @@ returns c =
     short-show _ _ _ (b .before .if1 .taken)
     (c .answer-of .ensures
     ∙ ap (λ (r : Refusal). answerOf r 0 0)
-    (f .first-refusal .ensures ∙ ap (firstRefusal (b .row-of .result)) (k .short-refusal .ensures)
-    ∙ ap (λ (r : Refusal). firstRefusal r (firstRow (jobRefusal (entry b .args .job .now) ∷ refusal 14 0 ∷ []))) (b .row-of .ensures)))
+    (f .first-refusal .ensures ∙ ap (firstRefusal (b .buffer-refusal .result)) (k .short-refusal .ensures)
+    ∙ ap (λ (r : Refusal). firstRefusal r (firstRow (jobRefusal (entry b .args .job .now) ∷ refusal 14 0 ∷ []))) (b .buffer-refusal .ensures)))
 
 returns-2 : tie.Need-returns-2
 returns-2 c =
