@@ -16,11 +16,12 @@ use Rattle.starts.specs.Rows.{wrongWord, endsLate, inHandAlready, clash, togeth
 use Rattle.theory.specs.Answers.{planRefusal, factsRefusal, checkRefusal}
 use Rattle.theory.specs.Trajectory.{trajectoryOf}
 use Rattle.job.specs.Procedure.{procedureOf}
-use Rattle.cases.proofs.Decision.{some, each, placingb, tried, setb, ruleb, reads}
+use Rattle.words.proofs.AllBelow.{allBelow}
+use Rattle.cases.proofs.Decision.{placingb, tried, setb, ruleb, reads}
 use Rattle.cases.specs.Cases.{table}
 use Rattle.cases.proofs.Only.{onMembers, onForm, onPasses, onEach}
 use Rattle.cases.proofs.Test.{decided, listed, distinct, sound, complete, exactly, fits, rooted, sameWords, only, answers, passed, allPassed}
 
 pub computed : allPassed table ≡ true
-unfolding firstOf any findOr takeWhile dropWhile fromNth anyBelow every count before predecessor countOfKind since latest named duration lawsOf formulaWord nodeWord memberWords conditionWords wordRefusalOf wordRefusal refusalOf nameRefusal endRefusal jobRefusal effect initially nextValue valueAt concatBelow factsAt factsUpto factsOf formValue formulaBelow formulaAt wrongWord endsLate inHandAlready clash together clashes needsUnmet rowsRefusal startsRefusal planRefusal factsRefusal checkRefusal trajectoryOf procedureOf some each placingb tried setb ruleb reads decided listed distinct sound complete exactly fits rooted onMembers onForm onPasses onEach sameWords only answers passed allPassed
+unfolding firstOf any findOr takeWhile dropWhile fromNth anyBelow every count before predecessor countOfKind since latest named duration lawsOf formulaWord nodeWord memberWords conditionWords wordRefusalOf wordRefusal refusalOf nameRefusal endRefusal jobRefusal effect initially nextValue valueAt concatBelow factsAt factsUpto factsOf formValue formulaBelow formulaAt wrongWord endsLate inHandAlready clash together clashes needsUnmet rowsRefusal startsRefusal planRefusal factsRefusal checkRefusal trajectoryOf procedureOf allBelow placingb tried setb ruleb reads decided listed distinct sound complete exactly fits rooted onMembers onForm onPasses onEach sameWords only answers passed allPassed
 computed = refl

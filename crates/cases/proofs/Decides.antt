@@ -10,8 +10,11 @@ use lib.Dec.{eqb, leb}
 use lib.ListN.{length, getD}
 use borrow.Author.Tests.{eqb-true, eq-eqb, leb-true, le-leb, not-true}
 use Rattle.sets.specs.Code.Rows.{entryAt}
+use Rattle.words.specs.Scan.{anyBelow}
 use Rattle.words.specs.Tests.{implies}
 use Rattle.words.proofs.Choices.{implies-true}
+use Rattle.words.proofs.AnyBelow.{some-law}
+use Rattle.words.proofs.AllBelow.{allBelow, all-law}
 use Rattle.words.specs.Fields.{fails, holds, conditionFormula, conditionI, conditionJ, conditionM, conditionN}
 use Rattle.model.specs.Trajectory.{Trajectory}
 use Rattle.model.specs.Procedure.{Procedure}
@@ -22,7 +25,7 @@ use Rattle.reading.specs.Forms.{setAt}
 use Rattle.reading.specs.Code.Forms.{NodeReadable}
 use Rattle.reading.specs.Reading.{Quiet, HasReading}
 use Rattle.reading.specs.Code.Rule.{InTurn, StartsWithin, EndsWithin, Rule}
-use Rattle.cases.proofs.Decision.{some, each, through, metb, insideb, coveredb, conditionb, placingb, tried, setb, quietb, ruleb, reads}
+use Rattle.cases.proofs.Decision.{through, metb, insideb, coveredb, conditionb, placingb, tried, setb, quietb, ruleb, reads}
 use Rattle.reading.proofs.Step.{step, Filled, carry}
 
 -- ---- tests
@@ -52,27 +55,11 @@ eq-law a b = (eqb-true a b, eq-eqb a b)
 pub le-law : (a b : ℕ) → Tells (leb a b) (a ≤ b)
 le-law a b = (leb-true a b, le-leb a b)
 
-some-law : (f : ℕ → Bool) (k : ℕ) → Tells (some f k) ((m : ℕ) × (m < k) × (f m ≡ true))
-unfolding some
-some-law f zero = (λ h. absurd (false≢true h), λ h. absurd (omega (arith, h .1)))
-some-law f (suc k) = Iff·trans (or-law (f k) (some f k) Iff·rfl (some-law f k)) (
-  ⊎-elim (λ h. (k, omega arith, h)) (λ h. (h .0, omega (arith, h .1), h .2)),
-  λ h. by-cases (decLt (h .0) k) (λ l. inr (h .0, l, h .2)) (λ l. let q : h .0 ≡ k = omega (arith, h .1) in inl (rw q at (h .2))),
-)
-
-pub each-law : (f : ℕ → Bool) (k : ℕ) → Tells (each f k) ((m : ℕ) → m < k → f m ≡ true)
-unfolding each
-each-law f zero = (λ h m l. absurd (omega arith), λ h. refl)
-each-law f (suc k) = Iff·trans (and-law (f k) (each f k) Iff·rfl (each-law f k)) (
-  λ h m l. by-cases (decLt m k) (h .1 m) (λ n. let q : m ≡ k = omega arith in rw q (h .0)),
-  λ h. (h k (omega arith), λ m l. h m (omega arith)),
-)
-
 -- ---- conditions and placings
 
 through-law : (value : ℕ → ℕ) (n : ℕ) (f g : ℕ → Bool) (A B : ℕ → Type 0) → ((t : ℕ) → Tells (f t) (A t)) → ((t : ℕ) → Tells (g t) (B t))
     → ((t : ℕ) → A t → B t → t ≤ n) → Tells (through value n f g) ((t : ℕ) → A t → B t → value t ≡ holds)
-through-law value n f g A B a b l = Iff·trans (each-law (λ t. implies (f t && g t) (eqb (value t) holds)) (suc n)) (
+through-law value n f g A B a b l = Iff·trans (all-law (λ t. implies (f t && g t) (eqb (value t) holds)) (suc n)) (
   λ h t x y. eqb-true (value t) holds (implies-true (f t && g t) (eqb (value t) holds) (h t (let u = l t x y in omega arith)) (and-law (f t) (g t) (a t) (b t) .1 (x, y))),
   λ h t m. implied (f t && g t) (eqb (value t) holds) (λ q. let r = and-law (f t) (g t) (a t) (b t) .0 q in eq-eqb (value t) holds (h t (r .0) (r .1))),
 )
@@ -90,8 +77,8 @@ met-law value n k M N bi ei bj HoldsBetween h g =
     through-law (value k) n (λ t. leb (ei + M) t) (λ t. leb (t + N) bj) (λ t. ei + M ≤ t) (λ t. t + N ≤ bj) (λ t. le-law (ei + M) t) (λ t. le-law (t + N) bj) (λ t x y. omega arith)
 met-law value n k M N bi ei bj ReservedCondition h g = (λ q. absurd (false≢true q), λ q. absurd q)
 
-each-tells : {A : ℕ → Type 0} (f : ℕ → Bool) (k : ℕ) → ((i : ℕ) → i < k → Tells (f i) (A i)) → Tells (each f k) ((i : ℕ) → i < k → A i)
-each-tells f k g = Iff·trans (each-law f k) (λ h i l. g i l .0 (h i l), λ h i l. g i l .1 (h i l))
+each-tells : {A : ℕ → Type 0} (f : ℕ → Bool) (k : ℕ) → ((i : ℕ) → i < k → Tells (f i) (A i)) → Tells (allBelow f k) ((i : ℕ) → i < k → A i)
+each-tells f k g = Iff·trans (all-law f k) (λ h i l. g i l .0 (h i l), λ h i l. g i l .1 (h i l))
 
 module _ (b e : ℕ) (bs es : ℕ → ℕ) where
   inside-law : (i : ℕ) → Tells (insideb b e bs es i) ((b ≤ bs i) × (bs i ≤ es i) × (es i ≤ e))
@@ -99,14 +86,14 @@ module _ (b e : ℕ) (bs es : ℕ → ℕ) where
       (and-law (leb b (bs i)) (leb (bs i) (es i) && leb (es i) e) (le-law b (bs i)) (and-law (leb (bs i) (es i)) (leb (es i) e) (le-law (bs i) (es i)) (le-law (es i) e)))
       (λ h. (h .0, h .1 .0, h .1 .1), λ h. (h .0, (h .1, h .2)))
 
-  covers-law : (count : ℕ) → Tells (each (coveredb count b bs es) (suc e)) ((t : ℕ) → b ≤ t → t ≤ e → (i : ℕ) × (i < count) × (bs i ≤ t) × (t ≤ es i))
-  covers-law count = Iff·trans (each-law (coveredb count b bs es) (suc e)) (
+  covers-law : (count : ℕ) → Tells (allBelow (coveredb count b bs es) (suc e)) ((t : ℕ) → b ≤ t → t ≤ e → (i : ℕ) × (i < count) × (bs i ≤ t) × (t ≤ es i))
+  covers-law count = Iff·trans (all-law (coveredb count b bs es) (suc e)) (
     λ h t x y.
-        let r = some-law (over t) count .0 (implies-true (leb b t) (some (over t) count) (h t (omega arith)) (le-leb b t x)) in
+        let r = some-law (over t) count .0 (implies-true (leb b t) (anyBelow (over t) count) (h t (omega arith)) (le-leb b t x)) in
         let q = both t (r .0) .0 (r .2) in
         (r .0, r .1, q .0, q .1),
     λ h t l.
-        implied (leb b t) (some (over t) count)
+        implied (leb b t) (anyBelow (over t) count)
         (λ x. let r = h t (leb-true b t x) (omega arith) in some-law (over t) count .1 (r .0, r .1, both t (r .0) .1 (r .2, r .3))),
   )
     where
@@ -145,7 +132,7 @@ module _ (R : ℕ → ℕ → ℕ → Bool) (n : ℕ) where
   unfolding tried
   tried-found [] f h = ([], [], none, h)
   tried-found (m ∷ ms) f h =
-      let a = some-law (λ x. some (λ y. R m x y && tried R n ms (λ xs ys. f (x ∷ xs) (y ∷ ys))) n) n .0 h in
+      let a = some-law (λ x. anyBelow (λ y. R m x y && tried R n ms (λ xs ys. f (x ∷ xs) (y ∷ ys))) n) n .0 h in
       let b = some-law (λ y. R m (a .0) y && tried R n ms (λ xs ys. f (a .0 ∷ xs) (y ∷ ys))) n .0 (a .2) in
       let c = and-law (R m (a .0) (b .0)) (tried R n ms (λ xs ys. f (a .0 ∷ xs) (b .0 ∷ ys))) Iff·rfl Iff·rfl .0 (b .2) in
       let r = tried-found ms (λ xs ys. f (a .0 ∷ xs) (b .0 ∷ ys)) (c .1) in
@@ -155,7 +142,7 @@ module _ (R : ℕ → ℕ → ℕ → Bool) (n : ℕ) where
   unfolding tried
   found-tried f none h = h
   found-tried f (more {m = m} {x = x} {y = y} {ms = ms} l k r c) h =
-      some-law (λ x. some (λ y. R m x y && tried R n ms (λ xs ys. f (x ∷ xs) (y ∷ ys))) n) n .1 (
+      some-law (λ x. anyBelow (λ y. R m x y && tried R n ms (λ xs ys. f (x ∷ xs) (y ∷ ys))) n) n .1 (
         x,
         l,
         some-law (λ y. R m x y && tried R n ms (λ xs ys. f (x ∷ xs) (y ∷ ys))) n .1
@@ -208,7 +195,7 @@ set-law {s} R b e g = (
 
 -- some m from a to n between the two parts
 between : (n a : ℕ) (f g : ℕ → Bool)
-    → Tells (some (λ m. leb a m && (f m && g m)) (suc n)) (InTurn a n (λ m. f m ≡ true) (λ m. g m ≡ true))
+    → Tells (anyBelow (λ m. leb a m && (f m && g m)) (suc n)) (InTurn a n (λ m. f m ≡ true) (λ m. g m ≡ true))
 between n a f g = Iff·trans (some-law (λ m. leb a m && (f m && g m)) (suc n)) (
   λ h. let r = both (h .0) .0 (h .2) in record { m = h .0; early = r .0; upto = omega (arith, h .1); left = r .1 .0; right = r .1 .1 },
   λ h. (h .m, omega (arith, h .upto), both (h .m) .1 (h .early, (h .left, h .right))),
@@ -222,9 +209,9 @@ within-law : (lo hi m : ℕ) → Tells (leb lo m && leb m hi) ((lo ≤ m) × (m 
 within-law lo hi m = and-law (leb lo m) (leb m hi) (le-law lo m) (le-law m hi)
 
 start-law : (n e lo hi : ℕ) (f : ℕ → Bool) (g : ℕ → ℕ → Bool)
-    → Tells (some (λ m. (leb lo m && leb m hi) && some (λ k. f k && some (λ l. eqb e (max k l) && g m l) (suc e)) (suc e)) (suc n))
+    → Tells (anyBelow (λ m. (leb lo m && leb m hi) && anyBelow (λ k. f k && anyBelow (λ l. eqb e (max k l) && g m l) (suc e)) (suc e)) (suc n))
     (StartsWithin lo hi n e (λ k. f k ≡ true) (λ m l. g m l ≡ true))
-start-law n e lo hi f g = Iff·trans (some-law (λ m. (leb lo m && leb m hi) && some (first m) (suc e)) (suc n)) (
+start-law n e lo hi f g = Iff·trans (some-law (λ m. (leb lo m && leb m hi) && anyBelow (first m) (suc e)) (suc n)) (
   λ h.
       let a = outer (h .0) .0 (h .2) in
       let b = some-law (first (h .0)) (suc e) .0 (a .1) in
@@ -244,21 +231,21 @@ start-law n e lo hi f g = Iff·trans (some-law (λ m. (leb lo m && leb m hi) && 
     second m k l = eqb e (max k l) && g m l
 
     first : ℕ → ℕ → Bool
-    first m k = f k && some (λ l. eqb e (max k l) && g m l) (suc e)
+    first m k = f k && anyBelow (λ l. eqb e (max k l) && g m l) (suc e)
 
-    outer : (m : ℕ) → Tells ((leb lo m && leb m hi) && some (first m) (suc e)) (((lo ≤ m) × (m ≤ hi)) × (some (first m) (suc e) ≡ true))
-    outer m = and-law (leb lo m && leb m hi) (some (first m) (suc e)) (within-law lo hi m) Iff·rfl
+    outer : (m : ℕ) → Tells ((leb lo m && leb m hi) && anyBelow (first m) (suc e)) (((lo ≤ m) × (m ≤ hi)) × (anyBelow (first m) (suc e) ≡ true))
+    outer m = and-law (leb lo m && leb m hi) (anyBelow (first m) (suc e)) (within-law lo hi m) Iff·rfl
 
-    inner : (m k : ℕ) → Tells (first m k) ((f k ≡ true) × (some (second m k) (suc e) ≡ true))
-    inner m k = and-law (f k) (some (second m k) (suc e)) Iff·rfl Iff·rfl
+    inner : (m k : ℕ) → Tells (first m k) ((f k ≡ true) × (anyBelow (second m k) (suc e) ≡ true))
+    inner m k = and-law (f k) (anyBelow (second m k) (suc e)) Iff·rfl Iff·rfl
 
     last : (m k l : ℕ) → Tells (second m k l) ((e ≡ max k l) × (g m l ≡ true))
     last m k l = and-law (eqb e (max k l)) (g m l) (eq-law e (max k l)) Iff·rfl
 
 end-law : (n b M N : ℕ) (f g : ℕ → Bool) (q : ℕ → ℕ → Bool) (Q : ℕ → ℕ → Type 0) → ((k m : ℕ) → Tells (q k m) (Q k m))
-    → Tells (some (λ k. (leb b k && f k) && some (λ m. (leb (k + M) m && leb m (k + N)) && (g m && q k m)) (suc n)) (suc n))
+    → Tells (anyBelow (λ k. (leb b k && f k) && anyBelow (λ m. (leb (k + M) m && leb m (k + N)) && (g m && q k m)) (suc n)) (suc n))
     (EndsWithin b M N n Q (λ k. f k ≡ true) (λ m. g m ≡ true))
-end-law n b M N f g q Q law = Iff·trans (some-law (λ k. (leb b k && f k) && some (begin k) (suc n)) (suc n)) (
+end-law n b M N f g q Q law = Iff·trans (some-law (λ k. (leb b k && f k) && anyBelow (begin k) (suc n)) (suc n)) (
   λ h.
       let a = outer (h .0) .0 (h .2) in
       let c = some-law (begin (h .0)) (suc n) .0 (a .1) in
@@ -273,8 +260,8 @@ end-law n b M N f g q Q law = Iff·trans (some-law (λ k. (leb b k && f k) && so
     begin : ℕ → ℕ → Bool
     begin k m = (leb (k + M) m && leb m (k + N)) && (g m && q k m)
 
-    outer : (k : ℕ) → Tells ((leb b k && f k) && some (begin k) (suc n)) (((b ≤ k) × (f k ≡ true)) × (some (begin k) (suc n) ≡ true))
-    outer k = and-law (leb b k && f k) (some (begin k) (suc n)) (and-law (leb b k) (f k) (le-law b k) Iff·rfl) Iff·rfl
+    outer : (k : ℕ) → Tells ((leb b k && f k) && anyBelow (begin k) (suc n)) (((b ≤ k) × (f k ≡ true)) × (anyBelow (begin k) (suc n) ≡ true))
+    outer k = and-law (leb b k && f k) (anyBelow (begin k) (suc n)) (and-law (leb b k) (f k) (le-law b k) Iff·rfl) Iff·rfl
 
     inner : (k m : ℕ) → Tells (begin k m) (((k + M ≤ m) × (m ≤ k + N)) × ((g m ≡ true) × Q k m))
     inner k m = and-law (leb (k + M) m && leb m (k + N)) (g m && q k m) (within-law (k + M) (k + N) m) (and-law (g m) (q k m) Iff·rfl (law k m))
@@ -285,11 +272,11 @@ FewActions T = (a t : ℕ) → 64 ≤ a → T .starts a t ≡ false
 
 -- a pause is quiet
 quiet-tells : (T : Trajectory) → FewActions T → (k m : ℕ) → Tells (quietb T k m) (Quiet T k m)
-quiet-tells T few k m = Iff·trans (each-law (λ t. implies (leb k t) (each (λ a. not (T .starts a t)) 64)) m) (
+quiet-tells T few k m = Iff·trans (all-law (λ t. implies (leb k t) (allBelow (λ a. not (T .starts a t)) 64)) m) (
   λ h a t x y. by-cases (decLt a 64)
-      (λ l. not-true (T .starts a t) (each-law (λ a. not (T .starts a t)) 64 .0 (implies-true (leb k t) _ (h t y) (le-leb k t x)) a l))
+      (λ l. not-true (T .starts a t) (all-law (λ a. not (T .starts a t)) 64 .0 (implies-true (leb k t) _ (h t y) (le-leb k t x)) a l))
       (λ l. few a t (omega arith)),
-  λ h t l. implied (leb k t) (each (λ a. not (T .starts a t)) 64) (λ e. each-law (λ a. not (T .starts a t)) 64 .1 (λ a b. ap not (h a t (leb-true k t e) l))),
+  λ h t l. implied (leb k t) (allBelow (λ a. not (T .starts a t)) 64) (λ e. all-law (λ a. not (T .starts a t)) 64 .1 (λ a b. ap not (h a t (leb-true k t e) l))),
 )
 
 rule-law : (P : Procedure) (T : Trajectory) (R : ℕ → ℕ → ℕ → Bool) → FewActions T → (k : Form) (p b e : ℕ) → (k ≡ Set → Formed (setAt P T p))

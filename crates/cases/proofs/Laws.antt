@@ -25,8 +25,8 @@ use Rattle.job.specs.Procedure.{procedureOf}
 use Rattle.reading.specs.Reading.{HasReading}
 use Rattle.model.specs.declared.Triple.{Triple}
 use Rattle.reading.specs.Count.{Distinct, none, more, Read}
-use Rattle.cases.proofs.Decision.{each}
-use Rattle.cases.proofs.Decides.{Tells, and-law, or-law, eq-law, le-law, each-law, FewActions, decides}
+use Rattle.words.proofs.AllBelow.{allBelow, all-law}
+use Rattle.cases.proofs.Decides.{Tells, and-law, or-law, eq-law, le-law, FewActions, decides}
 use Rattle.finder.specs.Find.{findRefusal, RootReading, Triples, Outcome, refused, sought, unread as without-reading, read as with-reading}
 use Rattle.finder.proofs.Job.{formed-job}
 use Rattle.finder.proofs.Refusals.{same-row}
@@ -100,9 +100,9 @@ module _ (job starts : List ℕ) (ok : jobRefusal job .number ≡ 0) where
   unfolding complete procedureOf trajectoryOf
   complete-law rs h s (i, j, k) =
       let n = lastMoment job in
-      let a = each-law (λ p. each (λ b. each (λ e. not (decided job starts p b e) || listed (triple p b e) rs) (suc n)) (suc n)) (nodeCount job) .0 h (s .node) i in
-      let b = each-law (λ b. each (λ e. not (decided job starts (s .node) b e) || listed (triple (s .node) b e) rs) (suc n)) (suc n) .0 a (s .begin) (omega (arith, k .0)) in
-      let c = each-law (λ e. not (decided job starts (s .node) (s .begin) e) || listed (triple (s .node) (s .begin) e) rs) (suc n) .0 b (s .end) (omega (arith, k .0)) in
+      let a = all-law (λ p. allBelow (λ b. allBelow (λ e. not (decided job starts p b e) || listed (triple p b e) rs) (suc n)) (suc n)) (nodeCount job) .0 h (s .node) i in
+      let b = all-law (λ b. allBelow (λ e. not (decided job starts (s .node) b e) || listed (triple (s .node) b e) rs) (suc n)) (suc n) .0 a (s .begin) (omega (arith, k .0)) in
+      let c = all-law (λ e. not (decided job starts (s .node) (s .begin) e) || listed (triple (s .node) (s .begin) e) rs) (suc n) .0 b (s .end) (omega (arith, k .0)) in
       ⊎-elim (λ d. absurd (no _ d (decided-law i (omega (arith, k .0)) .1 k))) (λ d. d) (or-law _ _ Iff·rfl (listed-law s rs) .0 c)
 
   exactly-law : (rs : List Triple) → exactly job starts rs ≡ true → Triples job starts (length rs)

@@ -17,8 +17,8 @@ use Rattle.model.specs.Procedure.{Procedure}
 use Rattle.model.specs.Forms.{Form, Act, Test, Sequence, Choice, If, While, StartWindow, EndWindow, Set, formAt, fieldX, fieldY, fieldM, fieldN, Reserved}
 use Rattle.reading.specs.Reading.{Mode, whole, passes, Reading, act, test, sequence, first, second, taken, otherwise, loop, done, pass, startWindow, endWindow, set}
 use Rattle.reading.proofs.Step.{onward}
-use Rattle.cases.proofs.Decision.{each}
-use Rattle.cases.proofs.Decides.{and-law, eq-law, le-law, each-law}
+use Rattle.words.proofs.AllBelow.{allBelow, all-law}
+use Rattle.cases.proofs.Decides.{and-law, eq-law, le-law}
 
 -- whether a test passes on each reading, by mode, node, begin and end
 abbrev pub OnReadings : Type 0
@@ -27,14 +27,14 @@ OnReadings = Mode → ℕ → ℕ → ℕ → (List ℕ → Bool) → Bool
 -- on the words of the first k members, whatever they read up to e
 unfoldable pub onMembers : OnReadings → List ℕ → ℕ → ℕ → (List ℕ → Bool) → Bool
 onMembers R ms e zero f = f []
-onMembers R ms e (suc i) f = onMembers R ms e i (λ ws. each (λ x. each (λ y. R whole (getD ms i 0) x y (λ us. f (ws ++ us))) (suc e)) (suc e))
+onMembers R ms e (suc i) f = onMembers R ms e i (λ ws. allBelow (λ x. allBelow (λ y. R whole (getD ms i 0) x y (λ us. f (ws ++ us))) (suc e)) (suc e))
 
 -- by the rule of each form; of a set, without asking for its covering and its conditions, and of an end window for its quiet
 unfoldable pub onForm : Procedure → Trajectory → OnReadings → Form → ℕ → ℕ → ℕ → (List ℕ → Bool) → Bool
 onForm P T R Act p b e f = implies (T .starts (fieldX P p) b && eqb e (b + T .duration (fieldX P p))) (f (readingWord p b e ∷ []))
 onForm P T R Test p b e f = implies (eqb (T .value (fieldX P p) b) holds && eqb e b) (f (readingWord p b e ∷ []))
 onForm P T R Sequence p b e f =
-    each (λ m. R whole (fieldX P p) b m (λ us. R whole (fieldY P p) m e (λ vs. f (readingWord p b e ∷ (us ++ vs))))) (suc e)
+    allBelow (λ m. R whole (fieldX P p) b m (λ us. R whole (fieldY P p) m e (λ vs. f (readingWord p b e ∷ (us ++ vs))))) (suc e)
 onForm P T R Choice p b e f =
     R whole (fieldX P p) b e (λ us. f (readingWord p b e ∷ us)) && R whole (fieldY P p) b e (λ us. f (readingWord p b e ∷ us))
 onForm P T R If p b e f =
@@ -42,11 +42,11 @@ onForm P T R If p b e f =
     && implies (eqb (T .value (fieldX P p) b) fails) (R whole (fieldM P p) b e (λ us. f (readingWord p b e ∷ us)))
 onForm P T R While p b e f = R passes p b e (λ us. f (readingWord p b e ∷ us))
 onForm P T R StartWindow p b e f =
-    each (λ m. implies (within (b + fieldM P p) (b + fieldN P p) m)
-    (each (λ k. each (λ l. implies (eqb e (max k l))
+    allBelow (λ m. implies (within (b + fieldM P p) (b + fieldN P p) m)
+    (allBelow (λ k. allBelow (λ l. implies (eqb e (max k l))
     (R whole (fieldX P p) b k (λ us. R whole (fieldY P p) m l (λ vs. f (readingWord p b e ∷ (us ++ vs)))))) (suc e)) (suc e))) (suc e)
 onForm P T R EndWindow p b e f =
-    each (λ k. each (λ m. implies (within (k + fieldM P p) (k + fieldN P p) m)
+    allBelow (λ k. allBelow (λ m. implies (within (k + fieldM P p) (k + fieldN P p) m)
     (R whole (fieldX P p) b k (λ us. R whole (fieldY P p) m e (λ vs. f (readingWord p b e ∷ (us ++ vs)))))) (suc e)) (suc e)
 onForm P T R Set p b e f = onMembers R (P .members p) e (length (P .members p)) (λ ws. f (readingWord p b e ∷ ws))
 onForm P T R Reserved p b e f = true
@@ -55,7 +55,7 @@ unfoldable pub onPasses : Procedure → Trajectory → OnReadings → ℕ → �
 onPasses P T R p b e f =
     implies (eqb (T .value (fieldX P p) b) fails && eqb e b) (f [])
     && implies (eqb (T .value (fieldX P p) b) holds)
-    (each (λ m. implies (leb (suc b) m) (R whole (fieldY P p) b m (λ us. R passes p m e (λ vs. f (us ++ vs))))) (suc e))
+    (allBelow (λ m. implies (leb (suc b) m) (R whole (fieldY P p) b m (λ us. R passes p m e (λ vs. f (us ++ vs))))) (suc e))
 
 -- the same, k steps deep; false where that is not deep enough
 unfoldable pub onEach : ℕ → Procedure → Trajectory → OnReadings
@@ -68,8 +68,8 @@ onEach (suc k) P T passes p b e f = onPasses P T (onEach k P T) p b e f
 both : (a b : Bool) → (a && b) ≡ true → (a ≡ true) × (b ≡ true)
 both a b = and-law a b Iff·rfl Iff·rfl .0
 
-at : (f : ℕ → Bool) {m n : ℕ} → each f (suc n) ≡ true → m ≤ n → f m ≡ true
-at f {m} {n} h l = each-law f (suc n) .0 h m (omega arith)
+at : (f : ℕ → Bool) {m n : ℕ} → allBelow f (suc n) ≡ true → m ≤ n → f m ≡ true
+at f {m} {n} h l = all-law f (suc n) .0 h m (omega arith)
 
 -- a test that is asked for where two others pass
 where-two : (a b c : Bool) → implies (a && b) c ≡ true → a ≡ true → b ≡ true → c ≡ true
@@ -89,8 +89,8 @@ module _ (P : Procedure) (T : Trajectory) where
   members R g ms e zero f h rs in-e = h
   members R g ms e {bs} {es} {us} (suc i) f h rs in-e =
       let l = in-e i (omega arith) in
-      let x = members R g ms e i (λ ws. each (λ x. each (λ y. R whole (getD ms i 0) x y (λ us. f (ws ++ us))) (suc e)) (suc e)) h (λ j k. rs j (omega arith)) (λ j k. in-e j (omega arith)) in
-      let y = at (λ x. each (λ y. R whole (getD ms i 0) x y (λ vs. f (concatBelow us i ++ vs))) (suc e)) {m = bs i} x (omega arith) in
+      let x = members R g ms e i (λ ws. allBelow (λ x. allBelow (λ y. R whole (getD ms i 0) x y (λ us. f (ws ++ us))) (suc e)) (suc e)) h (λ j k. rs j (omega arith)) (λ j k. in-e j (omega arith)) in
+      let y = at (λ x. allBelow (λ y. R whole (getD ms i 0) x y (λ vs. f (concatBelow us i ++ vs))) (suc e)) {m = bs i} x (omega arith) in
       let z = at (λ y. R whole (getD ms i 0) (bs i) y (λ vs. f (concatBelow us i ++ vs))) {m = es i} y (omega arith) in
       g (λ vs. f (concatBelow us i ++ vs)) whole (getD ms i 0) (bs i) (es i) (us i) (rs i (omega arith)) z
 
@@ -136,8 +136,8 @@ module _ (P : Procedure) (T : Trajectory) where
       let f′ : List ℕ → Bool = λ ws. f (readingWord p b e ∷ ws) in
       let end-of-y = onward r in
       let inner : ℕ → ℕ → ℕ → Bool = λ m c d. R whole (fieldX P p) b c (λ us. R whole (fieldY P p) m d (λ vs. f′ (us ++ vs))) in
-      let z = at (λ m. implies (within (b + fieldM P p) (b + fieldN P p) m) (each (λ c. each (λ d. implies (eqb e (max c d)) (inner m c d)) (suc e)) (suc e))) {m = m} (by-form R p b e f q h) (omega arith) in
-      let y = at (λ c. each (λ d. implies (eqb e (max c d)) (inner m c d)) (suc e)) {m = c} (inside (b + fieldM P p) (b + fieldN P p) m z lo hi) (omega arith) in
+      let z = at (λ m. implies (within (b + fieldM P p) (b + fieldN P p) m) (allBelow (λ c. allBelow (λ d. implies (eqb e (max c d)) (inner m c d)) (suc e)) (suc e))) {m = m} (by-form R p b e f q h) (omega arith) in
+      let y = at (λ c. allBelow (λ d. implies (eqb e (max c d)) (inner m c d)) (suc e)) {m = c} (inside (b + fieldM P p) (b + fieldN P p) m z lo hi) (omega arith) in
       let x = at (λ d. implies (eqb e (max c d)) (inner m c d)) {m = d} y (omega arith) in
       parts R (λ f o p b e ws. on-each k f) f′ (implies-true _ _ x (eq-eqb _ _ g)) l r
   on-each (suc k) f (endWindow {p = p} {b = b} {k = c} {m = m} {e = e} q l r lo hi quiet) h =
@@ -145,7 +145,7 @@ module _ (P : Procedure) (T : Trajectory) where
       let f′ : List ℕ → Bool = λ ws. f (readingWord p b e ∷ ws) in
       let later = onward r in
       let inner : ℕ → ℕ → Bool = λ c m. R whole (fieldX P p) b c (λ us. R whole (fieldY P p) m e (λ vs. f′ (us ++ vs))) in
-      let z = at (λ c. each (λ m. implies (within (c + fieldM P p) (c + fieldN P p) m) (inner c m)) (suc e)) {m = c} (by-form R p b e f q h) (omega arith) in
+      let z = at (λ c. allBelow (λ m. implies (within (c + fieldM P p) (c + fieldN P p) m) (inner c m)) (suc e)) {m = c} (by-form R p b e f q h) (omega arith) in
       let y = at (λ m. implies (within (c + fieldM P p) (c + fieldN P p) m) (inner c m)) {m = m} z later in
       parts R (λ f o p b e ws. on-each k f) f′ (inside (c + fieldM P p) (c + fieldN P p) m y lo hi) l r
   on-each (suc k) f (set {p = p} {b = b} {e = e} q rs pl) h =

@@ -14,7 +14,8 @@ use Rattle.theory.specs.Trajectory.{planTrajectory}
 use Rattle.job.specs.Procedure.{procedureOf}
 use Rattle.model.specs.declared.Triple.{Triple}
 use Rattle.reading.specs.Reading.{whole}
-use Rattle.cases.proofs.Decision.{each, reads as readsb}
+use Rattle.words.proofs.AllBelow.{allBelow}
+use Rattle.cases.proofs.Decision.{reads as readsb}
 use Rattle.cases.proofs.Only.{onEach}
 use Rattle.cases.specs.Cases.{Expected, refuses, unread, reads, Case, triple}
 
@@ -42,7 +43,7 @@ sound job starts (s ∷ rs) =
 -- each triple that is decided so is listed
 unfoldable pub complete : List ℕ → List ℕ → List Triple → Bool
 complete job starts rs =
-    each (λ p. each (λ b. each (λ e. not (decided job starts p b e) || listed (triple p b e) rs) (suc (lastMoment job))) (suc (lastMoment job))) (nodeCount job)
+    allBelow (λ p. allBelow (λ b. allBelow (λ e. not (decided job starts p b e) || listed (triple p b e) rs) (suc (lastMoment job))) (suc (lastMoment job))) (nodeCount job)
 
 unfoldable pub exactly : List ℕ → List ℕ → List Triple → Bool
 exactly job starts rs = distinct rs && (sound job starts rs && complete job starts rs)

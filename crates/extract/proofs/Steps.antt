@@ -2,7 +2,7 @@
 -- Nothing here is about code. Assumes nothing.
 use Prim.Native.Nat.{ℕ, zero, suc, _+_, _-_, _≤_, _<_}
 use mathlib.Core.Path.{_≡_, refl, sym, ap, ap₂, _∙_}
-use mathlib.Core.Bool.{true, false, cond}
+use mathlib.Core.Bool.{true, false, cond, true≢false}
 use mathlib.Core.Logic.{by-cases}
 use mathlib.Core.List.{List, [], _∷_, _++_, append-assoc, append-nil}
 use native.Mathlib.Decide.{ℕ-discrete}
@@ -14,7 +14,7 @@ use borrow.Author.Tests.{eq-eqb, ne-eqb}
 use Rattle.model.specs.Code.Table.{InTable}
 use Rattle.words.specs.Scan.{concatBelow}
 use Rattle.words.specs.Fields.{readingWord}
-use Rattle.words.proofs.Choices.{true-false}
+use Rattle.words.proofs.Concat.{concat-cong}
 use Rattle.model.specs.Trajectory.{Trajectory}
 use Rattle.model.specs.Procedure.{Procedure}
 use Rattle.model.specs.Forms.{Form, While, formAt, fieldY}
@@ -47,7 +47,7 @@ nonempty (set f rs pl) = omega arith
 
 -- a form is not another
 other : {A : Type 0} {k l : Form} (j : Form) → j ≡ k → j ≡ l → isWhile k ≡ false → isWhile l ≡ true → A
-other j f g h t = absurd (true-false (sym t ∙ ap isWhile (sym g ∙ f) ∙ h))
+other j f g h t = absurd (true≢false (sym t ∙ ap isWhile (sym g ∙ f) ∙ h))
 
 -- the reading of a loop is its word and its passes
 pub loop-of : {P : Procedure} {T : Trajectory} {p b e : ℕ} {ws : List ℕ} → formAt P p ≡ While → Reading P T whole p b e ws
@@ -86,11 +86,6 @@ pub record Done (P : Procedure) (T : Trajectory) (r : Parts) (i : ℕ) (ws : Lis
   pub reads : (j : ℕ) → j < i → Reading P T whole (nodeOf r j) (beginOf r j) (endOf r j) (lists j)
   pub words : ws ≡ concatBelow lists i
 
-joined-cong : (us vs : ℕ → List ℕ) (k : ℕ) → ((j : ℕ) → j < k → us j ≡ vs j) → concatBelow us k ≡ concatBelow vs k
-unfolding concatBelow
-joined-cong us vs zero h = refl
-joined-cong us vs (suc k) h = ap₂ _++_ (joined-cong us vs k (λ j l. h j (omega arith))) (h k (omega arith))
-
 module _ {P : Procedure} {T : Trajectory} {r : Parts} where
   pub done-none : Done P T r 0 []
   unfolding concatBelow
@@ -102,7 +97,7 @@ module _ {P : Procedure} {T : Trajectory} {r : Parts} where
       record {
         lists = λ j. cond (eqb j i) us (d .lists j);
         reads = λ j l. by-cases (ℕ-discrete j i) (λ q. rw (eq-eqb j i q, q) x) (λ q. rw (ne-eqb j i q) (d .reads j (omega arith)));
-        words = rw add-one (ap₂ _++_ (d .words ∙ joined-cong (d .lists) (λ j. cond (eqb j i) us (d .lists j)) i (λ j l. rw (ne-eqb j i (λ q. omega arith)) refl)) (rw (eq-eqb i i refl) refl));
+        words = rw add-one (ap₂ _++_ (d .words ∙ concat-cong (d .lists) (λ j. cond (eqb j i) us (d .lists j)) i (λ j l. rw (ne-eqb j i (λ q. omega arith)) refl)) (rw (eq-eqb i i refl) refl));
       }
 
 -- what the writer of a loop has done when it stands at m: what it wrote goes before any further passes, and the table says that there are such

@@ -1,7 +1,7 @@
 -- The length bound: every reading of the root that ends at n or before has at most `lengthBound` words, and that is at most 4,032.
 -- A node below a loop weighs n, for the loop's passes share out its moments; any other node is read once at most. Assumes nothing.
 use mathlib.Core.Path.{_≡_, refl, ap, ap₂, _∙_}
-use mathlib.Core.Bool.{Bool, true, false, cond, _||_}
+use mathlib.Core.Bool.{Bool, true, false, cond, _||_, or-true}
 use mathlib.Core.List.{List, [], _∷_}
 use Prim.Native.Nat.{ℕ, zero, suc, _+_, _-_, _*_, _≤_, _<_, max}
 use native.Mathlib.Nat.{le-trans, mul-le-mul, mul-le-mul-left}
@@ -34,14 +34,10 @@ module _ {P : Procedure} (low : Lower P) (once : NamedOnce P) (n : ℕ) where
   heavy (suc k) p h l t =
       let below : total (branch P (weight P n)) (children P p) ≡ total (nodes P) (children P p) * n
       = total-cong (children P p) (λ q i. let (lower, above) = child (formAt P p) refl l q i in
-      heavy k q (omega arith) (omega arith) (above ∙ rw t (either-true (isWhile (formAt P p))))) ∙ total-mul (nodes P) n (children P p) in
+      heavy k q (omega arith) (omega arith) (above ∙ rw t (or-true (isWhile (formAt P p))))) ∙ total-mul (nodes P) n (children P p) in
       let own : weight P n p ≡ n = rw t refl in
       let one = branch-is low (λ q. 1) p l in
       branch-is low (weight P n) p l ∙ ap₂ _+_ own below ∙ rw one (omega arith)
-    where
-      either-true : (a : Bool) → (a || true) ≡ true
-      either-true true = refl
-      either-true false = refl
 
   -- what a node that is no loop and below none weighs
   module _ {p : ℕ} (k : Form) (f : formAt P p ≡ k) (l : p < P .count) (t : loopAbove P p ≡ false) where

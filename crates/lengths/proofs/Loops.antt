@@ -1,7 +1,7 @@
 -- Which nodes a loop is above: where each node is named once, a child is below a loop just where its parent is one or is below one.
 -- Assumes nothing.
 use mathlib.Core.Path.{_≡_, refl, sym, ap, ap₂, _∙_}
-use mathlib.Core.Bool.{Bool, true, false, _&&_, _||_}
+use mathlib.Core.Bool.{Bool, true, false, _&&_, _||_, or-false}
 use mathlib.Core.Logic.{by-cases}
 use Prim.Native.Nat.{ℕ, zero, suc, _+_, _≤_, _<_}
 use native.Mathlib.Decide.{ℕ-discrete, decLt}
@@ -12,20 +12,11 @@ use Rattle.model.specs.Forms.{formAt}
 use Rattle.model.specs.Code.Forms.{children, NamedOnce}
 use Rattle.lengths.specs.Code.Bound.{isWhile, isChild, loopWithin, loopAbove}
 use Rattle.words.specs.Scan.{anyBelow, count}
-use Rattle.words.proofs.AnyBelow.{some-none}
+use Rattle.words.proofs.AnyBelow.{some-none, some-cong}
 use Rattle.lengths.proofs.Sums.{below-times, sum-two}
 use Rattle.lengths.proofs.Tree.{Lower}
 
 -- ---- tests of the numbers below n
-
-anyBelow-cong : {f g : ℕ → Bool} (n : ℕ) → ((i : ℕ) → i < n → f i ≡ g i) → anyBelow f n ≡ anyBelow g n
-unfolding anyBelow
-anyBelow-cong zero h = refl
-anyBelow-cong (suc n) h = ap₂ _||_ (anyBelow-cong n (λ i l. h i (omega arith))) (h n (omega arith))
-
-or-false : (t : Bool) → (t || false) ≡ t
-or-false true = refl
-or-false false = refl
 
 -- where one number alone may pass, it decides
 anyBelow-one : {f : ℕ → Bool} (n i : ℕ) → i < n → ((j : ℕ) → j < n → (j ≡ i → ⊥) → f j ≡ false) → anyBelow f n ≡ f i
@@ -51,7 +42,7 @@ module _ {P : Procedure} (low : Lower P) where
   unfolding loopWithin
   steady zero q h = some-none _ (P .count) (λ p l. ap (λ (t : Bool). t && (isWhile (formAt P p) || false)) (unnamed p q l (omega arith)))
   steady (suc k) q h =
-      anyBelow-cong (P .count) (λ p l. by-cases (decLt q p)
+      some-cong _ _ (P .count) (λ p l. by-cases (decLt q p)
       (λ g. ap (λ (t : Bool). isChild P p q && (isWhile (formAt P p) || t)) (steady k p (omega arith)))
       (λ g. let none = unnamed p q l (omega arith) in rw none refl))
 

@@ -12,6 +12,7 @@ use lib.Dec.{eqb}
 use Rattle.words.specs.Tests.{indicator}
 use Rattle.words.specs.Scan.{count, concatBelow}
 use Rattle.bitset.specs.Code.Members.{sumBelow}
+use Rattle.bitset.proofs.Sums.{sum-front}
 use Rattle.model.specs.Code.Forms.{Below}
 
 -- the sum of f over a list
@@ -99,12 +100,6 @@ total-times f n (x ∷ xs) h =
     ap₂ _+_ (sym (sum-single f x n (h .0))) (total-times f n xs (h .1))
     ∙ sym (sum-both (λ q. indicator (eqb q x) * f q) (λ q. count q xs * f q) n (λ q l. add-mul (indicator (eqb q x)) (count q xs) (f q)))
 
--- lists one after the other, each no longer than its f
-sum-front : (f : ℕ → ℕ) (n : ℕ) → sumBelow f (suc n) ≡ f 0 + sumBelow (λ i. f (suc i)) n
-unfolding sumBelow
-sum-front f zero = omega arith
-sum-front f (suc n) = omega (arith, sum-front f n)
-
 total-sum : (f : ℕ → ℕ) (xs : List ℕ) → sumBelow (λ i. f (getD xs i 0)) (length xs) ≡ total f xs
 unfolding total sumBelow
 total-sum f [] = refl
@@ -115,6 +110,7 @@ unfolding concatBelow sumBelow
 joined-sum us f zero h = zero-le
 joined-sum us f (suc n) h = rw length-append (add-le-add (joined-sum us f n (λ i l. h i (omega arith))) (h n (omega arith)))
 
+-- lists one after the other, each no longer than its f
 pub joined-le : (us : ℕ → List ℕ) (f : ℕ → ℕ) (xs : List ℕ) → ((i : ℕ) → i < length xs → length (us i) ≤ f (getD xs i 0))
     → length (concatBelow us (length xs)) ≤ total f xs
 joined-le us f xs h = rw (total-sum f xs) at (joined-sum us (λ i. f (getD xs i 0)) (length xs) h)

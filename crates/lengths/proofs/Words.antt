@@ -1,5 +1,6 @@
 -- A reading of node p from b to e has at most as many words as there are nodes from p down, times the moments that it takes (at least 1):
 -- a loop's passes share out its moments. Assumes nothing.
+use mathlib.Core.Logic.{_⊎_, inl, inr}
 use mathlib.Core.Path.{_≡_}
 use mathlib.Core.List.{List}
 use Prim.Native.Nat.{ℕ, suc, _+_, _-_, _*_, _≤_, _<_, max, zero-le}
@@ -26,12 +27,10 @@ lower h = record { at = λ p l. h p l .lower }
 two : (s u v d d₁ d₂ i j : ℕ) → s ≡ 1 + (u + (v + 0)) → 1 ≤ d → d₁ ≤ d → d₂ ≤ d → i ≤ u * d₁ → j ≤ v * d₂ → suc (i + j) ≤ s * d
 two s u v d d₁ d₂ i j e h h₁ h₂ l₁ l₂ = rw e (omega (arith, mul-le-mul-left u h₁, mul-le-mul-left v h₂))
 
--- of one of the two
-left : (s u v d i : ℕ) → s ≡ 1 + (u + (v + 0)) → 1 ≤ d → i ≤ u * d → suc i ≤ s * d
-left s u v d i e h l = rw e (omega arith)
-
-right : (s u v d i : ℕ) → s ≡ 1 + (u + (v + 0)) → 1 ≤ d → i ≤ v * d → suc i ≤ s * d
-right s u v d i e h l = rw e (omega arith)
+-- of either of them
+either : (s u v d i : ℕ) → s ≡ 1 + (u + (v + 0)) → 1 ≤ d → (i ≤ u * d) ⊎ (i ≤ v * d) → suc i ≤ s * d
+either s u v d i e h (inl l) = rw e (omega arith)
+either s u v d i e h (inr l) = rw e (omega arith)
 
 -- of parts of the size t
 part : (s t d i : ℕ) → s ≡ 1 + t → 1 ≤ d → i ≤ t * d → suc i ≤ s * d
@@ -67,13 +66,13 @@ module _ {P : Procedure} (low : Lower P) where
       let hy = onward y in
       rw length-append (two _ _ _ _ _ _ _ _ s (le-max-left 1 (e - b)) (longer (omega arith)) (longer (omega arith)) (words-le x (l .0)) (words-le y (l .1 .0)))
   words-le {b = b} {e = e} (first f x) = λ n.
-      let (s, l) = nodes-as Choice f n in left _ _ _ _ _ s (le-max-left 1 (e - b)) (words-le x (l .0))
+      let (s, l) = nodes-as Choice f n in either _ _ _ _ _ s (le-max-left 1 (e - b)) (inl (words-le x (l .0)))
   words-le {b = b} {e = e} (second f y) = λ n.
-      let (s, l) = nodes-as Choice f n in right _ _ _ _ _ s (le-max-left 1 (e - b)) (words-le y (l .1 .0))
+      let (s, l) = nodes-as Choice f n in either _ _ _ _ _ s (le-max-left 1 (e - b)) (inr (words-le y (l .1 .0)))
   words-le {b = b} {e = e} (taken f t y) = λ n.
-      let (s, l) = nodes-as If f n in left _ _ _ _ _ s (le-max-left 1 (e - b)) (words-le y (l .0))
+      let (s, l) = nodes-as If f n in either _ _ _ _ _ s (le-max-left 1 (e - b)) (inl (words-le y (l .0)))
   words-le {b = b} {e = e} (otherwise f t y) = λ n.
-      let (s, l) = nodes-as If f n in right _ _ _ _ _ s (le-max-left 1 (e - b)) (words-le y (l .1 .0))
+      let (s, l) = nodes-as If f n in either _ _ _ _ _ s (le-max-left 1 (e - b)) (inr (words-le y (l .1 .0)))
   words-le {p = p} {b = b} {e = e} (loop f r) = λ n.
       let (s, l) = nodes-as While f n in
       part _ _ _ _ s (le-max-left 1 (e - b)) (omega (arith, words-le r (l .0), mul-le-mul-left (nodes P (fieldY P p)) (le-max-right 1 (e - b))))

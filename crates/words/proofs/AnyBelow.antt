@@ -1,5 +1,6 @@
 -- Whether some number below n passes a test. Assumes nothing.
 use mathlib.Core.Bool.{Bool, true, false, _||_, true≢false, or-true}
+use mathlib.Core.Logic.{_↔_}
 use mathlib.Core.Path.{_≡_, refl, sym, _∙_}
 use Prim.Native.Nat.{ℕ, zero, suc, _+_, _≤_, _<_}
 use native.Mathlib.Decide.{decLt}
@@ -23,15 +24,17 @@ module _ (test : ℕ → Bool) where
       cases (yes m) ih = rw (ih m)
       cases (no m) ih = let same : i ≡ n = omega arith in rw (← same, e) (or-true (anyBelow test i))
 
-  -- what each position that passes implies, some position that passes does
-  some-implies : (n : ℕ) (b : Bool) → ((i : ℕ) → i < n → test i ≡ true → b ≡ true) → anyBelow test n ≡ true → b ≡ true
+  some-found : (n : ℕ) → anyBelow test n ≡ true → (i : ℕ) × (i < n) × (test i ≡ true)
   unfolding anyBelow
-  some-implies zero b h e = absurd (true≢false (sym e))
-  some-implies (suc n) b h e = cases (anyBelow test n) (some-implies n b (λ i l. h i (omega arith))) e
+  some-found zero e = absurd (true≢false (sym e))
+  some-found (suc n) e = cases (anyBelow test n) (some-found n) e
     where
-      cases : (a : Bool) → (a ≡ true → b ≡ true) → (a || test n) ≡ true → b ≡ true
-      cases true ih e = ih refl
-      cases false ih e = h n (omega arith) e
+      cases : (a : Bool) → (a ≡ true → (i : ℕ) × (i < n) × (test i ≡ true)) → (a || test n) ≡ true → (i : ℕ) × (i < suc n) × (test i ≡ true)
+      cases true ih e = let (i, l, q) = ih refl in (i, omega arith, q)
+      cases false ih e = (n, omega arith, e)
+
+  pub some-law : (n : ℕ) → (anyBelow test n ≡ true) ↔ ((i : ℕ) × (i < n) × (test i ≡ true))
+  some-law n = (some-found n, λ h. some-hit n (h .0) (h .1) (h .2))
 
   -- none passes where not some does
   pub none-below : (n : ℕ) → anyBelow test n ≡ false → (i : ℕ) → i < n → test i ≡ false
@@ -41,7 +44,7 @@ module _ (test : ℕ → Bool) where
 pub some-same : (f g : ℕ → Bool) (n m : ℕ) → ((i : ℕ) → i < n → f i ≡ true → anyBelow g m ≡ true)
     → ((j : ℕ) → j < m → g j ≡ true → anyBelow f n ≡ true) → anyBelow f n ≡ anyBelow g m
 some-same f g n m to from =
-    same-test (anyBelow f n) (anyBelow g m) (some-implies f n (anyBelow g m) to) (some-implies g m (anyBelow f n) from)
+    same-test (anyBelow f n) (anyBelow g m) (λ e. let (i, l, q) = some-found f n e in to i l q) (λ e. let (j, l, q) = some-found g m e in from j l q)
 
 -- two tests that are the same below n
 pub some-cong : (f g : ℕ → Bool) (n : ℕ) → ((i : ℕ) → i < n → f i ≡ g i) → anyBelow f n ≡ anyBelow g n

@@ -9,9 +9,6 @@ use borrow.Author.Tests.{leb-true, le-leb, eqb-true, eqb-false, ne-eqb}
 use lib.Dec.{eqb, leb}
 use Rattle.words.specs.Tests.{implies, indicator, within}
 
-pub true-false : true ≡ false → ⊥
-true-false = true≢false
-
 pub is-false : (b : Bool) → (b ≡ true → ⊥) → b ≡ false
 is-false true h = absurd (h refl)
 is-false false h = refl

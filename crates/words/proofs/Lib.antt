@@ -1,9 +1,10 @@
 -- Laws that belong to no one function: Choices (what tests put together say), Scan (what a list of words has, from a position on), AnyBelow
--- (whether some number below n passes a test), Lists (each word and each two, by their positions), Entries (the entries of a list after a
+-- and AllBelow (whether some number below n, or every one, passes a test), Lists (each word and each two, by their positions), Entries (the entries of a list after a
 -- store), Concat (lists one after the other), Insert (a list with one word put in), Copies (lists written to a buffer).
 pub mod Choices
 pub mod Scan
 pub mod AnyBelow
+pub mod AllBelow
 pub mod Lists
 pub mod Entries
 pub mod Concat
