@@ -1,12 +1,12 @@
 -- Where the words of a kind stand: the list of positions, one word after the other. Assumes nothing.
 use mathlib.Core.Bool.{Bool, true, false, cond}
 use mathlib.Core.List.{List, [], _∷_, _++_, append-nil}
-use mathlib.Core.Logic.{_⊎_, inl, inr, by-cases}
+use mathlib.Core.Logic.{by-cases}
 use mathlib.Core.Path.{_≡_, refl, ap, sym, _∙_}
 use Prim.Native.Nat.{ℕ, zero, suc, _+_, _≤_, _<_}
 use native.Mathlib.Nat.{zero-add}
 use native.Mathlib.Numerals.{add-one}
-use native.Mathlib.Decide.{decLt}
+use native.Mathlib.Decide.{ℕ-discrete, decLt}
 use native.Mathlib.Omega.{arith}
 use borrow.Author.Tests.{eq-eqb, ne-eqb}
 use lib.Dec.{eqb}
@@ -14,7 +14,6 @@ use lib.ListN.{length, getD, drop, set, replicate, length-append, length-set, Li
 use lib.Seq.{sets, sets-eq, getD-at}
 use Rattle.words.specs.Tests.{indicator}
 use Rattle.words.specs.Fields.{ofKind, kind}
-use Rattle.words.proofs.Choices.{same-or-not}
 use Rattle.words.proofs.Copies.{sets-append}
 use Rattle.job.specs.Before.{before, countOfKind}
 use Rattle.words.specs.Scan.{fromNth}
@@ -89,14 +88,14 @@ pub record IsWord (job : List ℕ) (k j i : ℕ) : Type 0 where
 -- the position of each word of kind k
 pub is-word : (k : ℕ) (job : List ℕ) (i : ℕ) → i ≤ length job → (j : ℕ) → j < length (positions k job i) → IsWord job k j (getD (positions k job i) j 0)
 is-word k job zero l j h = absurd (let e = ap length (positions-none k job) in omega arith)
-is-word k job (suc i) l j h = cases (same-or-not (kind (getD job i 0)) k) (is-word k job i (omega arith) j)
+is-word k job (suc i) l j h = cases (ℕ-discrete (kind (getD job i 0)) k) (is-word k job i (omega arith) j)
   where
-    cases : (kind (getD job i 0) ≡ k) ⊎ (kind (getD job i 0) ≡ k → ⊥)
+    cases : Dec (kind (getD job i 0) ≡ k)
         → (j < length (positions k job i) → IsWord job k j (getD (positions k job i) j 0)) → IsWord job k j (getD (positions k job (suc i)) j 0)
-    cases (inr n) ih =
+    cases (no n) ih =
         let e : positions k job (suc i) ≡ positions k job i = rw (add-one i) at (positions-miss k job i n) in
         rw e (ih (rw e at h))
-    cases (inl y) ih =
+    cases (yes y) ih =
         let e : positions k job (suc i) ≡ positions k job i ++ (i ∷ []) = rw (add-one i) at (positions-hit k job i y) in
         let size = length-append (positions k job i) (i ∷ []) in
         by-cases (decLt j (length (positions k job i)))

@@ -11,7 +11,7 @@ use lib.Dec.{eqb}
 use lib.ListN.{length, getD}
 use Rattle.words.specs.Fields.{ofKind, kind, form, isSet, memberNode}
 use Rattle.words.specs.Scan.{takeWhile, fromNth, count}
-use Rattle.words.proofs.Choices.{both-true, same-or-not}
+use Rattle.words.proofs.Choices.{both-true}
 use Rattle.bitset.specs.Code.Members.{sumBelow}
 use Rattle.bitset.proofs.Sums.{sum-cong, sum-front}
 use Rattle.model.specs.Code.Forms.{children}
@@ -129,14 +129,14 @@ module _ (v w : ℕ) (ws : List ℕ) where
 
   -- so one word more keeps the law
   step : Led (w ∷ ws) → named v (before ws (length ws)) ≡ leads v ws + rest → named v (before (w ∷ ws) (suc (length ws))) ≡ leads v (w ∷ ws) + all
-  step led ih = cases (same-or-not (kind w) 6) (same-or-not (kind w) 7)
+  step led ih = cases (ℕ-discrete (kind w) 6) (ℕ-discrete (kind w) 7)
     where
-      cases : (kind w ≡ 6) ⊎ (kind w ≡ 6 → ⊥) → (kind w ≡ 7) ⊎ (kind w ≡ 7 → ⊥) → named v (before (w ∷ ws) (suc (length ws))) ≡ leads v (w ∷ ws) + all
-      cases (inl a) b =
+      cases : Dec (kind w ≡ 6) → Dec (kind w ≡ 7) → named v (before (w ∷ ws) (suc (length ws))) ≡ leads v (w ∷ ws) + all
+      cases (yes a) b =
           let none = leads-none v (w ∷ ws) (λ l z. omega arith) in
           named-cons v w ws (length ws) ∙ rw (ih, sum-node led a, none) (omega arith)
-      cases (inr a) (inl b) = named-cons v w ws (length ws) ∙ rw (ih, sum-other a, member-leads b) (omega arith)
-      cases (inr a) (inr b) =
+      cases (no a) (yes b) = named-cons v w ws (length ws) ∙ rw (ih, sum-other a, member-leads b) (omega arith)
+      cases (no a) (no b) =
           let none = leads-none v (w ∷ ws) (λ l. b) in
           let next = none-next led (λ z. a (eqb-true (kind w) 6 (both-true (eqb (kind w) 6) (eqb (form w) 8) z .0))) b in
           named-cons v w ws (length ws) ∙ rw (ih, sum-other a, other-names a b, none, next) (omega arith)

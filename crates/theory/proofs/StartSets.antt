@@ -1,9 +1,9 @@
 -- The moments at which each action starts, one start after the other. Assumes nothing.
 use mathlib.Core.Bool.{_||_, _&&_, or-comm}
 use mathlib.Core.List.{List}
-use mathlib.Core.Logic.{_⊎_, inl, inr}
 use mathlib.Core.Path.{_≡_, refl, sym}
 use Prim.Native.Nat.{ℕ, _+_, _<_}
+use native.Mathlib.Decide.{ℕ-discrete}
 use native.Mathlib.Omega.{arith}
 use borrow.Author.Tests.{eq-eqb, ne-eqb}
 use lib.Dec.{eqb}
@@ -15,7 +15,7 @@ use Rattle.bitset.proofs.In.{empty-entry}
 use Rattle.words.specs.Fields.{startMoment, startAction}
 use Rattle.words.specs.Scan.{any}
 use Rattle.words.proofs.Scan.{drop-next, any-end}
-use Rattle.words.proofs.Choices.{same-or-not, eqb-swap}
+use Rattle.words.proofs.Choices.{eqb-swap}
 use Rattle.theory.specs.Trajectory.{isStartOf}
 
 -- the sets are those of the starts from position i on
@@ -37,11 +37,11 @@ pub started-more : {starts : List ℕ} {i j : ℕ} {sets : List ℕ} {x u : ℕ}
 unfolding any
 started-more {starts} {i} {j} {sets} {x} {u} single sum m next l ex eu one joined small = record {
   long = rw length-set (m .long);
-  start = λ a t. rw (drop-next starts i l, ← next, ← (m .start a t), ← ex, ← eu) (cases a t (same-or-not x a));
+  start = λ a t. rw (drop-next starts i l, ← next, ← (m .start a t), ← ex, ← eu) (cases a t (ℕ-discrete x a));
 }
   where
-    cases : (a t : ℕ) → (x ≡ a) ⊎ (x ≡ a → ⊥) → has (getD (set sets x sum) a 0) t ≡ ((eqb x a && eqb u t) || has (getD sets a 0) t)
-    cases a t (inl e) =
+    cases : (a t : ℕ) → Dec (x ≡ a) → has (getD (set sets x sum) a 0) t ≡ ((eqb x a && eqb u t) || has (getD sets a 0) t)
+    cases a t (yes e) =
         rw (← e, getD-set-same sets x sum 0 (omega (arith, m .long)), joined t, one t, eq-eqb x x refl, eqb-swap t u)
         (or-comm (has (getD sets x 0) t) (eqb u t))
-    cases a t (inr n) = rw (getD-set-other sets x a sum 0 (λ z. n (sym z)), ne-eqb x a n)
+    cases a t (no n) = rw (getD-set-other sets x a sum 0 (λ z. n (sym z)), ne-eqb x a n)

@@ -1,11 +1,11 @@
 -- What tests put together say. Assumes nothing.
 use mathlib.Core.Bool.{Bool, true, false, cond, _&&_, true≢false}
-use mathlib.Core.Logic.{_⊎_, inl, inr, by-cases}
+use mathlib.Core.Logic.{by-cases}
 use mathlib.Core.Path.{_≡_, refl, sym, _∙_}
 use Prim.Native.Nat.{ℕ, _≤_, _<_}
-use native.Mathlib.Decide.{decLt}
+use native.Mathlib.Decide.{ℕ-discrete, decLt}
 use native.Mathlib.Omega.{arith}
-use borrow.Author.Tests.{leb-true, le-leb, eqb-true, eqb-false, ne-eqb}
+use borrow.Author.Tests.{leb-true, le-leb, ne-eqb}
 use lib.Dec.{eqb, leb}
 use Rattle.words.specs.Tests.{implies, indicator, within}
 
@@ -20,10 +20,6 @@ both-true false b e = absurd (true≢false (sym e))
 pub implies-true : (a b : Bool) → implies a b ≡ true → a ≡ true → b ≡ true
 implies-true true b h e = h
 implies-true false b h e = absurd (true≢false (sym e))
-
-pub cond-same : {A : Type 0} (t : Bool) (a : A) → cond t a a ≡ a
-cond-same true a = refl
-cond-same false a = refl
 
 -- what holds of each of two values where it is taken holds of the one taken
 pub cond-when : {A : Type 0} (P : A → Type 0) (t : Bool) {a b : A} → (t ≡ true → P a) → (t ≡ false → P b) → P (cond t a b)
@@ -54,16 +50,5 @@ same-test true b f g = sym (f refl)
 same-test false false f g = refl
 same-test false true f g = g refl
 
-pub same-or-not : (a b : ℕ) → (a ≡ b) ⊎ (a ≡ b → ⊥)
-same-or-not a b = cases (eqb a b) refl
-  where
-    cases : (t : Bool) → eqb a b ≡ t → (a ≡ b) ⊎ (a ≡ b → ⊥)
-    cases true e = inl (eqb-true a b e)
-    cases false e = inr (eqb-false a b e)
-
 pub eqb-swap : (a b : ℕ) → eqb a b ≡ eqb b a
-eqb-swap a b = cases (same-or-not a b)
-  where
-    cases : (a ≡ b) ⊎ (a ≡ b → ⊥) → eqb a b ≡ eqb b a
-    cases (inl e) = rw e
-    cases (inr n) = rw (ne-eqb a b n, ne-eqb b a (λ z. n (sym z)))
+eqb-swap a b = by-cases (ℕ-discrete a b) (λ e. rw e) (λ n. rw (ne-eqb a b n, ne-eqb b a (λ z. n (sym z))))
