@@ -79,8 +79,9 @@ class Suite:
             run(["cc", "-std=c11", "-O2", f"-I{ROOT / 'include'}", ROOT / f"tests/c/{name}.c", made, "-lpthread", "-ldl", "-o", hosts[name]])
         slow = ["generated", "tiny", "crowded"]
         self.tests = [Test("c-host", [hosts["host"]], "planreader"), Test("c-trial", [hosts["trial"]], "trial")]
-        for name, crate in (("job", "theory"), ("plan", "theory"), ("find", "finder"), ("waits", "finder"), ("trial", "trial")):
+        for name, crate in (("job", "theory"), ("plan", "theory"), ("find", "finder"), ("trial", "trial")):
             self.tests += [Test(name, [tests[name], *skipped(slow)], crate), Test(name, [tests[name], *slow], crate)]
+        self.tests += [Test("waits", [tests["waits"]], "finder")]
         self.tests += [Test("planread", [tests["planread"]], "reader"), Test("bench", [bench["planreader-bench"]], "planreader")]
 
     # ---- a mutant's library and program

@@ -29,7 +29,7 @@ unfoldable pub onMembers : OnReadings → List ℕ → ℕ → ℕ → (List ℕ
 onMembers R ms e zero f = f []
 onMembers R ms e (suc i) f = onMembers R ms e i (λ ws. allBelow (λ x. allBelow (λ y. R whole (getD ms i 0) x y (λ us. f (ws ++ us))) (suc e)) (suc e))
 
--- by the rule of each form; of a set, without asking for its covering and its conditions, and of an end window for its quiet
+-- by the rule of each form; of a set, without asking for its covering and its conditions, and of an end window without asking for its quiet
 unfoldable pub onForm : Procedure → Trajectory → OnReadings → Form → ℕ → ℕ → ℕ → (List ℕ → Bool) → Bool
 onForm P T R Act p b e f = implies (T .starts (fieldX P p) b && eqb e (b + T .duration (fieldX P p))) (f (readingWord p b e ∷ []))
 onForm P T R Test p b e f = implies (eqb (T .value (fieldX P p) b) holds && eqb e b) (f (readingWord p b e ∷ []))

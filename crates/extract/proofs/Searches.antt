@@ -99,7 +99,7 @@ module _ {table : List ℕ} {x y b e from : ℕ} {pause : Pause} where
         all = λ k m c. record { yes = L k ∙ both (c .ends .yes) (F k ∙ both (le-leb from k (c .after)) (lt-ltb k 64 (c .end))) };
       }
 
-  module _ {left k end m : ℕ} (l : Left table x y b e pause from left) (first : Lowest left k) (u : QuietUpto (pause .started) k (k + pause .most) end)
+  module _ {left k end m : ℕ} (l : Left table x y b e pause from left) (first : Lowest left k) (u : QuietUpto pause k end)
       (f : FirstMeets 1 table y (k + pause .least) end e m) where
     pub left-found : m < 64 → CutAt table x y b e pause from k m
     left-found h =

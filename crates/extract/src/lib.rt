@@ -6,7 +6,7 @@ ghost use lib.ListN.{length};
 ghost use Rattle.model.specs.Code.Arrays.{procedureAt, trajectoryAt};
 ghost use Rattle.extract.specs.Code.Contract.{Emittable, Emitted};
 use model::Triple;
-use reading::pauses::Moments;
+use reading::pauses::Timeline;
 
 mod parts;
 mod search;
@@ -18,17 +18,17 @@ pub fn emit(
     places: &[usize; 64],
     count: usize,
     values: &[u8; 4096],
-    moments: Moments,
+    timeline: Timeline,
     table: &[u64],
     buffer: &mut [u32],
 ) -> usize
-    requires { ⌜ ((starts : List ℕ) × (durations : List ℕ) × Emittable (procedureAt (now words) (now places) count) (trajectoryAt starts durations (now values) (moments .last)) (moments .started) (length (now words)) (now places) (now table) (length (now buffer))) ⌝ }
-    ensures { λ r. ⌜ ((starts durations : List ℕ) → Emittable (procedureAt (now (words .entry)) (now (places .entry)) count) (trajectoryAt starts durations (now (values .entry)) (moments .last)) (moments .started) (length (now (words .entry))) (now (places .entry)) (now (table .entry)) (length (now (buffer .entry))) → Emitted (procedureAt (now (words .entry)) (now (places .entry)) count) (trajectoryAt starts durations (now (values .entry)) (moments .last)) (now (buffer .entry)) (now (buffer .exit)) r) ⌝ }
+    requires { ⌜ ((starts : List ℕ) × (durations : List ℕ) × Emittable (procedureAt (now words) (now places) count) (trajectoryAt starts durations (now values) (timeline .last)) (timeline .started) (length (now words)) (now places) (now table) (length (now buffer))) ⌝ }
+    ensures { λ r. ⌜ ((starts durations : List ℕ) → Emittable (procedureAt (now (words .entry)) (now (places .entry)) count) (trajectoryAt starts durations (now (values .entry)) (timeline .last)) (timeline .started) (length (now (words .entry))) (now (places .entry)) (now (table .entry)) (length (now (buffer .entry))) → Emitted (procedureAt (now (words .entry)) (now (places .entry)) count) (trajectoryAt starts durations (now (values .entry)) (timeline .last)) (now (buffer .entry)) (now (buffer .exit)) r) ⌝ }
 {
     let root = Triple {
         node: count - 1,
         begin: 0,
-        end: moments.last,
+        end: timeline.last,
     };
-    write::write_reading(words, places, values, moments, table, root, 0, buffer)
+    write::write_reading(words, places, values, timeline, table, root, 0, buffer)
 }

@@ -11,7 +11,7 @@ ghost use Rattle.extract.specs.Code.Search.{Within, CutAt, CutReady, Sta
 ghost use Rattle.extract.specs.Code.Parts.{noParts, onePart, twoParts, PlacedParts, Unseen, ChoosableBy, ChosenBy};
 use crate::search;
 use model::Triple;
-use reading::pauses::Moments;
+use reading::pauses::Timeline;
 use reading::pauses::Pause;
 use reading::pauses::at_once;
 use words::MOMENTS;
@@ -58,7 +58,7 @@ fn two(x: usize, b: usize, k: usize, y: usize, m: usize, l: usize) -> Parts
     }
 }
 
-// Forms 2 and 7: x, and y a pause after its end.
+// Forms 2 and 7: x, and y a pause after its end, in form 2 none.
 fn end_window_parts(table: &[u64], x: usize, y: usize, pause: Pause, b: usize, e: usize) -> Parts
     requires { ⌜ CutReady (now table) x y b e pause b ⌝ }
     ensures { λ r. ⌜ ((k : ℕ) × (m : ℕ) × CutAt (now (table .entry)) x y b e pause b k m × (r ≡ twoParts x b k y m e)) ⌝ }
@@ -164,13 +164,13 @@ pub fn choose_parts(
     words: &[u32],
     places: &[usize; 64],
     values: &[u8; 4096],
-    moments: Moments,
+    timeline: Timeline,
     table: &[u64],
     triple: Triple,
 ) -> Parts
-    requires { ⌜ ((u : Unseen) × ChoosableBy (now words) (now places) (now values) moments (now table) triple u) ⌝ }
-    ensures { λ r. ⌜ ((u : Unseen) → ChoosableBy (now (words .entry)) (now (places .entry)) (now (values .entry)) moments (now (table .entry)) triple u
-        → ChosenBy (now (words .entry)) (now (places .entry)) (now (values .entry)) moments (now (table .entry)) triple r u) ⌝ }
+    requires { ⌜ ((u : Unseen) × ChoosableBy (now words) (now places) (now values) timeline (now table) triple u) ⌝ }
+    ensures { λ r. ⌜ ((u : Unseen) → ChoosableBy (now (words .entry)) (now (places .entry)) (now (values .entry)) timeline (now (table .entry)) triple u
+        → ChosenBy (now (words .entry)) (now (places .entry)) (now (values .entry)) timeline (now (table .entry)) triple r u) ⌝ }
 {
     let p = triple.node;
     let b = triple.begin;
@@ -197,12 +197,12 @@ pub fn choose_parts(
             Pause {
                 least: m,
                 most,
-                started: moments.started,
+                started: timeline.started,
             },
             b,
             e,
         ),
-        8 => set_parts(words, place, values, moments.last, table, b, e),
+        8 => set_parts(words, place, values, timeline.last, table, b, e),
         // reserved: refused in a job, and nothing reads such a node
         9.. => none(),
     }

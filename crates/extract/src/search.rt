@@ -43,7 +43,7 @@ pub fn cut(table: &[u64], x: usize, y: usize, b: usize, e: usize, pause: Pause, 
     let mut left = bitset::inter(table[x * MOMENTS + b], bitset::from(from as u32));
     while left != 0 {
         let k = bitset::lowest(left) as usize;
-        let end = quiet_upto(pause.started, k, k + pause.most);
+        let end = quiet_upto(pause, k);
         // the set of 0 alone: y's end is the greater one
         let m = meeting(1, table, y, k + pause.least, end, e);
         if m < 64 {

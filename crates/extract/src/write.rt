@@ -8,7 +8,7 @@ ghost use Rattle.extract.specs.Code.Contract.{Full, Rest, WritableBy, Re
 use crate::parts;
 use crate::search;
 use model::Triple;
-use reading::pauses::Moments;
+use reading::pauses::Timeline;
 use reading::pauses::at_once;
 
 // Writes a reading of the triple into the buffer from `at` on, and returns the place after it.
@@ -16,14 +16,14 @@ pub fn write_reading(
     words: &[u32],
     places: &[usize; 64],
     values: &[u8; 4096],
-    moments: Moments,
+    timeline: Timeline,
     table: &[u64],
     triple: Triple,
     at: usize,
     buffer: &mut [u32],
 ) -> usize
-    requires { ⌜ ((u : Unseen) × WritableBy Full (now words) (now places) (now values) moments (now table) triple at (length (now buffer)) u) ⌝ }
-    ensures { λ r. ⌜ ((u : Unseen) → WritableBy Full (now (words .entry)) (now (places .entry)) (now (values .entry)) moments (now (table .entry)) triple at (length (now (buffer .entry))) u → ReadingWritten (Full (procedureBy (now (words .entry)) (now (places .entry)) u) (trajectoryBy (now (values .entry)) moments u) triple) (now (buffer .entry)) at (now (buffer .exit)) r) ⌝ }
+    requires { ⌜ ((u : Unseen) × WritableBy Full (now words) (now places) (now values) timeline (now table) triple at (length (now buffer)) u) ⌝ }
+    ensures { λ r. ⌜ ((u : Unseen) → WritableBy Full (now (words .entry)) (now (places .entry)) (now (values .entry)) timeline (now (table .entry)) triple at (length (now (buffer .entry))) u → ReadingWritten (Full (procedureBy (now (words .entry)) (now (places .entry)) u) (trajectoryBy (now (values .entry)) timeline u) triple) (now (buffer .entry)) at (now (buffer .exit)) r) ⌝ }
 {
     let p = triple.node;
     let b = triple.begin;
@@ -35,7 +35,7 @@ pub fn write_reading(
             words,
             places,
             values,
-            moments,
+            timeline,
             table,
             triple,
             at + 1,
@@ -46,7 +46,7 @@ pub fn write_reading(
         words,
         places,
         values,
-        moments,
+        timeline,
         table,
         triple,
         at + 1,
@@ -59,16 +59,16 @@ fn write_parts(
     words: &[u32],
     places: &[usize; 64],
     values: &[u8; 4096],
-    moments: Moments,
+    timeline: Timeline,
     table: &[u64],
     triple: Triple,
     at: usize,
     buffer: &mut [u32],
 ) -> usize
-    requires { ⌜ ((u : Unseen) × WritableBy Rest (now words) (now places) (now values) moments (now table) triple at (length (now buffer)) u × (formAt (procedureBy (now words) (now places) u) (triple .node) ≡ While → ⊥)) ⌝ }
-    ensures { λ r. ⌜ ((u : Unseen) → WritableBy Rest (now (words .entry)) (now (places .entry)) (now (values .entry)) moments (now (table .entry)) triple at (length (now (buffer .entry))) u → (formAt (procedureBy (now (words .entry)) (now (places .entry)) u) (triple .node) ≡ While → ⊥) → ReadingWritten (Rest (procedureBy (now (words .entry)) (now (places .entry)) u) (trajectoryBy (now (values .entry)) moments u) triple) (now (buffer .entry)) at (now (buffer .exit)) r) ⌝ }
+    requires { ⌜ ((u : Unseen) × WritableBy Rest (now words) (now places) (now values) timeline (now table) triple at (length (now buffer)) u × (formAt (procedureBy (now words) (now places) u) (triple .node) ≡ While → ⊥)) ⌝ }
+    ensures { λ r. ⌜ ((u : Unseen) → WritableBy Rest (now (words .entry)) (now (places .entry)) (now (values .entry)) timeline (now (table .entry)) triple at (length (now (buffer .entry))) u → (formAt (procedureBy (now (words .entry)) (now (places .entry)) u) (triple .node) ≡ While → ⊥) → ReadingWritten (Rest (procedureBy (now (words .entry)) (now (places .entry)) u) (trajectoryBy (now (values .entry)) timeline u) triple) (now (buffer .entry)) at (now (buffer .exit)) r) ⌝ }
 {
-    let parts = parts::choose_parts(words, places, values, moments, table, triple);
+    let parts = parts::choose_parts(words, places, values, timeline, table, triple);
     let number = parts.count;
     let nodes = parts.nodes;
     let begins = parts.begins;
@@ -81,7 +81,7 @@ fn write_parts(
             begin: begins[i] as usize,
             end: ends[i] as usize,
         };
-        end = write_reading(words, places, values, moments, table, part, end, buffer);
+        end = write_reading(words, places, values, timeline, table, part, end, buffer);
         i += 1;
     }
     end
@@ -92,14 +92,14 @@ fn write_passes(
     words: &[u32],
     places: &[usize; 64],
     values: &[u8; 4096],
-    moments: Moments,
+    timeline: Timeline,
     table: &[u64],
     triple: Triple,
     at: usize,
     buffer: &mut [u32],
 ) -> usize
-    requires { ⌜ ((u : Unseen) × WritableBy Rest (now words) (now places) (now values) moments (now table) triple at (length (now buffer)) u × (formAt (procedureBy (now words) (now places) u) (triple .node) ≡ While)) ⌝ }
-    ensures { λ r. ⌜ ((u : Unseen) → WritableBy Rest (now (words .entry)) (now (places .entry)) (now (values .entry)) moments (now (table .entry)) triple at (length (now (buffer .entry))) u → formAt (procedureBy (now (words .entry)) (now (places .entry)) u) (triple .node) ≡ While → ReadingWritten (Rest (procedureBy (now (words .entry)) (now (places .entry)) u) (trajectoryBy (now (values .entry)) moments u) triple) (now (buffer .entry)) at (now (buffer .exit)) r) ⌝ }
+    requires { ⌜ ((u : Unseen) × WritableBy Rest (now words) (now places) (now values) timeline (now table) triple at (length (now buffer)) u × (formAt (procedureBy (now words) (now places) u) (triple .node) ≡ While)) ⌝ }
+    ensures { λ r. ⌜ ((u : Unseen) → WritableBy Rest (now (words .entry)) (now (places .entry)) (now (values .entry)) timeline (now (table .entry)) triple at (length (now (buffer .entry))) u → formAt (procedureBy (now (words .entry)) (now (places .entry)) u) (triple .node) ≡ While → ReadingWritten (Rest (procedureBy (now (words .entry)) (now (places .entry)) u) (trajectoryBy (now (values .entry)) timeline u) triple) (now (buffer .entry)) at (now (buffer .exit)) r) ⌝ }
 {
     let p = triple.node;
     let b = triple.begin;
@@ -116,7 +116,7 @@ fn write_passes(
             begin: m,
             end: k,
         };
-        end = write_reading(words, places, values, moments, table, pass, end, buffer);
+        end = write_reading(words, places, values, timeline, table, pass, end, buffer);
         m = k;
     }
     end

@@ -19,7 +19,7 @@ use Rattle.model.specs.Code.Table.{endIn}
 use Rattle.model.specs.declared.Arrays.{Arrays}
 use Rattle.reading.specs.Code.Forms.{Readable}
 use Rattle.reading.specs.Code.Table.{Found, Tabulated}
-use Rattle.reading.specs.Code.Quiet.{startIn, AnyStart}
+use Rattle.reading.specs.Code.Quiet.{startIn, AllStarts}
 use Rattle.reading.proofs.Transfer.{transfer}
 use Rattle.reading.proofs.Agreement.{extends, agrees-back, formed-there, found-same, counted-same}
 use Rattle.model.proofs.Named.{named-there}
@@ -64,10 +64,10 @@ module _ (job starts : List ℕ) (w : Arrays) (ok : jobRefusal job .number ≡ 0
     triples = counted-same (c .agrees) (readable .formed) (t .count)
 
     -- the root's last bit is set: the writer may go on
-    pub emit-ready : {started size : ℕ} → AnyStart (startIn (w .starts)) started → endIn table (w .count - 1) 0 (w .last) ≡ true → 4096 ≤ size
+    pub emit-ready : {started size : ℕ} → AllStarts (startIn (w .starts)) started → endIn table (w .count - 1) 0 (w .last) ≡ true → 4096 ≤ size
         → Emittable (procedureIn job w) (trajectoryIn w) started (length job) (w .places) table size
     emit-ready any h l =
-        emittable (record { ready = readable; found = t .table; any = any }) (named-there (c .agrees) (once-job job ok)) some-node (record { yes = h }) (omega arith)
+        emittable (record { ready = readable; found = t .table; mask = mask }) (named-there (c .agrees) (once-job job ok)) some-node (record { yes = h }) (omega arith)
 
     -- what it wrote is a reading of the root
     pub written-reading : {before after : List ℕ} {l : ℕ} → Emitted (procedureIn job w) (trajectoryIn w) before after l → Searched job starts before (Accepted l r) after

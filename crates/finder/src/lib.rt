@@ -8,8 +8,8 @@ ghost use Rattle.finder.specs.Code.Seek.{Seekable};
 use answers::Answer;
 use answers::answer_of;
 use model::Arrays;
-use reading::pauses::Moments;
-use reading::pauses::any_start;
+use reading::pauses::Timeline;
+use reading::pauses::all_starts;
 use theory::arrays_of;
 use theory::buffer_refusal;
 use theory::judge_facts;
@@ -23,26 +23,26 @@ fn seek(job: &[u32], starts: &[u32], arrays: Arrays, buffer: &mut [u32]) -> Answ
     let nodes = arrays.count;
     let last = arrays.last;
     let places = arrays.places;
-    let sets = arrays.starts;
+    let start_sets = arrays.starts;
     let durations = arrays.durations;
     let values = arrays.values;
-    let moments = Moments {
+    let timeline = Timeline {
         last,
-        started: any_start(&sets),
+        started: all_starts(&start_sets),
     };
     let mut table = [0u64; 4096];
     let count = reading::table::tabulate(
         job,
         &places,
         nodes,
-        &sets,
+        &start_sets,
         &durations,
         &values,
-        moments,
+        timeline,
         &mut table,
     );
     if reading::table::has_end(&table, nodes - 1, 0, last) {
-        let length = extract::emit(job, &places, nodes, &values, moments, &table, buffer);
+        let length = extract::emit(job, &places, nodes, &values, timeline, &table, buffer);
         return Answer::Accepted { length, count };
     }
     Answer::Refused {

@@ -46,7 +46,7 @@ module _ (P P′ : Procedure) (T : Trajectory) (p : ℕ) (n : P′ .node p ≡ P
   same-ready s h = record {
     formed = same-formed s (h .formed);
     moments = h .moments;
-    any = h .any;
+    mask = h .mask;
     room = h .room;
     inside = h .inside;
   }

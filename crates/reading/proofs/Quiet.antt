@@ -16,22 +16,24 @@ use Rattle.bitset.proofs.In.{in-union, in-both, in-from, in-below, in-zero}
 use Rattle.model.specs.Trajectory.{Trajectory}
 use Rattle.reading.specs.Reading.{Quiet}
 use Rattle.reading.specs.Code.Rule.{EndsWithin}
-use Rattle.reading.specs.Code.Quiet.{startIn, AnyStart, QuietIn, QuietUpto}
+use Rattle.reading.specs.declared.pauses.Pause.{Pause}
+use Rattle.reading.specs.Code.Quiet.{startIn, AllStarts, QuietIn, QuietUpto}
 
 -- ---- up to when a pause is quiet
 
-module _ {started k later : ℕ} (f : ℕ) (small : started < 2 ^ 64) (F : IsSetOf f (λ j. leb k j && ltb j 64)) (L : IsSetOf later (λ j. has started j && has f j)) where
-  in-later : (t : ℕ) → k ≤ t → has started t ≡ true → In later t
-  in-later t l h = let i : In started t = record { yes = h } in in-both L t .1 (i, in-from F t .1 (l, in-below small i))
+module _ (pause : Pause) {k later : ℕ} (f : ℕ) (small : pause .started < 2 ^ 64) (F : IsSetOf f (λ j. leb k j && ltb j 64))
+    (L : IsSetOf later (λ j. has (pause .started) j && has f j)) where
+  in-later : (t : ℕ) → k ≤ t → has (pause .started) t ≡ true → In later t
+  in-later t l h = let i : In (pause .started) t = record { yes = h } in in-both L t .1 (i, in-from F t .1 (l, in-below small i))
 
-  pub upto-none : {limit : ℕ} → later ≡ 0 → QuietUpto started k limit limit
-  upto-none z = record { at = λ m. (λ h. (h, λ t a b. is-false (has started t) (λ e. in-zero z (in-later t a e))), λ h. h .0) }
+  pub upto-none : later ≡ 0 → QuietUpto pause k (k + pause .most)
+  upto-none z = record { at = λ m. (λ h. (h, λ t a b. is-false (has (pause .started) t) (λ e. in-zero z (in-later t a e))), λ h. h .0) }
 
   module _ {first : ℕ} (low : Lowest later first) where
-    before : (m : ℕ) → m ≤ first → QuietIn started k m
-    before m h t a b = is-false (has started t) (λ e. not-both (in-later t a e .yes) (low .first t (omega arith)))
+    before : (m : ℕ) → m ≤ first → QuietIn (pause .started) k m
+    before m h t a b = is-false (has (pause .started) t) (λ e. not-both (in-later t a e .yes) (low .first t (omega arith)))
 
-    pub upto-first : {limit : ℕ} → first < limit → QuietUpto started k limit first
+    pub upto-first : first < k + pause .most → QuietUpto pause k first
     upto-first l = record {
       at = λ m. (
         λ h. (omega arith, before m h),
@@ -40,12 +42,12 @@ module _ {started k later : ℕ} (f : ℕ) (small : started < 2 ^ 64) (F : IsSet
       );
     }
 
-    pub upto-limit : {limit : ℕ} → limit ≤ first → QuietUpto started k limit limit
+    pub upto-limit : k + pause .most ≤ first → QuietUpto pause k (k + pause .most)
     upto-limit l = record { at = λ m. (λ h. (h, before m (omega arith)), λ h. h .0) }
 
 -- a window that ends where the quiet does
-pub quiet-window : {w started k low limit end n : ℕ} → QuietUpto started k limit end → ((m : ℕ) → In w m ↔ ((low ≤ m) × (m ≤ end) × (m ≤ n)))
-    → (m : ℕ) → In w m ↔ ((low ≤ m) × (m ≤ limit) × (m ≤ n) × QuietIn started k m)
+pub quiet-window : {w k low end n : ℕ} {pause : Pause} → QuietUpto pause k end → ((m : ℕ) → In w m ↔ ((low ≤ m) × (m ≤ end) × (m ≤ n)))
+    → (m : ℕ) → In w m ↔ ((low ≤ m) × (m ≤ k + pause .most) × (m ≤ n) × QuietIn (pause .started) k m)
 quiet-window q w m = (
   λ i. let (l, h, u) = w m .0 i in let (g, s) = q .at m .0 h in (l, g, u, s),
   λ h. w m .1 (h .0, q .at m .1 (h .1, h .3), h .2),
@@ -72,7 +74,7 @@ started-more {sets} {n} s U = record {
 }
 
 -- a list has no set past its end
-pub started-all : {sets : List ℕ} {n started : ℕ} → length sets ≤ n → StartedBelow sets n started → AnyStart (startIn sets) started
+pub started-all : {sets : List ℕ} {n started : ℕ} → length sets ≤ n → StartedBelow sets n started → AllStarts (startIn sets) started
 started-all {sets} {n} l s = record {
   at = λ t. (
     λ i. let (a, b, h) = s .at t .0 i in (a, h),
@@ -97,7 +99,7 @@ ends-map h r = record {
   quiet = h (r .k) (r .m) (r .quiet);
 }
 
-module _ (T : Trajectory) {started : ℕ} (any : AnyStart (T .starts) started) where
+module _ (T : Trajectory) {started : ℕ} (any : AllStarts (T .starts) started) where
   pub quiet-law : (k m : ℕ) → QuietIn started k m ↔ Quiet T k m
   quiet-law k m = (
     λ q a t x y. is-false (T .starts a t) (λ e. not-both (any .at t .1 (a, e) .yes) (q t x y)),

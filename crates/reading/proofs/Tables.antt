@@ -19,7 +19,7 @@ use Rattle.model.specs.Code.Forms.{children, Below}
 use Rattle.reading.specs.Code.Forms.{Readable}
 use Rattle.reading.specs.Reading.{HasReading}
 use Rattle.reading.specs.Code.Rule.{Rule}
-use Rattle.reading.specs.Code.Quiet.{AnyStart}
+use Rattle.reading.specs.Code.Quiet.{AllStarts}
 use Rattle.reading.specs.Code.Table.{Inside, RowReady, RowOf, NodeReady, NodeRows, Blank, Found}
 use Rattle.reading.proofs.Step.{onward, step, Filled, carry}
 
@@ -58,7 +58,7 @@ module _ {P : Procedure} {T : Trajectory} {p : ℕ} {before : List ℕ} where
       single = n;
       begin = l;
       moments = g .moments;
-      any = g .any;
+      mask = g .mask;
       room = omega (arith, g .room, h .size);
       inside = λ q k e i. g .inside q b k l e (same-row t before q b e (h .others (q * 64 + b) (inl (omega (arith, g .moments)))) i);
     }
@@ -111,9 +111,9 @@ module _ {P : Procedure} {T : Trajectory} where
   pub built-inside : {t : List ℕ} {p : ℕ} → Built P T t p → (q b : ℕ) → q < p → b ≤ T .last → Inside t q b (T .last)
   built-inside h q b k l e i = let r = h .right q b e k l .0 i in (onward (r .1 .1), r .0)
 
-  pub built-ready : {size started : ℕ} {places t : List ℕ} {p : ℕ} → Readable P T size places → AnyStart (T .starts) started → p < P .count → Built P T t p
+  pub built-ready : {size started : ℕ} {places t : List ℕ} {p : ℕ} → Readable P T size places → AllStarts (T .starts) started → p < P .count → Built P T t p
       → NodeReady P T started p t
-  built-ready g any l h = record { formed = g .formed _ l; moments = g .moments; any = any; room = omega (arith, g .few, h .size); inside = built-inside h }
+  built-ready g mask l h = record { formed = g .formed _ l; moments = g .moments; mask = mask; room = omega (arith, g .few, h .size); inside = built-inside h }
 
   module _ {t u : List ℕ} {p : ℕ} (small : T .last < 64) (lowers : Below p (children P p)) (h : Built P T t p) (new : NodeRows P T p t u) where
     lower : (q b e : ℕ) → q < p → b ≤ T .last → InTable u q b e ↔ HasReading P T q b e

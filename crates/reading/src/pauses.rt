@@ -1,10 +1,10 @@
 // The pause of an end window: how long it may last, and that it is quiet (no action starts in it).
 ghost use mathlib.Core.Path.{_≡_};
 ghost use Prim.Native.Nat.{_<_};
-ghost use Rattle.reading.specs.Code.Quiet.{startIn, AnyStart, QuietUpto, atOnce};
+ghost use Rattle.reading.specs.Code.Quiet.{startIn, AllStarts, QuietUpto, atOnce};
 
 // The last moment of a plan, and the set of the moments at which some action starts.
-pub struct Moments {
+pub struct Timeline {
     pub last: usize,
     pub started: u64,
 }
@@ -27,9 +27,9 @@ pub fn at_once() -> Pause
     }
 }
 
-// The moments at which some action starts, of the sets of each action's.
-pub fn any_start(starts: &[u64]) -> u64
-    ensures { λ r. ⌜ AnyStart (startIn (now (starts .entry))) r ⌝ }
+// The moments at which some action starts, by the sets of each action's start moments.
+pub fn all_starts(starts: &[u64]) -> u64
+    ensures { λ r. ⌜ AllStarts (startIn (now (starts .entry))) r ⌝ }
 {
     let mut started = 0;
     let mut a = 0;
@@ -40,12 +40,13 @@ pub fn any_start(starts: &[u64]) -> u64
     started
 }
 
-// The latest moment, up to `limit`, to which a pause from k on is quiet: a start at that moment itself is after the pause.
-pub fn quiet_upto(started: u64, k: usize, limit: usize) -> usize
-    requires { ⌜ k < 64 ⌝ }
-    ensures { λ r. ⌜ QuietUpto started k limit r ⌝ }
+// The latest moment to which a pause from k on may last: a start at that moment itself is after the pause.
+pub fn quiet_upto(pause: Pause, k: usize) -> usize
+    requires { ⌜ (k < 64) × (pause .most < 64) ⌝ }
+    ensures { λ r. ⌜ QuietUpto pause k r ⌝ }
 {
-    let later = bitset::inter(started, bitset::from(k as u32));
+    let limit = k + pause.most;
+    let later = bitset::inter(pause.started, bitset::from(k as u32));
     if later == 0 {
         return limit;
     }

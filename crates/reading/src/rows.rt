@@ -12,7 +12,7 @@ ghost use Rattle.model.specs.Code.Table.{InTable};
 ghost use Rattle.reading.specs.Code.Rule.{InTurn, StartsWithin, EndsWithin};
 ghost use Rattle.reading.specs.Code.Quiet.{QuietIn};
 ghost use Rattle.reading.specs.Code.Table.{TwoRows, RowsThrough, WindowReady, After, RowReady, RowOf};
-use crate::pauses::Moments;
+use crate::pauses::Timeline;
 use crate::pauses::Pause;
 use crate::pauses::quiet_upto;
 use words::MOMENTS;
@@ -40,7 +40,7 @@ fn windows(ends: u64, pause: Pause, last: usize) -> u64
     let mut left = ends;
     while left != 0 {
         let k = bitset::lowest(left) as usize;
-        let end = quiet_upto(pause.started, k, k + pause.most);
+        let end = quiet_upto(pause, k);
         found = bitset::union(found, window(k + pause.least, end, last));
         left = bitset::drop_lowest(left);
     }
@@ -155,15 +155,15 @@ pub fn row(
     starts: &[u64; 64],
     durations: &[usize; 64],
     values: &[u8; 4096],
-    moments: Moments,
+    timeline: Timeline,
     table: &[u64],
     p: usize,
     b: usize,
 ) -> u64
-    requires { ⌜ RowReady (alone word) (trajectoryAt (now starts) (now durations) (now values) (moments .last)) (moments .started) (now table) p b ⌝ }
-    ensures { λ r. ⌜ RowOf (alone word) (trajectoryAt (now (starts .entry)) (now (durations .entry)) (now (values .entry)) (moments .last)) (now (table .entry)) p b r ⌝ }
+    requires { ⌜ RowReady (alone word) (trajectoryAt (now starts) (now durations) (now values) (timeline .last)) (timeline .started) (now table) p b ⌝ }
+    ensures { λ r. ⌜ RowOf (alone word) (trajectoryAt (now (starts .entry)) (now (durations .entry)) (now (values .entry)) (timeline .last)) (now (table .entry)) p b r ⌝ }
 {
-    let last = moments.last;
+    let last = timeline.last;
     let x = words::node_x(word);
     let y = words::node_y(word);
     let m = words::node_m(word);
@@ -184,7 +184,7 @@ pub fn row(
             Pause {
                 least: m,
                 most,
-                started: moments.started,
+                started: timeline.started,
             },
             b,
         ),

@@ -7,9 +7,9 @@ ghost use Rattle.model.specs.Forms.{Set, formAt};
 ghost use Rattle.model.specs.Code.Arrays.{alone, membersAt, conditionsAt, procedureAt, trajectoryAt};
 ghost use Rattle.sets.specs.Code.Rows.{taskSetOf, SetReady, SetRows};
 ghost use Rattle.reading.specs.Code.Forms.{Readable};
-ghost use Rattle.reading.specs.Code.Quiet.{startIn, AnyStart};
+ghost use Rattle.reading.specs.Code.Quiet.{startIn, AllStarts};
 ghost use Rattle.reading.specs.Code.Table.{NodeReady, NodeRows, Blank, Found, Tabulated, Entry};
-use crate::pauses::Moments;
+use crate::pauses::Timeline;
 use words::MOMENTS;
 
 // Fills the rows of node p, which is no task set, begins descending: a loop's row rests on its later rows.
@@ -18,17 +18,17 @@ fn fill_rows(
     starts: &[u64; 64],
     durations: &[usize; 64],
     values: &[u8; 4096],
-    moments: Moments,
+    timeline: Timeline,
     p: usize,
     table: &mut [u64],
 )
-    requires { ⌜ NodeReady (alone word) (trajectoryAt (now starts) (now durations) (now values) (moments .last)) (moments .started) p (now table) × (formAt (alone word) p ≡ Set → ⊥) ⌝ }
-    ensures { λ _. ⌜ NodeRows (alone word) (trajectoryAt (now (starts .entry)) (now (durations .entry)) (now (values .entry)) (moments .last)) p (now (table .entry)) (now (table .exit)) ⌝ }
+    requires { ⌜ NodeReady (alone word) (trajectoryAt (now starts) (now durations) (now values) (timeline .last)) (timeline .started) p (now table) × (formAt (alone word) p ≡ Set → ⊥) ⌝ }
+    ensures { λ _. ⌜ NodeRows (alone word) (trajectoryAt (now (starts .entry)) (now (durations .entry)) (now (values .entry)) (timeline .last)) p (now (table .entry)) (now (table .exit)) ⌝ }
 {
-    let mut b = moments.last + 1;
+    let mut b = timeline.last + 1;
     while 0 < b {
         b -= 1;
-        let ends = crate::rows::row(word, starts, durations, values, moments, table, p, b);
+        let ends = crate::rows::row(word, starts, durations, values, timeline, table, p, b);
         table[p * MOMENTS + b] = ends;
     }
 }
@@ -66,21 +66,21 @@ fn fill_node(
     starts: &[u64; 64],
     durations: &[usize; 64],
     values: &[u8; 4096],
-    moments: Moments,
+    timeline: Timeline,
     p: usize,
     table: &mut [u64],
 )
     requires { ⌜ (p < 64) × (getD (now places) p 0 < length (now words)) ⌝ }
-    requires { ⌜ NodeReady (procedureAt (now words) (now places) 64) (trajectoryAt (now starts) (now durations) (now values) (moments .last)) (moments .started) p (now table) ⌝ }
-    ensures { λ _. ⌜ NodeRows (procedureAt (now (words .entry)) (now (places .entry)) 64) (trajectoryAt (now (starts .entry)) (now (durations .entry)) (now (values .entry)) (moments .last)) p (now (table .entry)) (now (table .exit)) ⌝ }
+    requires { ⌜ NodeReady (procedureAt (now words) (now places) 64) (trajectoryAt (now starts) (now durations) (now values) (timeline .last)) (timeline .started) p (now table) ⌝ }
+    ensures { λ _. ⌜ NodeRows (procedureAt (now (words .entry)) (now (places .entry)) 64) (trajectoryAt (now (starts .entry)) (now (durations .entry)) (now (values .entry)) (timeline .last)) p (now (table .entry)) (now (table .exit)) ⌝ }
 {
     let place = places[p];
     let word = words[place];
     match words::form_of(word) {
         // a row for each begin, by the match of `row`
-        0..=7 | 9.. => fill_rows(word, starts, durations, values, moments, p, table),
+        0..=7 | 9.. => fill_rows(word, starts, durations, values, timeline, p, table),
         // a task set: all its rows together
-        8 => fill_set(words, place, values, moments.last, p, table),
+        8 => fill_set(words, place, values, timeline.last, p, table),
     }
 }
 
@@ -92,15 +92,15 @@ pub fn fill_table(
     starts: &[u64; 64],
     durations: &[usize; 64],
     values: &[u8; 4096],
-    moments: Moments,
+    timeline: Timeline,
     table: &mut [u64],
 )
-    requires { ⌜ Readable (procedureAt (now words) (now places) count) (trajectoryAt (now starts) (now durations) (now values) (moments .last)) (length (now words)) (now places) × Blank (now table) × AnyStart (startIn (now starts)) (moments .started) ⌝ }
-    ensures { λ _. ⌜ Found (procedureAt (now (words .entry)) (now (places .entry)) count) (trajectoryAt (now (starts .entry)) (now (durations .entry)) (now (values .entry)) (moments .last)) (now (table .exit)) ⌝ }
+    requires { ⌜ Readable (procedureAt (now words) (now places) count) (trajectoryAt (now starts) (now durations) (now values) (timeline .last)) (length (now words)) (now places) × Blank (now table) × AllStarts (startIn (now starts)) (timeline .started) ⌝ }
+    ensures { λ _. ⌜ Found (procedureAt (now (words .entry)) (now (places .entry)) count) (trajectoryAt (now (starts .entry)) (now (durations .entry)) (now (values .entry)) (timeline .last)) (now (table .exit)) ⌝ }
 {
     let mut p = 0;
     while p < count {
-        fill_node(words, places, starts, durations, values, moments, p, table);
+        fill_node(words, places, starts, durations, values, timeline, p, table);
         p += 1;
     }
 }
@@ -113,11 +113,11 @@ pub fn tabulate(
     starts: &[u64; 64],
     durations: &[usize; 64],
     values: &[u8; 4096],
-    moments: Moments,
+    timeline: Timeline,
     table: &mut [u64],
 ) -> u64
-    requires { ⌜ Readable (procedureAt (now words) (now places) count) (trajectoryAt (now starts) (now durations) (now values) (moments .last)) (length (now words)) (now places) × Blank (now table) × AnyStart (startIn (now starts)) (moments .started) ⌝ }
-    ensures { λ r. ⌜ Tabulated (procedureAt (now (words .entry)) (now (places .entry)) count) (trajectoryAt (now (starts .entry)) (now (durations .entry)) (now (values .entry)) (moments .last)) (now (table .exit)) r ⌝ }
+    requires { ⌜ Readable (procedureAt (now words) (now places) count) (trajectoryAt (now starts) (now durations) (now values) (timeline .last)) (length (now words)) (now places) × Blank (now table) × AllStarts (startIn (now starts)) (timeline .started) ⌝ }
+    ensures { λ r. ⌜ Tabulated (procedureAt (now (words .entry)) (now (places .entry)) count) (trajectoryAt (now (starts .entry)) (now (durations .entry)) (now (values .entry)) (timeline .last)) (now (table .exit)) r ⌝ }
 {
     fill_table(
         words,
@@ -126,7 +126,7 @@ pub fn tabulate(
         starts,
         durations,
         values,
-        moments,
+        timeline,
         table,
     );
     bitset::count_all(table)

@@ -9,7 +9,7 @@ use Rattle.model.specs.Trajectory.{Trajectory}
 use Rattle.model.specs.Procedure.{Procedure}
 use Rattle.model.specs.Code.Table.{InTable}
 use Rattle.model.specs.declared.Triple.{Triple}
-use Rattle.reading.specs.declared.pauses.Moments.{Moments}
+use Rattle.reading.specs.declared.pauses.Timeline.{Timeline}
 use Rattle.reading.specs.Reading.{whole, Reading}
 use Rattle.model.specs.Code.Forms.{NamedOnce}
 use Rattle.lengths.specs.Code.Bound.{lengthBound}
@@ -37,9 +37,9 @@ pub record Writable (R : Procedure → Trajectory → Triple → List ℕ → Ty
   pub room : Room (R P T t) at size
 
 -- the same of the arrays, with what the writer does not see
-abbrev pub WritableBy : (Procedure → Trajectory → Triple → List ℕ → Type 0) → List ℕ → List ℕ → List ℕ → Moments → List ℕ → Triple → ℕ → ℕ → Unseen → Type 0
-WritableBy R words places values moments table t at size u =
-    Writable R (procedureBy words places u) (trajectoryBy values moments u) (moments .started) (length words) places table t at size
+abbrev pub WritableBy : (Procedure → Trajectory → Triple → List ℕ → Type 0) → List ℕ → List ℕ → List ℕ → Timeline → List ℕ → Triple → ℕ → ℕ → Unseen → Type 0
+WritableBy R words places values timeline table t at size u =
+    Writable R (procedureBy words places u) (trajectoryBy values timeline u) (timeline .started) (length words) places table t at size
 
 -- words that R allows stand in the buffer from `at` up to `end`, and all else is as it was
 -- (`sets` stores a list's elements one after the other; `lib.Seq.sets-eq` gives it as take at .. ++ words ++ drop end ..)

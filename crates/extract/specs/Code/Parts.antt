@@ -17,8 +17,8 @@ use Rattle.sets.specs.Code.Rows.{Placed}
 use Rattle.reading.specs.Code.Forms.{Readable}
 use Rattle.reading.specs.Reading.{whole, Reading}
 use Rattle.reading.specs.Code.Table.{Found}
-use Rattle.reading.specs.Code.Quiet.{AnyStart}
-use Rattle.reading.specs.declared.pauses.Moments.{Moments}
+use Rattle.reading.specs.Code.Quiet.{AllStarts}
+use Rattle.reading.specs.declared.pauses.Timeline.{Timeline}
 use Rattle.extract.specs.declared.parts.Parts.{Parts}
 
 -- no part, one part, two parts
@@ -54,7 +54,7 @@ pub record PlacedParts (s : TaskSet) (table : List ℕ) (b e : ℕ) (r : Parts) 
 pub record Prepared (P : Procedure) (T : Trajectory) (started size : ℕ) (places table : List ℕ) : Type 0 where
   pub ready : Readable P T size places
   pub found : Found P T table
-  pub any : AnyStart (T .starts) started
+  pub mask : AllStarts (T .starts) started
 
 -- the table says that the triple can be read, and its node is no loop
 pub record Choosable (P : Procedure) (T : Trajectory) (started size : ℕ) (places table : List ℕ) (t : Triple) : Type 0 where
@@ -83,12 +83,12 @@ pub record Unseen : Type 0 where
 abbrev pub procedureBy : List ℕ → List ℕ → Unseen → Procedure
 procedureBy words places u = procedureAt words places (u .count)
 
-abbrev pub trajectoryBy : List ℕ → Moments → Unseen → Trajectory
-trajectoryBy values moments u = trajectoryAt (u .starts) (u .durations) values (moments .last)
+abbrev pub trajectoryBy : List ℕ → Timeline → Unseen → Trajectory
+trajectoryBy values timeline u = trajectoryAt (u .starts) (u .durations) values (timeline .last)
 
 -- a triple whose parts can be chosen, and a choice of them, of the arrays
-abbrev pub ChoosableBy : List ℕ → List ℕ → List ℕ → Moments → List ℕ → Triple → Unseen → Type 0
-ChoosableBy words places values moments table t u = Choosable (procedureBy words places u) (trajectoryBy values moments u) (moments .started) (length words) places table t
+abbrev pub ChoosableBy : List ℕ → List ℕ → List ℕ → Timeline → List ℕ → Triple → Unseen → Type 0
+ChoosableBy words places values timeline table t u = Choosable (procedureBy words places u) (trajectoryBy values timeline u) (timeline .started) (length words) places table t
 
-abbrev pub ChosenBy : List ℕ → List ℕ → List ℕ → Moments → List ℕ → Triple → Parts → Unseen → Type 0
-ChosenBy words places values moments table t r u = Chosen (procedureBy words places u) (trajectoryBy values moments u) table (t .node) (t .begin) (t .end) r
+abbrev pub ChosenBy : List ℕ → List ℕ → List ℕ → Timeline → List ℕ → Triple → Parts → Unseen → Type 0
+ChosenBy words places values timeline table t r u = Chosen (procedureBy words places u) (trajectoryBy values timeline u) table (t .node) (t .begin) (t .end) r

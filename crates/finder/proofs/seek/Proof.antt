@@ -8,7 +8,7 @@ use borrow.Author.Needs.{needs}
 use Rattle.finder.proofs.seek.Statement.{statement}
 use Rattle.finder.proofs.seek.Tie as tie
 
-abbrev masked : tie.After-table → tie.After-any-start
+abbrev masked : tie.After-table → tie.After-all-starts
 masked c = c .before .before .before .before .before
 
 abbrev entry : tie.After-table → tie.Start
@@ -38,7 +38,7 @@ emit-requires c κs =
     let f = filled (i .before) in
     let s = entry (f .before) .pre in
     let w = entry (f .before) .args .arrays in
-    (w .starts, w .durations, emit-ready _ _ _ (s .clear) (s .represented) (f .tabulate .ensures) (masked (f .before) .any-start .ensures) (sym (i .before .has-end .ensures) ∙ i .if1 .taken) (s .room))
+    (w .starts, w .durations, emit-ready _ _ _ (s .clear) (s .represented) (f .tabulate .ensures) (masked (f .before) .all-starts .ensures) (sym (i .before .has-end .ensures) ∙ i .if1 .taken) (s .room))
 
 returns : tie.Need-returns
 returns c =
@@ -47,7 +47,7 @@ returns c =
     let f = filled (i .before) in
     let s = entry (f .before) .pre in
     let w = entry (f .before) .args .arrays in
-    let ready = emit-ready _ _ _ (s .clear) (s .represented) (f .tabulate .ensures) (masked (f .before) .any-start .ensures) (sym (i .before .has-end .ensures) ∙ i .if1 .taken) (s .room) in
+    let ready = emit-ready _ _ _ (s .clear) (s .represented) (f .tabulate .ensures) (masked (f .before) .all-starts .ensures) (sym (i .before .has-end .ensures) ∙ i .if1 .taken) (s .room) in
     let emitted = r .emit .ensures (w .starts) (w .durations) ready in (
       written-reading _ _ _ (s .clear) (s .represented) (f .tabulate .ensures) emitted,
       (omega (arith, emitted .few, f .tabulate .ensures .small), omega (arith, emitted .few)),
@@ -65,5 +65,5 @@ pub seek-spec : {M : Type 1} → statement M
 seek-spec =
     tie.close
     (tie.spec (λ c. search needs) (λ c κs. search needs) (λ c. search needs)
-    (λ c κs. let s = entry c .pre in (readable _ _ _ (s .clear) (s .represented), blank 4096 refl, masked c .any-start .ensures)) (λ c. search needs) (λ c. omega (arith, nodes (c .before .before))) has-end-requires
+    (λ c κs. let s = entry c .pre in (readable _ _ _ (s .clear) (s .represented), blank 4096 refl, masked c .all-starts .ensures)) (λ c. search needs) (λ c. omega (arith, nodes (c .before .before))) has-end-requires
     (λ c. search needs) emit-requires (λ c. search needs) returns returns-2)

@@ -13,7 +13,7 @@ use Rattle.model.specs.Code.Table.{rowAt, InTable}
 use Rattle.reading.specs.Code.Forms.{NodeReadable}
 use Rattle.reading.specs.Reading.{HasReading}
 use Rattle.reading.specs.Code.Rule.{Rule}
-use Rattle.reading.specs.Code.Quiet.{AnyStart, QuietIn}
+use Rattle.reading.specs.Code.Quiet.{AllStarts, QuietIn}
 use Rattle.reading.specs.Count.{Counted}
 use Rattle.reading.specs.declared.pauses.Pause.{Pause}
 
@@ -38,7 +38,7 @@ pub record WindowReady (n least most : ℕ) : Type 0 where
   pub from : least < 64
   pub upto : most < 64
 
--- m lies least to most after some member of the set ends, and not after n, with a quiet pause between them
+-- m lies a pause after some member of `ends`, and not after n
 pub record After (ends : ℕ) (pause : Pause) (n m : ℕ) : Type 0 where
   pub end : ℕ
   pub member : In ends end
@@ -47,24 +47,25 @@ pub record After (ends : ℕ) (pause : Pause) (n m : ℕ) : Type 0 where
   pub upto : m ≤ n
   pub quiet : QuietIn (pause .started) end m
 
--- what the row of node p at b needs, p being no task set, and what it is: its members are the ends that the rule of p's form allows, by the table
+-- what the row of node p at b needs, p being no task set and `started` the moments at which some action starts, and what it is: its members are the ends that the rule of p's form allows, by the table
 pub record RowReady (P : Procedure) (T : Trajectory) (started : ℕ) (t : List ℕ) (p b : ℕ) : Type 0 where
   pub lower : Below p (children P p)
   pub single : formAt P p ≡ Set → ⊥
   pub begin : b ≤ T .last
   pub moments : T .last < 64
-  pub any : AnyStart (T .starts) started
+  pub mask : AllStarts (T .starts) started
   pub room : p * 64 + 64 ≤ length t
   pub inside : (q : ℕ) → q < p → Inside t q b (T .last)
 
 abbrev pub RowOf : Procedure → Trajectory → List ℕ → ℕ → ℕ → ℕ → Type 0
 RowOf P T t p b r = (e : ℕ) → In r e ↔ Rule P T (InTable t) (formAt P p) p b e
 
--- what filling the rows of node p needs: the rows of the lower nodes have ends within the moments alone
+-- what filling the rows of node p needs: the moments at which some action starts, and that the rows of the lower nodes have ends within the
+-- moments alone
 pub record NodeReady (P : Procedure) (T : Trajectory) (started p : ℕ) (t : List ℕ) : Type 0 where
   pub formed : NodeReadable P T p
   pub moments : T .last < 64
-  pub any : AnyStart (T .starts) started
+  pub mask : AllStarts (T .starts) started
   pub room : p * 64 + 64 ≤ length t
   pub inside : (q b : ℕ) → q < p → b ≤ T .last → Inside t q b (T .last)
 

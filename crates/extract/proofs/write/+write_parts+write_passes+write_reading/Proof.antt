@@ -35,13 +35,13 @@ use Rattle.extract.proofs.write.+write_parts+write_passes+write_reading
 use Rattle.extract.proofs.write.+write_parts+write_passes+write_reading.Tie.{close}
 
 abbrev μ-parts : Measures 5 parts-kinds.ps ℕ
-μ-parts κs a = let (words, (places, (values, (moments, (table, (triple, rest)))))) = a in triple .node * 2
+μ-parts κs a = let (words, (places, (values, (timeline, (table, (triple, rest)))))) = a in triple .node * 2
 
 abbrev μ-passes : Measures 5 passes-kinds.ps ℕ
-μ-passes κs a = let (words, (places, (values, (moments, (table, (triple, rest)))))) = a in triple .node * 2
+μ-passes κs a = let (words, (places, (values, (timeline, (table, (triple, rest)))))) = a in triple .node * 2
 
 abbrev μ : Measures 5 kinds.ps ℕ
-μ κs a = let (words, (places, (values, (moments, (table, (triple, rest)))))) = a in triple .node * 2 + 1
+μ κs a = let (words, (places, (values, (timeline, (table, (triple, rest)))))) = a in triple .node * 2 + 1
 
 abbrev parts-at : ℕ → In 5 parts-kinds.ps
 parts-at t = and 5 parts-kinds.ps (is 5 parts-kinds.ps μ-parts t) parts.Pre
@@ -72,23 +72,23 @@ calls t = (word.Asked, word.Learnt, form-of.Asked, form-of.Learnt, passes-below 
 
 -- what the parts written so far are, whatever the writer does not see
 abbrev Inv-parts : parts-lts.InvT-loop
-Inv-parts words places values moments table at buffer₀ number nodes begins ends end₀ i₀ buffer end i =
+Inv-parts words places values timeline table at buffer₀ number nodes begins ends end₀ i₀ buffer end i =
     (i ≤ number)
-    × ((u : Unseen) (t : Triple) → WritableBy Rest words places values moments table t at (length buffer₀) u
-    → ChosenBy words places values moments table t (record { count = number; nodes = nodes; begins = begins; ends = ends }) u
-    → ReadingWritten (Done (procedureBy words places u) (trajectoryBy values moments u) (record { count = number; nodes = nodes; begins = begins; ends = ends }) i) buffer₀ at buffer end)
+    × ((u : Unseen) (t : Triple) → WritableBy Rest words places values timeline table t at (length buffer₀) u
+    → ChosenBy words places values timeline table t (record { count = number; nodes = nodes; begins = begins; ends = ends }) u
+    → ReadingWritten (Done (procedureBy words places u) (trajectoryBy values timeline u) (record { count = number; nodes = nodes; begins = begins; ends = ends }) i) buffer₀ at buffer end)
 
 abbrev μ-loop-parts : parts-lts.MeasureT-loop
-μ-loop-parts words places values moments table at buffer₀ number nodes begins ends end₀ i₀ buffer end i = number - i
+μ-loop-parts words places values timeline table at buffer₀ number nodes begins ends end₀ i₀ buffer end i = number - i
 
 abbrev Inv-passes : passes-lts.InvT-loop
-Inv-passes words places values moments table at buffer₀ p b e place y m₀ end₀ buffer m end =
-    (u : Unseen) → WritableBy Rest words places values moments table (record { node = p; begin = b; end = e }) at (length buffer₀) u
+Inv-passes words places values timeline table at buffer₀ p b e place y m₀ end₀ buffer m end =
+    (u : Unseen) → WritableBy Rest words places values timeline table (record { node = p; begin = b; end = e }) at (length buffer₀) u
     → formAt (procedureBy words places u) p ≡ While
-    → Halfway (procedureBy words places u) (trajectoryBy values moments u) table (record { node = p; begin = b; end = e }) buffer₀ at m buffer end
+    → Halfway (procedureBy words places u) (trajectoryBy values timeline u) table (record { node = p; begin = b; end = e }) buffer₀ at m buffer end
 
 abbrev μ-loop-passes : passes-lts.MeasureT-loop
-μ-loop-passes words places values moments table at buffer₀ p b e place y m₀ end₀ buffer m end = e - m
+μ-loop-passes words places values timeline table at buffer₀ p b e place y m₀ end₀ buffer m end = e - m
 
 module _ (t : ℕ) where
   -- ---- the node's own word
@@ -206,7 +206,7 @@ module _ (t : ℕ) where
 
   -- the parts, by what makes the table right
   chosen : (k : Parted) → let a = start k .args in let u = start k .pre .1 .0 in
-      ChosenBy (a .words .now) (a .places .now) (a .values .now) (a .moments) (a .table .now) (a .triple) (k .choose-parts .result) u
+      ChosenBy (a .words .now) (a .places .now) (a .values .now) (a .timeline) (a .table .now) (a .triple) (k .choose-parts .result) u
   chosen k = let (is, (u, s, other)) = start k .pre in k .choose-parts .ensures u (choosable s other)
 
   few : (l : Turn) → l .before .loop .i < 4

@@ -37,7 +37,7 @@ n-is f = f .before .node-n .ensures .0
 
 -- what the code has of the plan
 abbrev trajectory : tie.Start → Trajectory
-trajectory s = trajectoryAt (now (s .args .starts)) (now (s .args .durations)) (now (s .args .values)) (s .args .moments .last)
+trajectory s = trajectoryAt (now (s .args .starts)) (now (s .args .durations)) (now (s .args .values)) (s .args .timeline .last)
 
 -- the form, where it has this number, and the children that it has then
 module _ (f : tie.After-form-of) {k : ℕ} (e : f .form-of .result ≡ k) where
@@ -125,7 +125,7 @@ returns-7 c = let a = c .before in λ e.
 returns-8 : tie.Need-returns-8
 returns-8 c = let a = c .before in λ e.
     rw (form-is (a .before) (a .match .keys8), ← n-is (a .before), ← m-is (a .before), ← y-is (a .before), ← x-is (a .before))
-    (Iff·trans (c .end-window-row .ensures e) (ends-law (trajectory (entry (a .before))) (entry (a .before) .pre .any)))
+    (Iff·trans (c .end-window-row .ensures e) (ends-law (trajectory (entry (a .before))) (entry (a .before) .pre .mask)))
 
 returns-9 : tie.Need-returns-9
 returns-9 c =

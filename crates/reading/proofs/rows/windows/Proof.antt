@@ -18,17 +18,17 @@ abbrev limited : tie.After-drop-lowest Inv-loop μ-loop → tie.After-quiet-upto
 limited c = c .before .before .before .before
 
 abbrev turn : tie.After-quiet-upto Inv-loop μ-loop → tie.At-loop Inv-loop μ-loop
-turn q = q .before .before .before .before
+turn q = q .before .before .before
 
 loop-again : tie.Need-loop-again Inv-loop μ-loop
 loop-again c =
     let q = limited c in
-    split-turn (c .before .before .window .result) (turn q .loop .inv) (q .before .before .lowest .ensures) (c .drop-lowest .ensures)
+    split-turn (c .before .before .window .result) (turn q .loop .inv) (q .before .lowest .ensures) (c .drop-lowest .ensures)
     (quiet-window (q .quiet-upto .ensures) (c .before .before .window .ensures)) (c .before .union .ensures)
 
 pub windows-spec : {M : Type 1} → statement M
 windows-spec =
     tie.close
-    (tie.spec Inv-loop μ-loop (λ c. split-start) (λ c κs. search needs) (λ c. search needs) (λ c. search needs) (λ c κs. search needs) (λ c. search needs)
+    (tie.spec Inv-loop μ-loop (λ c. split-start) (λ c κs. search needs) (λ c. search needs) (λ c κs. search needs) (λ c. search needs)
     (λ c κs. search needs) (λ c κs. search needs) (λ c κs. search needs) (λ c. omega (arith, c .drop-lowest .ensures .fewer)) loop-again
     (λ c. split-end (omega arith) (c .before .loop .inv)))

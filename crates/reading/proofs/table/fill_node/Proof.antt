@@ -30,7 +30,7 @@ abbrev own : tie.Start → Procedure
 own s = alone (getD (now (s .args .words)) (getD (now (s .args .places)) (s .args .p) 0) 0)
 
 abbrev trajectory : tie.Start → Trajectory
-trajectory s = trajectoryAt (now (s .args .starts)) (now (s .args .durations)) (now (s .args .values)) (s .args .moments .last)
+trajectory s = trajectoryAt (now (s .args .starts)) (now (s .args .durations)) (now (s .args .values)) (s .args .timeline .last)
 
 -- where the form is 8, or is not
 is-set : (f : tie.After-form-of) → f .form-of .result ≡ 8 → formAt (procedure (entry f)) (entry f .args .p) ≡ Set

@@ -8,10 +8,10 @@ use Rattle.reading.proofs.table.fill_rows.Statement.{statement}
 use Rattle.reading.proofs.table.fill_rows.Tie as tie
 
 abbrev Inv-loop : tie.InvT-loop
-Inv-loop word starts durations values moments p table₀ b₀ table b = (b ≤ moments .last + 1) × RowsFrom (alone word) (trajectoryAt starts durations values (moments .last)) p table₀ table b
+Inv-loop word starts durations values timeline p table₀ b₀ table b = (b ≤ timeline .last + 1) × RowsFrom (alone word) (trajectoryAt starts durations values (timeline .last)) p table₀ table b
 
 abbrev μ-loop : tie.MeasureT-loop
-μ-loop word starts durations values moments p table₀ b₀ table b = b
+μ-loop word starts durations values timeline p table₀ b₀ table b = b
 
 abbrev entry : tie.After-row-arg Inv-loop μ-loop → tie.Start Inv-loop μ-loop
 entry c = c .before .before .before .before .before

@@ -13,11 +13,11 @@ use Rattle.reading.proofs.table.fill_table.Statement.{statement}
 use Rattle.reading.proofs.table.fill_table.Tie as tie
 
 abbrev Inv-loop : tie.InvT-loop
-Inv-loop words places count starts durations values moments table₀ p₀ table p =
-    (p ≤ count) × Built (procedureAt words places count) (trajectoryAt starts durations values (moments .last)) table p
+Inv-loop words places count starts durations values timeline table₀ p₀ table p =
+    (p ≤ count) × Built (procedureAt words places count) (trajectoryAt starts durations values (timeline .last)) table p
 
 abbrev μ-loop : tie.MeasureT-loop
-μ-loop words places count starts durations values moments table₀ p₀ table p = count - p
+μ-loop words places count starts durations values timeline table₀ p₀ table p = count - p
 
 abbrev entry1 : tie.At-loop Inv-loop μ-loop → tie.Start Inv-loop μ-loop
 entry1 c = c .before .before .before
@@ -33,7 +33,7 @@ abbrev procedure : tie.Start Inv-loop μ-loop → ℕ → Procedure
 procedure s count = procedureAt (now (s .args .words)) (now (s .args .places)) count
 
 abbrev trajectory : tie.Start Inv-loop μ-loop → Trajectory
-trajectory s = trajectoryAt (now (s .args .starts)) (now (s .args .durations)) (now (s .args .values)) (s .args .moments .last)
+trajectory s = trajectoryAt (now (s .args .starts)) (now (s .args .durations)) (now (s .args .values)) (s .args .timeline .last)
 
 fill-node-requires : tie.Need-fill-node-requires Inv-loop μ-loop
 fill-node-requires c κs =
