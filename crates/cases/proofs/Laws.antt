@@ -1,15 +1,16 @@
 -- What find's contract owes to a case that passes its test, and so to each case of the table. Assumes nothing.
 use Prim.Native.Nat.{ℕ, zero, suc, _-_, _*_, _≤_, _<_}
-use mathlib.Core.Bool.{Bool, true, false, _&&_, _||_, not, false≢true}
+use mathlib.Core.Bool.{Bool, true, false, _&&_, _||_, not, false≢true, true≢false}
 use mathlib.Core.Path.{_≡_, refl, sym, ap, _∙_, subst}
 use mathlib.Core.Logic.{⊎-elim, Iff·rfl, Iff·trans}
 use mathlib.Core.List.{List, [], _∷_, _++_, List·Memᴰ, List·Memᴰ·head, List·Memᴰ·tail, List·Memᴰ·cases-cons, List·Memᴰ·not-nil}
 use native.Mathlib.Omega.{arith}
 use lib.Dec.{eqb, leb}
 use lib.ListN.{length, drop}
-use borrow.Author.Tests.{ne-eqb}
+use borrow.Author.Tests.{ne-eqb, not-true}
 use Rattle.words.specs.Fields.{startAction}
 use Rattle.words.specs.Scan.{any}
+use Rattle.words.proofs.Choices.{both-true}
 use Rattle.answers.specs.declared.Refusal.{Refusal}
 use Rattle.answers.specs.declared.Answer.{Answer}
 use Rattle.answers.specs.declared.Answer.the-variants.{Accepted, Refused}
@@ -38,12 +39,8 @@ use Rattle.cases.proofs.Computed.{computed}
 
 -- ---- the tests on lists of triples
 
-both : (a b : Bool) → (a && b) ≡ true → (a ≡ true) × (b ≡ true)
-both a b = and-law a b Iff·rfl Iff·rfl .0
-
 no : (a : Bool) → not a ≡ true → a ≡ true → ⊥
-no true h e = false≢true h
-no false h e = false≢true e
+no a h e = true≢false (sym e ∙ not-true a h)
 
 same-law : (s r : Triple) → Tells (same s r) (s ≡ r)
 same-law s r = Iff·trans
@@ -58,14 +55,14 @@ listed-law s (r ∷ rs) = Iff·trans (or-law _ _ (same-law s r) (listed-law s rs
 distinct-law : (rs : List Triple) → distinct rs ≡ true → Distinct rs
 unfolding distinct
 distinct-law [] h = none
-distinct-law (r ∷ rs) h = let (a, b) = both (not (listed r rs)) (distinct rs) h in more (λ m. no (listed r rs) a (listed-law r rs .1 m)) (distinct-law rs b)
+distinct-law (r ∷ rs) h = let (a, b) = both-true (not (listed r rs)) (distinct rs) h in more (λ m. no (listed r rs) a (listed-law r rs .1 m)) (distinct-law rs b)
 
 same-words : (us vs : List ℕ) → sameWords us vs ≡ true → us ≡ vs
 unfolding sameWords
 same-words [] [] h = refl
 same-words [] (v ∷ vs) h = absurd (false≢true h)
 same-words (u ∷ us) [] h = absurd (false≢true h)
-same-words (u ∷ us) (v ∷ vs) h = let (a, b) = both (eqb u v) (sameWords us vs) h in let e = eq-law u v .0 a in let q = same-words us vs b in cc
+same-words (u ∷ us) (v ∷ vs) h = let (a, b) = both-true (eqb u v) (sameWords us vs) h in let e = eq-law u v .0 a in let q = same-words us vs b in cc
 
 -- ---- a job that is well formed: the test tells the readings, and the listed triples are those that have one
 
@@ -89,8 +86,8 @@ module _ (job starts : List ℕ) (ok : jobRefusal job .number ≡ 0) where
   unfolding sound procedureOf trajectoryOf
   sound-law [] h s m = absurd (List·Memᴰ·not-nil m)
   sound-law (r ∷ rs) h s m =
-      let (a, b) = both _ (sound job starts rs) h in
-      let (c, d) = both (leb (suc (r .node)) (nodeCount job) && leb (r .begin) (r .end)) (leb (r .end) (lastMoment job) && decided job starts (r .node) (r .begin) (r .end)) a in
+      let (a, b) = both-true _ (sound job starts rs) h in
+      let (c, d) = both-true (leb (suc (r .node)) (nodeCount job) && leb (r .begin) (r .end)) (leb (r .end) (lastMoment job) && decided job starts (r .node) (r .begin) (r .end)) a in
       let (i, j) = and-law _ _ (le-law (suc (r .node)) (nodeCount job)) (le-law (r .begin) (r .end)) .0 c in
       let (k, l) = and-law _ _ (le-law (r .end) (lastMoment job)) Iff·rfl .0 d in
       let here : Read (procedureOf job) (planTrajectory job starts) r = (i, j, decided-law {p = r .node} {b = r .begin} {e = r .end} i (omega arith) .0 l) in
@@ -108,8 +105,8 @@ module _ (job starts : List ℕ) (ok : jobRefusal job .number ≡ 0) where
   exactly-law : (rs : List Triple) → exactly job starts rs ≡ true → Triples job starts (length rs)
   unfolding exactly
   exactly-law rs h =
-      let (a, b) = both (distinct rs) _ h in
-      let (c, d) = both (sound job starts rs) (complete job starts rs) b in
+      let (a, b) = both-true (distinct rs) _ h in
+      let (c, d) = both-true (sound job starts rs) (complete job starts rs) b in
       record { triples = rs; distinct = distinct-law rs a; exact = λ s. (sound-law rs c s, complete-law rs d s); many = refl }
 
   root-law : Tells (rooted job starts) (HasReading (procedureOf job) (planTrajectory job starts) (nodeCount job - 1) 0 (lastMoment job))
@@ -134,15 +131,15 @@ module _ (job starts facts before : List ℕ) (room : 4096 ≤ length before) wh
   found : (rs : List Triple) → (eqb (row .number) 0 && (rooted job starts && exactly job starts rs)) ≡ true
       → {a : Answer} {after : List ℕ} → Outcome job starts facts before a after
       → (ws : List ℕ) × RootReading job starts ws × (a ≡ Accepted (length ws) (length rs)) × (after ≡ ws ++ drop (length ws) before)
-  found rs h (refused e z) = absurd (z (not-refused (eq-law (row .number) 0 .0 (both (eqb (row .number) 0) _ h .0)) e))
+  found rs h (refused e z) = absurd (z (not-refused (eq-law (row .number) 0 .0 (both-true (eqb (row .number) 0) _ h .0)) e))
   found rs h (sought e (without-reading t f)) =
-      let (a, b) = both (eqb (row .number) 0) _ h in
-      let k = root-law job starts (formed (eq-law (row .number) 0 .0 a)) .0 (both (rooted job starts) _ b .0) in
+      let (a, b) = both-true (eqb (row .number) 0) _ h in
+      let k = root-law job starts (formed (eq-law (row .number) 0 .0 a)) .0 (both-true (rooted job starts) _ b .0) in
       absurd (f (k .1 .0) (k .1 .1))
   found rs h (sought e (with-reading {ws = ws} t r)) =
-      let (a, b) = both (eqb (row .number) 0) _ h in
+      let (a, b) = both-true (eqb (row .number) 0) _ h in
       let ok = formed (eq-law (row .number) 0 .0 a) in
-      (ws, r, ap (Accepted (length ws)) (counted-once t (exactly-law job starts ok rs (both (rooted job starts) _ b .1))), refl)
+      (ws, r, ap (Accepted (length ws)) (counted-once t (exactly-law job starts ok rs (both-true (rooted job starts) _ b .1))), refl)
 
   -- each reading of the root has these words
   root-words : (us : List ℕ) → only job starts us ≡ true → {ws : List ℕ} → RootReading job starts ws → ws ≡ us
@@ -153,36 +150,36 @@ module _ (job starts facts before : List ℕ) (room : 4096 ≤ length before) wh
       → (packed a ≡ n) × (after ≡ bufferAfter x before)
   unfolding answers fits trajectoryOf
   owed (refuses n p) k h (refused {n = m} {p = q} e z) =
-      let (f, g) = both (fits row n p && not (eqb n 0)) _ h in
-      let (a, b) = both (fits row n p) (not (eqb n 0)) f in
+      let (f, g) = both-true (fits row n p && not (eqb n 0)) _ h in
+      let (a, b) = both-true (fits row n p) (not (eqb n 0)) f in
       let (c, d) = and-law _ _ (eq-law (row .number) n) (eq-law (row .position) p) .0 a in
       let same = sym (same-row job starts facts before room) ∙ e in
       let i : m ≡ n = sym (ap (λ (r : Refusal). r .number) same) ∙ c in
       let j : q ≡ p = sym (ap (λ (r : Refusal). r .position) same) ∙ d in
       (rw (i, j) (sym (eq-law k (packed (Refused n p 0)) .0 g)), refl)
   owed (refuses n p) k h (sought e s) =
-      let (f, g) = both (fits row n p && not (eqb n 0)) _ h in
-      let (a, b) = both (fits row n p) (not (eqb n 0)) f in
+      let (f, g) = both-true (fits row n p && not (eqb n 0)) _ h in
+      let (a, b) = both-true (fits row n p) (not (eqb n 0)) f in
       let (c, d) = and-law _ _ (eq-law (row .number) n) (eq-law (row .position) p) .0 a in
       let zero : row .number ≡ 0 = rw (same-row job starts facts before room) at e in
       absurd (no (eqb n 0) b (eq-law n 0 .1 (sym c ∙ zero)))
   owed (unread rs) k h (refused e z) =
-      let (f, g) = both _ (eqb k (packed (Refused 13 0 (length rs)))) h in
-      absurd (z (not-refused (eq-law (row .number) 0 .0 (both (eqb (row .number) 0) _ f .0)) e))
+      let (f, g) = both-true _ (eqb k (packed (Refused 13 0 (length rs)))) h in
+      absurd (z (not-refused (eq-law (row .number) 0 .0 (both-true (eqb (row .number) 0) _ f .0)) e))
   owed (unread rs) k h (sought e (without-reading t s)) =
-      let (f, g) = both _ (eqb k (packed (Refused 13 0 (length rs)))) h in
-      let (a, b) = both (eqb (row .number) 0) _ f in
+      let (f, g) = both-true _ (eqb k (packed (Refused 13 0 (length rs)))) h in
+      let (a, b) = both-true (eqb (row .number) 0) _ f in
       let ok = formed (eq-law (row .number) 0 .0 a) in
-      let count = counted-once t (exactly-law job starts ok rs (both (not (rooted job starts)) (exactly job starts rs) b .1)) in
+      let count = counted-once t (exactly-law job starts ok rs (both-true (not (rooted job starts)) (exactly job starts rs) b .1)) in
       (ap (λ (c : ℕ). packed (Refused 13 0 c)) count ∙ sym (eq-law k (packed (Refused 13 0 (length rs))) .0 g), refl)
   owed (unread rs) k h (sought e (with-reading {ws = ws} t r)) =
-      let (f, g) = both _ (eqb k (packed (Refused 13 0 (length rs)))) h in
-      let (a, b) = both (eqb (row .number) 0) _ f in
+      let (f, g) = both-true _ (eqb k (packed (Refused 13 0 (length rs)))) h in
+      let (a, b) = both-true (eqb (row .number) 0) _ f in
       let ok = formed (eq-law (row .number) 0 .0 a) in
-      absurd (no _ (both (not (rooted job starts)) (exactly job starts rs) b .0) (root-law job starts ok .1 (omega arith, (ws, r))))
+      absurd (no _ (both-true (not (rooted job starts)) (exactly job starts rs) b .0) (root-law job starts ok .1 (omega arith, (ws, r))))
   owed (reads us rs) k h o =
-      let (f, g) = both _ (only job starts us && eqb k (packed (Accepted (length us) (length rs)))) h in
-      let (a, b) = both (only job starts us) _ g in
+      let (f, g) = both-true _ (only job starts us && eqb k (packed (Accepted (length us) (length rs)))) h in
+      let (a, b) = both-true (only job starts us) _ g in
       let (ws, r, answer, after) = found rs f o in
       let same = root-words us a r in (
         ap packed answer ∙ ap (λ (vs : List ℕ). packed (Accepted (length vs) (length rs))) same ∙ sym (eq-law k (packed (Accepted (length us) (length rs))) .0 b),
@@ -193,7 +190,7 @@ module _ (job starts facts before : List ℕ) (room : 4096 ≤ length before) wh
 each-passed : (cs : List Case) → allPassed cs ≡ true → (c : Case) → List·Memᴰ c cs → passed c ≡ true
 unfolding allPassed
 each-passed [] h c m = absurd (List·Memᴰ·not-nil m)
-each-passed (d ∷ cs) h c m = let (a, b) = both (passed d) (allPassed cs) h in ⊎-elim (λ e. ap passed e ∙ a) (each-passed cs b c) (List·Memᴰ·cases-cons m)
+each-passed (d ∷ cs) h c m = let (a, b) = both-true (passed d) (allPassed cs) h in ⊎-elim (λ e. ap passed e ∙ a) (each-passed cs b c) (List·Memᴰ·cases-cons m)
 
 -- the law of the table: whatever find's contract allows for a case, with at least 4,096 words of buffer, is what the case is owed
 pub each-owed : EachOwed

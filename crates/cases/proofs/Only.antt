@@ -10,7 +10,7 @@ use lib.ListN.{length, getD}
 use borrow.Author.Tests.{eq-eqb, le-leb}
 use Rattle.words.specs.Scan.{concatBelow}
 use Rattle.words.specs.Tests.{implies, within}
-use Rattle.words.proofs.Choices.{implies-true}
+use Rattle.words.proofs.Choices.{both-true, implies-true}
 use Rattle.words.specs.Fields.{fails, holds, readingWord}
 use Rattle.model.specs.Trajectory.{Trajectory}
 use Rattle.model.specs.Procedure.{Procedure}
@@ -65,9 +65,6 @@ onEach (suc k) P T passes p b e f = onPasses P T (onEach k P T) p b e f
 
 -- ---- the law
 
-both : (a b : Bool) → (a && b) ≡ true → (a ≡ true) × (b ≡ true)
-both a b = and-law a b Iff·rfl Iff·rfl .0
-
 at : (f : ℕ → Bool) {m n : ℕ} → allBelow f (suc n) ≡ true → m ≤ n → f m ≡ true
 at f {m} {n} h l = all-law f (suc n) .0 h m (omega arith)
 
@@ -116,20 +113,20 @@ module _ (P : Procedure) (T : Trajectory) where
       let z = at (λ m. R whole (fieldX P p) b m (λ us. R whole (fieldY P p) m e (λ vs. g (us ++ vs)))) (by-form R p b e f q h) (onward r) in
       parts R (λ f o p b e ws. on-each k f) g z l r
   on-each (suc k) f (first {p = p} {b = b} {e = e} q l) h =
-      on-each k (λ us. f (readingWord p b e ∷ us)) l (both _ _ (by-form (onEach k P T) p b e f q h) .0)
+      on-each k (λ us. f (readingWord p b e ∷ us)) l (both-true _ _ (by-form (onEach k P T) p b e f q h) .0)
   on-each (suc k) f (second {p = p} {b = b} {e = e} q r) h =
-      on-each k (λ us. f (readingWord p b e ∷ us)) r (both (onEach k P T whole (fieldX P p) b e (λ us. f (readingWord p b e ∷ us))) _ (by-form (onEach k P T) p b e f q h) .1)
+      on-each k (λ us. f (readingWord p b e ∷ us)) r (both-true (onEach k P T whole (fieldX P p) b e (λ us. f (readingWord p b e ∷ us))) _ (by-form (onEach k P T) p b e f q h) .1)
   on-each (suc k) f (taken {p = p} {b = b} {e = e} q t l) h =
-      on-each k (λ us. f (readingWord p b e ∷ us)) l (implies-true _ _ (both _ _ (by-form (onEach k P T) p b e f q h) .0) (eq-eqb _ _ t))
+      on-each k (λ us. f (readingWord p b e ∷ us)) l (implies-true _ _ (both-true _ _ (by-form (onEach k P T) p b e f q h) .0) (eq-eqb _ _ t))
   on-each (suc k) f (otherwise {p = p} {b = b} {e = e} q t r) h =
       on-each k (λ us. f (readingWord p b e ∷ us)) r
-      (implies-true _ _ (both (implies (eqb (T .value (fieldX P p) b) holds) (onEach k P T whole (fieldY P p) b e (λ us. f (readingWord p b e ∷ us)))) _ (by-form (onEach k P T) p b e f q h) .1) (eq-eqb _ _ t))
+      (implies-true _ _ (both-true (implies (eqb (T .value (fieldX P p) b) holds) (onEach k P T whole (fieldY P p) b e (λ us. f (readingWord p b e ∷ us)))) _ (by-form (onEach k P T) p b e f q h) .1) (eq-eqb _ _ t))
   on-each (suc k) f (loop {p = p} {b = b} {e = e} q l) h = on-each k (λ us. f (readingWord p b e ∷ us)) l (by-form (onEach k P T) p b e f q h)
   on-each (suc k) f (done {p = p} {b = b} {e = e} t d) h =
-      where-two (eqb (T .value (fieldX P p) b) fails) (eqb e b) _ (both _ _ h .0) (eq-eqb _ _ t) (eq-eqb _ _ d)
+      where-two (eqb (T .value (fieldX P p) b) fails) (eqb e b) _ (both-true _ _ h .0) (eq-eqb _ _ t) (eq-eqb _ _ d)
   on-each (suc k) f (pass {p = p} {b = b} {m = m} {e = e} {us = us} t later l r) h =
       let R = onEach k P T in
-      let z = at (λ m. implies (leb (suc b) m) (R whole (fieldY P p) b m (λ us. R passes p m e (λ vs. f (us ++ vs))))) (implies-true _ _ (both (implies (eqb (T .value (fieldX P p) b) fails && eqb e b) (f [])) _ h .1) (eq-eqb _ _ t)) (onward r) in
+      let z = at (λ m. implies (leb (suc b) m) (R whole (fieldY P p) b m (λ us. R passes p m e (λ vs. f (us ++ vs))))) (implies-true _ _ (both-true (implies (eqb (T .value (fieldX P p) b) fails && eqb e b) (f [])) _ h .1) (eq-eqb _ _ t)) (onward r) in
       on-each k (λ vs. f (us ++ vs)) r (on-each k (λ us. R passes p m e (λ vs. f (us ++ vs))) l (implies-true _ _ z (le-leb (suc b) m (omega arith))))
   on-each (suc k) f (startWindow {p = p} {b = b} {k = c} {m = m} {l = d} {e = e} q l r lo hi g) h =
       let R = onEach k P T in

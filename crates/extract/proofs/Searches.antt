@@ -16,6 +16,7 @@ use Rattle.words.proofs.Choices.{both-true}
 use Rattle.bitset.proofs.Bools.{not-both, both}
 use Rattle.bitset.proofs.Digits.{has-zero, has-past}
 use Rattle.bitset.proofs.Ends.{lowest-le}
+use Rattle.bitset.proofs.In.{in-zero, in-dropped}
 use Rattle.reading.specs.Code.Quiet.{QuietUpto}
 use Rattle.reading.specs.declared.pauses.Pause.{Pause}
 use Rattle.extract.specs.Code.Search.{Meets, FirstMeets, CutAt, EndPair, StartAt}
@@ -57,7 +58,7 @@ in-alone {e = e} h = record { i = 0; j = e; in-a = refl; in-b = h .yes; is-max =
 -- ---- ends with a given greater
 
 pub nonempty : (x k : ℕ) → has x k ≡ true → 0 < x
-nonempty x k h = by-cases (ℕ-discrete x 0) (λ z. not-both (ap (λ (w : ℕ). has w k) (sym z) ∙ h) (has-zero k)) (λ z. omega arith)
+nonempty x k h = by-cases (ℕ-discrete x 0) (λ z. in-zero {e = k} z (record { yes = h })) (λ z. omega arith)
 
 module _ {xs ys e : ℕ} (m : Max xs ys e) where
   pub ends-first : {l : ℕ} → has xs e ≡ true → Lowest ys l → EndPair xs ys e e l
@@ -123,15 +124,15 @@ module _ {table : List ℕ} {x y b e from : ℕ} {pause : Pause} where
           end = λ j i. l .end j (old j i);
           after = λ j i. l .after j (old j i);
           all = λ j i c. let other : j ≡ k → ⊥ = λ q. let n = f .any i (meets j i q c) in omega arith in
-              record { yes = d .rest k first j ∙ both (l .all j i c .yes) (ap not (ne-eqb j k other)) };
+              in-dropped first d j .1 (l .all j i c, other);
         }
       where
         old : (j : ℕ) → In left′ j → In left j
-        old j i = record { yes = both-true (has left j) (not (eqb j k)) (sym (d .rest k first j) ∙ i .yes) .0 }
+        old j i = in-dropped first d j .0 i .0
 
         meets : (j i : ℕ) → j ≡ k → CutAt table x y b e pause from j i → Meets 1 table y (k + pause .least) end e i
         meets j i q c = let early = c .early in let late = c .late in
             record { from = omega arith; upto = u .at i .1 (omega arith, rw q at (c .quiet)); moment = c .begin; max = in-alone (c .begins) }
 
   pub left-none : {left k m : ℕ} → Left table x y b e pause from left → left ≡ 0 → CutAt table x y b e pause from k m → ⊥
-  left-none {k = k} {m = m} l z c = not-both (ap (λ (w : ℕ). has w k) (sym z) ∙ l .all k m c .yes) (has-zero k)
+  left-none {k = k} {m = m} l z c = in-zero z (l .all k m c)

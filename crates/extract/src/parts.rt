@@ -11,8 +11,8 @@ ghost use Rattle.extract.specs.Code.Search.{Within, CutAt, CutReady, Sta
 ghost use Rattle.extract.specs.Code.Parts.{noParts, onePart, twoParts, PlacedParts, Unseen, ChoosableBy, ChosenBy};
 use crate::search;
 use model::Triple;
-use reading::pauses::Timeline;
 use reading::pauses::Pause;
+use reading::pauses::Timeline;
 use reading::pauses::at_once;
 use words::MOMENTS;
 

@@ -15,7 +15,9 @@ use Rattle.reading.specs.Reading.{whole, Reading, act, test, sequence, first, s
 use Rattle.reading.proofs.Step.{onward}
 use Rattle.words.specs.Scan.{count}
 use Rattle.lengths.specs.Code.Bound.{isWhile, loopAbove, weight, lengthBound}
-use Rattle.lengths.proofs.Sums.{total, times-first, times-second, times-at, below-times, sum-le, total-cong, total-mul, joined-le}
+use Rattle.words.proofs.Choices.{cond-all}
+use Rattle.bitset.proofs.Sums.{sum-le}
+use Rattle.lengths.proofs.Sums.{total, times-at, below-times, total-cong, total-mul, joined-le}
 use Rattle.lengths.proofs.Tree.{Lower, branch, branch-is, root-is}
 use Rattle.lengths.proofs.Words.{nodes, words-le}
 use Rattle.lengths.proofs.Loops.{root-free, child-above}
@@ -54,32 +56,32 @@ module _ {P : Procedure} (low : Lower P) (once : NamedOnce P) (n : ℕ) where
   light-le (act f s d) l t h = omega (arith, light Act f l t)
   light-le (test f s d) l t h = omega (arith, light Test f l t)
   light-le {p = p} (sequence f x y) l t h =
-      let (lx, tx) = free Sequence f l t refl _ (times-first (fieldX P p) (fieldY P p ∷ [])) in
-      let (ly, ty) = free Sequence f l t refl _ (times-second (fieldX P p) (fieldY P p) []) in
+      let (lx, tx) = free Sequence f l t refl _ (times-at (fieldX P p ∷ fieldY P p ∷ []) 0 (omega arith)) in
+      let (ly, ty) = free Sequence f l t refl _ (times-at (fieldX P p ∷ fieldY P p ∷ []) 1 (omega arith)) in
       let hx = onward x in
       let hy = onward y in
       rw length-append (omega (arith, light Sequence f l t, light-le x lx tx (omega arith), light-le y ly ty (omega arith)))
   light-le {p = p} (first f x) l t h =
-      let (lx, tx) = free Choice f l t refl _ (times-first (fieldX P p) (fieldY P p ∷ [])) in omega (arith, light Choice f l t, light-le x lx tx h)
+      let (lx, tx) = free Choice f l t refl _ (times-at (fieldX P p ∷ fieldY P p ∷ []) 0 (omega arith)) in omega (arith, light Choice f l t, light-le x lx tx h)
   light-le {p = p} (second f x) l t h =
-      let (lx, tx) = free Choice f l t refl _ (times-second (fieldX P p) (fieldY P p) []) in omega (arith, light Choice f l t, light-le x lx tx h)
+      let (lx, tx) = free Choice f l t refl _ (times-at (fieldX P p ∷ fieldY P p ∷ []) 1 (omega arith)) in omega (arith, light Choice f l t, light-le x lx tx h)
   light-le {p = p} (taken f s x) l t h =
-      let (lx, tx) = free If f l t refl _ (times-first (fieldY P p) (fieldM P p ∷ [])) in omega (arith, light If f l t, light-le x lx tx h)
+      let (lx, tx) = free If f l t refl _ (times-at (fieldY P p ∷ fieldM P p ∷ []) 0 (omega arith)) in omega (arith, light If f l t, light-le x lx tx h)
   light-le {p = p} (otherwise f s x) l t h =
-      let (lx, tx) = free If f l t refl _ (times-second (fieldY P p) (fieldM P p) []) in omega (arith, light If f l t, light-le x lx tx h)
+      let (lx, tx) = free If f l t refl _ (times-at (fieldY P p ∷ fieldM P p ∷ []) 1 (omega arith)) in omega (arith, light If f l t, light-le x lx tx h)
   light-le {p = p} {b = b} {e = e} (loop f r) l t h =
-      let (lower, above) = child While f l (fieldY P p) (times-first (fieldY P p) []) in
+      let (lower, above) = child While f l (fieldY P p) (times-at (fieldY P p ∷ []) 0 (omega arith)) in
       let passes = words-le low r (omega arith) in
       omega (arith, light While f l t, heavy (P .count) (fieldY P p) (omega arith) (omega arith) above, mul-le-mul-left {m = e - b} {n = n} (nodes P (fieldY P p)) (omega arith))
   light-le {p = p} (startWindow f x y g k d) l t h =
-      let (lx, tx) = free StartWindow f l t refl _ (times-first (fieldX P p) (fieldY P p ∷ [])) in
-      let (ly, ty) = free StartWindow f l t refl _ (times-second (fieldX P p) (fieldY P p) []) in
+      let (lx, tx) = free StartWindow f l t refl _ (times-at (fieldX P p ∷ fieldY P p ∷ []) 0 (omega arith)) in
+      let (ly, ty) = free StartWindow f l t refl _ (times-at (fieldX P p ∷ fieldY P p ∷ []) 1 (omega arith)) in
       let hx = onward x in
       let hy = onward y in
       rw length-append (omega (arith, light StartWindow f l t, light-le x lx tx (omega arith), light-le y ly ty (omega arith)))
   light-le {p = p} (endWindow f x y g k q) l t h =
-      let (lx, tx) = free EndWindow f l t refl _ (times-first (fieldX P p) (fieldY P p ∷ [])) in
-      let (ly, ty) = free EndWindow f l t refl _ (times-second (fieldX P p) (fieldY P p) []) in
+      let (lx, tx) = free EndWindow f l t refl _ (times-at (fieldX P p ∷ fieldY P p ∷ []) 0 (omega arith)) in
+      let (ly, ty) = free EndWindow f l t refl _ (times-at (fieldX P p ∷ fieldY P p ∷ []) 1 (omega arith)) in
       let hx = onward x in
       let hy = onward y in
       rw length-append (omega (arith, light EndWindow f l t, light-le x lx tx (omega arith), light-le y ly ty (omega arith)))
@@ -95,11 +97,7 @@ module _ {P : Procedure} (low : Lower P) (once : NamedOnce P) (n : ℕ) where
   length-le {r = r} c x h = rw (root-is low (weight P n) r c once) at (light-le x (omega arith) (root-free low r c) h)
 
 weight-le : (P : Procedure) (n q : ℕ) → weight P n q ≤ max 1 n
-weight-le P n q = go (loopAbove P q)
-  where
-    go : (t : Bool) → cond t n 1 ≤ max 1 n
-    go true = omega arith
-    go false = omega arith
+weight-le P n q = cond-all (λ w. w ≤ max 1 n) (loopAbove P q) (omega arith) (omega arith)
 
 pub bound-le : (P : Procedure) (n : ℕ) → lengthBound P n ≤ P .count * max 1 n
 unfolding lengthBound

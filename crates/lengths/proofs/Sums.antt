@@ -26,33 +26,20 @@ unfolding count
 below-times q [] h l = absurd (omega arith)
 below-times {n} q (x ∷ xs) h l = by-cases (ℕ-discrete q x) (λ e. rw e (h .0)) (λ ne. below-times q xs (h .1) (rw (ne-eqb q x ne, zero-add) at l))
 
-pub times-first : (x : ℕ) (xs : List ℕ) → 0 < count x (x ∷ xs)
-unfolding count
-times-first x xs = rw (eq-eqb x x refl) (omega arith)
-
-pub times-second : (x y : ℕ) (xs : List ℕ) → 0 < count y (x ∷ y ∷ xs)
-unfolding count
-times-second x y xs = let h = times-first y xs in omega arith
-
 pub times-at : (xs : List ℕ) (i : ℕ) → i < length xs → 0 < count (getD xs i 0) xs
 unfolding count
 times-at [] i l = absurd (omega arith)
-times-at (x ∷ xs) zero l = times-first x xs
+times-at (x ∷ xs) zero l = rw (eq-eqb x x refl) (omega arith)
 times-at (x ∷ xs) (suc i) l = let h = times-at xs i (omega arith) in omega arith
 
 -- ---- sums below n
-
-pub sum-le : {f : ℕ → ℕ} (n m : ℕ) → ((i : ℕ) → i < n → f i ≤ m) → sumBelow f n ≤ n * m
-unfolding sumBelow
-sum-le zero m h = zero-le
-sum-le (suc n) m h = let a = sum-le n m (λ i l. h i (omega arith)) in let b = h n (omega arith) in omega arith
 
 pub sum-both : (f g : ℕ → ℕ) {h : ℕ → ℕ} (n : ℕ) → ((i : ℕ) → i < n → h i ≡ f i + g i) → sumBelow h n ≡ sumBelow f n + sumBelow g n
 unfolding sumBelow
 sum-both f g zero e = refl
 sum-both f g (suc n) e = omega (arith, sum-both f g n (λ i l. e i (omega arith)), e n (omega arith))
 
-sum-zero : {f : ℕ → ℕ} (n : ℕ) → ((i : ℕ) → i < n → f i ≡ 0) → sumBelow f n ≡ 0
+pub sum-zero : {f : ℕ → ℕ} (n : ℕ) → ((i : ℕ) → i < n → f i ≡ 0) → sumBelow f n ≡ 0
 unfolding sumBelow
 sum-zero zero h = refl
 sum-zero (suc n) h = omega (arith, sum-zero n (λ i l. h i (omega arith)), h n (omega arith))
@@ -85,7 +72,7 @@ sum-single f x (suc n) l =
 pub total-cong : {f g : ℕ → ℕ} (xs : List ℕ) → ((q : ℕ) → 0 < count q xs → f q ≡ g q) → total f xs ≡ total g xs
 unfolding total count
 total-cong [] h = refl
-total-cong (x ∷ xs) h = ap₂ _+_ (h x (times-first x xs)) (total-cong xs (λ q l. h q (omega arith)))
+total-cong (x ∷ xs) h = ap₂ _+_ (h x (times-at (x ∷ xs) 0 (omega arith))) (total-cong xs (λ q l. h q (omega arith)))
 
 pub total-mul : (f : ℕ → ℕ) (d : ℕ) (xs : List ℕ) → total (λ q. f q * d) xs ≡ total f xs * d
 unfolding total

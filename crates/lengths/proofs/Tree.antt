@@ -2,7 +2,7 @@
 -- Assumes nothing.
 use mathlib.Core.Path.{_≡_, refl, sym, ap, ap₂, _∙_}
 use Prim.Native.Nat.{ℕ, zero, suc, _+_, _*_, _≤_, _<_}
-use native.Mathlib.Nat.{le-refl, le-of-eq, one-mul, add-mul}
+use native.Mathlib.Nat.{le-refl, le-of-eq, one-mul, zero-mul, add-mul}
 use native.Mathlib.Omega.{arith}
 use Rattle.bitset.specs.Code.Members.{sumBelow}
 use Rattle.model.specs.Procedure.{Procedure}
@@ -10,7 +10,7 @@ use Rattle.words.specs.Scan.{count}
 use Rattle.model.specs.Code.Forms.{children, Below, NamedOnce}
 use Rattle.model.proofs.Forms.{below-le}
 use Rattle.bitset.proofs.Sums.{sum-cong}
-use Rattle.lengths.proofs.Sums.{total, below-times, sum-both, total-cong, total-times}
+use Rattle.lengths.proofs.Sums.{total, below-times, sum-both, sum-zero, total-cong, total-times}
 
 -- children have lower numbers
 pub record Lower (P : Procedure) : Type 0 where
@@ -42,11 +42,7 @@ module _ {P : Procedure} (lower : Lower P) where
     named-sum : (f : ℕ → ℕ) (r n : ℕ) → n ≤ suc r → n ≤ P .count
         → sumBelow (λ p. total f (children P p)) n ≡ sumBelow (λ q. sumBelow (λ p. count q (children P p)) n * f q) r
     unfolding sumBelow
-    named-sum f r zero h l = sym (zeros r)
-      where
-        zeros : (k : ℕ) → sumBelow (λ q. 0 * f q) k ≡ 0
-        zeros zero = refl
-        zeros (suc k) = omega (arith, zeros k)
+    named-sum f r zero h l = sym (sum-zero r (λ q k. zero-mul (f q)))
     named-sum f r (suc n) h l =
         ap₂ _+_ (named-sum f r n (omega arith) (omega arith)) (total-times f r (children P n) (below-le (children P n) (omega arith) (lower .at n l)))
         ∙ sym (sum-both (λ q. sumBelow (λ p. count q (children P p)) n * f q) (λ q. count q (children P n) * f q) r (λ q k. add-mul (sumBelow (λ p. count q (children P p)) n) (count q (children P n)) (f q)))

@@ -3,7 +3,7 @@
 --     Transfer  readings go over to a procedure and a trajectory that agree where they look, and know more
 --     Agreement two that agree where readings look have the same table and count
 --     Quiet     the pause of an end window
---     Windows   the windows after the members of a set
+--     Windows   the moments that lie a pause after the members of a set
 --     Nodes     nodes by their words
 --     Tables    the table as it is filled
 --     Listing   the table's ends, listed

@@ -10,6 +10,7 @@ use lib.ListN.{length, getD, length-append}
 use Rattle.model.specs.Code.Table.{InTable}
 use Rattle.words.specs.Tests.{indicator}
 use Rattle.bitset.specs.Code.Members.{has, In, countBelow, sumBelow, pairs, popCount}
+use Rattle.bitset.proofs.Sums.{sum-cong, sum-le}
 use Rattle.bitset.proofs.Counts.{count-le}
 use Rattle.model.specs.Trajectory.{Trajectory}
 use Rattle.model.specs.Procedure.{Procedure}
@@ -81,25 +82,15 @@ module _ {A : Type 0} where
   picks true x e = List·Memᴰ·head refl
   picks false x e = absurd (false≢true e)
 
-sum-same : {f g : ℕ → ℕ} (k : ℕ) → ((i : ℕ) → f i ≡ g i) → sumBelow f k ≡ sumBelow g k
-unfolding sumBelow
-sum-same zero h = refl
-sum-same (suc k) h = ap₂ _+_ (sum-same k h) (h k)
-
-sum-le : {f : ℕ → ℕ} (m k : ℕ) → ((i : ℕ) → f i ≤ m) → sumBelow f k ≤ m * k
-unfolding sumBelow
-sum-le m zero h = omega arith
-sum-le m (suc k) h = let r = sum-le m k h in let l = h k in omega arith
-
 -- how many pass a test, as a sum
 count-sum : (p : ℕ → Bool) (n : ℕ) → countBelow p n ≡ sumBelow (λ e. indicator (p e)) n
 unfolding countBelow sumBelow
 count-sum p zero = refl
 count-sum p (suc n) = ap (λ (k : ℕ). k + indicator (p n)) (count-sum p n)
 
-pairs-le : (t : List ℕ) → pairs t ≤ 64 * length t
+pairs-le : (t : List ℕ) → pairs t ≤ length t * 64
 unfolding pairs
-pairs-le t = sum-le 64 (length t) (λ i. count-le (has (getD t i 0)) 64)
+pairs-le t = sum-le (length t) 64 (λ i l. count-le (has (getD t i 0)) 64)
 
 -- the count fits 24 bits
 pub pairs-small : {P : Procedure} {T : Trajectory} {t : List ℕ} → Found P T t → pairs t < 2 ^ 24
@@ -131,7 +122,7 @@ distinct-row t i =
 length-row : (t : List ℕ) (i : ℕ) → length (row t i) ≡ popCount (getD t i 0)
 unfolding row ends
 length-row t i =
-    length-gather (ends t i) 64 ∙ sum-same 64 (λ e. length-only (has (getD t i 0) e) (triple i e)) ∙ sym (count-sum (has (getD t i 0)) 64)
+    length-gather (ends t i) 64 ∙ sum-cong 64 (λ e l. length-only (has (getD t i 0) e) (triple i e)) ∙ sym (count-sum (has (getD t i 0)) 64)
 
 -- the triple of a member is listed
 listed : (t : List ℕ) (p b e : ℕ) → b < 64 → e < 64 → p * 64 + b < length t → In (getD t (p * 64 + b) 0) e
@@ -174,5 +165,5 @@ module _ {P : Procedure} {T : Trajectory} {t : List ℕ} (few : P .count ≤ 64)
           listed t (s .node) (s .begin) (s .end) (omega arith) (omega arith) (omega (arith, h .size))
           (h .right (s .node) (s .begin) (s .end) q (omega arith) .1 (r .2)),
     );
-    many = length-gather (row t) (length t) ∙ sum-same (length t) (length-row t);
+    many = length-gather (row t) (length t) ∙ sum-cong (length t) (λ i l. length-row t i);
   }

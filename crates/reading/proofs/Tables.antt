@@ -11,7 +11,7 @@ use Rattle.model.specs.Code.Table.{InTable, rowAt}
 use Rattle.bitset.specs.Code.Members.{In}
 use Rattle.bitset.proofs.Bools.{not-both}
 use Rattle.bitset.proofs.Digits.{has-zero}
-use Rattle.bitset.proofs.In.{empty-entry}
+use Rattle.bitset.proofs.In.{in-zero, empty-entry}
 use Rattle.model.specs.Trajectory.{Trajectory}
 use Rattle.model.specs.Procedure.{Procedure}
 use Rattle.model.specs.Forms.{Set, formAt}
@@ -160,4 +160,4 @@ module _ {P : Procedure} {T : Trajectory} where
   }
     where
       none : {A : Type 0} (q b e : ℕ) → InTable t q b e → rowAt t q b ≡ 0 → A
-      none q b e i z = not-both ((subst (λ (x : ℕ). In x e) z i) .yes) (has-zero e)
+      none q b e i z = in-zero z i

@@ -12,8 +12,8 @@ ghost use Rattle.model.specs.Code.Table.{InTable};
 ghost use Rattle.reading.specs.Code.Rule.{InTurn, StartsWithin, EndsWithin};
 ghost use Rattle.reading.specs.Code.Quiet.{QuietIn};
 ghost use Rattle.reading.specs.Code.Table.{TwoRows, RowsThrough, WindowReady, After, RowReady, RowOf};
-use crate::pauses::Timeline;
 use crate::pauses::Pause;
+use crate::pauses::Timeline;
 use crate::pauses::quiet_upto;
 use words::MOMENTS;
 

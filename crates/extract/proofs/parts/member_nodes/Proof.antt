@@ -1,13 +1,12 @@
 -- `extract::parts::member_nodes` meets its contract. The loop's invariant: the nodes of the members passed are there. Assumes nothing.
 use Prim.Native.Nat.{ℕ, _-_, _≤_, _<_}
-use mathlib.Core.Path.{_≡_, refl, _∙_}
+use mathlib.Core.Path.{_≡_, refl}
 use mathlib.Core.List.{List}
 use native.Mathlib.Omega.{arith}
-use borrow.Author.Count.{below-more}
 use borrow.Author.Needs.{needs}
-use lib.ListN.{length, getD, set, length-set}
-use lib.Seq.{getD-set-same, getD-set-other}
+use lib.ListN.{length, getD, length-set}
 use Rattle.words.specs.Fields.{memberNode}
+use Rattle.words.proofs.Entries.{entries-more}
 use Rattle.extract.proofs.parts.member_nodes.Statement.{statement}
 use Rattle.extract.proofs.parts.member_nodes.Tie as tie
 
@@ -34,9 +33,8 @@ loop-again c =
     record {
       upto = omega arith;
       long = simp length-set (l .inv .long);
-      node = below-more (λ j. getD (set (l .nodes) (l .i) v) j 0 ≡ memberNode (getD (s .args .members .now) j 0)) (l .i)
-          (λ j g. getD-set-other (l .nodes) (l .i) j v 0 (omega arith) ∙ l .inv .node j g)
-          (getD-set-same (l .nodes) (l .i) v 0 (omega (arith, l .inv .long, s .pre, c .before .before .loop-test .taken)) ∙ c .member-node .ensures .0);
+      node = entries-more (λ j. j) (λ j w. w ≡ memberNode (getD (s .args .members .now) j 0)) (l .nodes) (l .i) v
+          (omega (arith, l .inv .long, s .pre, c .before .before .loop-test .taken)) (λ j g. omega arith) (l .inv .node) (c .member-node .ensures .0);
     }
 
 pub member-nodes-spec : {M : Type 1} → statement M
