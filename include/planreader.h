@@ -216,7 +216,7 @@ enum planreader_node_form {
     PLANREADER_IF = 4, /* if formula X then node Y else node M */
     PLANREADER_WHILE = 5, /* while formula X do node Y */
     PLANREADER_START_WINDOW = 6, /* node Y begins M to N moments after node X begins */
-    PLANREADER_END_WINDOW = 7, /* node Y begins M to N moments after node X ends, and no action of the plan starts in between */
+    PLANREADER_END_WINDOW = 7, /* node Y begins M to N moments after node X ends, and no action starts from X's end on and before Y's begin */
     PLANREADER_TASK_SET = 8 /* the members that follow */
 };
 

@@ -38,9 +38,9 @@ impl Nodes {
     }
 
     /// Two tests of a formula, the second at most `span` later, whatever starts in between: a start window.
-    pub fn span(&mut self, formula: usize, span: usize) -> usize {
+    pub fn span(&mut self, formula: usize, length: usize) -> usize {
         let (x, y) = (self.test(formula), self.test(formula));
-        self.add(node(6, x, y, 0, span), &[])
+        self.add(node(6, x, y, 0, length), &[])
     }
 
     pub fn set(&mut self, members: &[usize], conditions: &[u32]) -> usize {

@@ -19,5 +19,6 @@ fn all_tiny_plans_get_what_their_moments_say() {
     let report = wait_tiny::run(&[0, 1, 2, 3, 4], &host::find);
     report.print(0, "tiny plans with end windows", &wait_tiny::COLUMNS);
     assert_eq!(report.differences, 0);
+    assert_eq!(report.cases, 298_782);
     assert!(report.tally.count(wait_tiny::ROW, "0") > 5_000 && report.tally.count(wait_tiny::ROW, "13") > 5_000);
 }

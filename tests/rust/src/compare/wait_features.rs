@@ -20,7 +20,7 @@ struct Pause<'a> {
     m: usize,
 }
 
-/// Starts at the edges of a pause, each the only moment of k..m with one.
+/// Starts at the edges of a pause, each the only moment from k to m with one.
 pub const EDGES: [&str; 7] = [
     "pause of 0: start at k = m",
     "pause of 1: start at k alone",
@@ -48,7 +48,7 @@ pub const PAUSES: [&str; 13] = [
     "window M..N",
 ];
 
-/// What stands above and below a window that waits.
+/// What stands above a window that waits.
 pub const NESTS: [&str; 4] = ["in a loop", "in an end window", "in a start window", "in a set"];
 
 /// What L2 changes.

@@ -57,7 +57,7 @@ pub fn crowded(random: &mut Random) -> FindCase {
     FindCase { job: draft.words(), starts }
 }
 
-/// Two tests with a wide window between them; the first formula always holds. Few of them are end windows, which starts cut short.
+/// Two tests with a wide window between them; the first formula always holds. One in four is an end window, which starts cut short.
 fn add_wide(random: &mut Random, draft: &mut Draft) -> usize {
     let x = draft.nodes.len();
     for _ in 0..2 {

@@ -1,5 +1,5 @@
 //! Cases for end windows (L2): a program is drawn and carried out, which gives the starts and the pauses; then starts are
-//! added at the edges of these pauses. By the rule before L2 the program as drawn reads the plan mostly; now a start in a pause decides.
+//! added at the edges of these pauses. By the rule before L2 the program as drawn mostly reads the plan; now a start in a pause decides.
 
 use crate::generate::draft::Draft;
 use crate::generate::finds::{self, FindCase};
