@@ -66,7 +66,7 @@ module _ (job starts : List ℕ) (w : Arrays) (ok : jobRefusal job .number ≡ 0
     -- the root's last bit is set: the writer may go on
     pub emit-ready : {started size : ℕ} → AllStarts (startIn (w .starts)) started → endIn table (w .count - 1) 0 (w .last) ≡ true → 4096 ≤ size
         → Emittable (procedureIn job w) (trajectoryIn w) started (length job) (w .places) table size
-    emit-ready any h l =
+    emit-ready mask h l =
         emittable (record { ready = readable; found = t .table; mask = mask }) (named-there (c .agrees) (once-job job ok)) some-node (record { yes = h }) (omega arith)
 
     -- what it wrote is a reading of the root
