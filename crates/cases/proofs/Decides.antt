@@ -12,7 +12,7 @@ use borrow.Author.Tests.{eqb-true, eq-eqb, leb-true, le-leb, not-true}
 use Rattle.sets.specs.Code.Rows.{entryAt}
 use Rattle.words.specs.Scan.{anyBelow}
 use Rattle.words.specs.Tests.{implies}
-use Rattle.words.proofs.Choices.{implies-true}
+use Rattle.words.proofs.Choices.{implies-true, within-true, true-within}
 use Rattle.words.proofs.AnyBelow.{some-law}
 use Rattle.words.proofs.AllBelow.{allBelow, all-law}
 use Rattle.words.specs.Fields.{fails, holds, conditionFormula, conditionI, conditionJ, conditionM, conditionN}
@@ -206,7 +206,7 @@ between n a f g = Iff·trans (some-law (λ m. leb a m && (f m && g m)) (suc n)) 
 
 -- lo ≤ m ≤ hi
 within-law : (lo hi m : ℕ) → Tells (leb lo m && leb m hi) ((lo ≤ m) × (m ≤ hi))
-within-law lo hi m = and-law (leb lo m) (leb m hi) (le-law lo m) (le-law m hi)
+within-law lo hi m = (within-true lo hi m, λ h. true-within lo hi m (h .0) (h .1))
 
 start-law : (n e lo hi : ℕ) (f : ℕ → Bool) (g : ℕ → ℕ → Bool)
     → Tells (anyBelow (λ m. (leb lo m && leb m hi) && anyBelow (λ k. f k && anyBelow (λ l. eqb e (max k l) && g m l) (suc e)) (suc e)) (suc n))
