@@ -47,7 +47,8 @@ pub record After (ends : ℕ) (pause : Pause) (n m : ℕ) : Type 0 where
   pub upto : m ≤ n
   pub quiet : QuietIn (pause .started) end m
 
--- what the row of node p at b needs, p being no task set and `started` the moments at which some action starts, and what it is: its members are the ends that the rule of p's form allows, by the table
+-- what the row of node p at b needs, p being no task set and `started` the moments at which some action starts, and what it is: its members
+-- are the ends that the rule of p's form allows, by the table
 pub record RowReady (P : Procedure) (T : Trajectory) (started : ℕ) (t : List ℕ) (p b : ℕ) : Type 0 where
   pub lower : Below p (children P p)
   pub single : formAt P p ≡ Set → ⊥

@@ -129,9 +129,6 @@ module _ (t : ℕ) where
   read-form-of : lts.Need-shared-slice-read-form-of (calls t) (own-at t) own.Post
   read-form-of c = place-inside (entry (c .before .before) .pre .1 .1)
 
-  form-of-requires : lts.Need-form-of-requires (calls t) (own-at t) own.Post
-  form-of-requires c κs = search needs
-
   add-passes : lts.Need-add-write-passes (calls t) (own-at t) own.Post
   add-passes c = let s = entry (stored (c .before)) in omega (arith, has-room (s .pre .1 .1), s .good)
 
@@ -312,14 +309,8 @@ module _ (t : ℕ) where
   read-node-y : passes-lts.Need-shared-slice-read-node-y (passes-calls t) (passes-at t) passes.Post Inv-passes μ-loop-passes
   read-node-y c = place-inside (lent (c .before) .pre .1 .1)
 
-  node-y-requires : passes-lts.Need-node-y-requires (passes-calls t) (passes-at t) passes.Post Inv-passes μ-loop-passes
-  node-y-requires c κs = search needs
-
   passes-loop-holds : passes-lts.Need-loop-holds (passes-calls t) (passes-at t) passes.Post Inv-passes μ-loop-passes
   passes-loop-holds c = λ u s f. pass-start s f _
-
-  once-requires : passes-lts.Need-at-once-requires (passes-calls t) (passes-at t) passes.Post Inv-passes μ-loop-passes
-  once-requires c κs = search needs
 
   add-cut : passes-lts.Need-add-cut (passes-calls t) (passes-at t) passes.Post Inv-passes μ-loop-passes
   add-cut c = let l = c .before in omega (arith, l .loop-test .taken, moments (head (l .before .before) .pre .1 .1) .2)
@@ -372,6 +363,6 @@ pub +write-parts+write-passes+write-reading-spec : {M : Type 1} → statement M
     (λ t. parts-lts.spec (parts-calls t) (parts-at t) parts.Post Inv-parts μ-loop-parts
     (choose-parts-requires t) (parts-loop-holds t) (mul-node t) (read-node t) (mul-begin t) (read-begin t) (cast-begin t) (mul-end t) (read-end t) (cast-end t) (part-requires t) (add-i t) (parts-loop-less t) (parts-loop-again t) (parts-same-length t) (parts-returns t))
     (λ t. passes-lts.spec (passes-calls t) (passes-at t) passes.Post Inv-passes μ-loop-passes
-    (passes-mul-place t) (passes-copy-place t) (mul-node-y t) (read-node-y t) (node-y-requires t) (passes-loop-holds t) (once-requires t) (add-cut t) (cut-requires t) (pass-requires t) (passes-loop-less t) (passes-loop-again t) (passes-same-length t) (passes-returns t))
+    (passes-mul-place t) (passes-copy-place t) (mul-node-y t) (read-node-y t) (λ c κs. search needs) (passes-loop-holds t) (λ c κs. search needs) (add-cut t) (cut-requires t) (pass-requires t) (passes-loop-less t) (passes-loop-again t) (passes-same-length t) (passes-returns t))
     (λ t. lts.spec (calls t) (own-at t) own.Post
-    (reading-word-requires t) (mul-buf t) (slice-write-buf t) (mul-place t) (copy-place t) (mul-form-of t) (read-form-of t) (form-of-requires t) (add-passes t) (write-passes-requires t) (same-length t) (returns t) (add-parts t) (write-parts-requires t) (same-length-2 t) (returns-2 t))
+    (reading-word-requires t) (mul-buf t) (slice-write-buf t) (mul-place t) (copy-place t) (mul-form-of t) (read-form-of t) (λ c κs. search needs) (add-passes t) (write-passes-requires t) (same-length t) (returns t) (add-parts t) (write-parts-requires t) (same-length-2 t) (returns-2 t))
