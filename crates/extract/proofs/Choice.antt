@@ -19,8 +19,7 @@ use Rattle.reading.specs.Code.Rule.{Rule}
 use Rattle.reading.proofs.Step.{step, carry}
 use Rattle.reading.proofs.Nodes.{members-lower}
 use Rattle.reading.proofs.Quiet.{quiet-law}
-use Rattle.reading.specs.Code.Quiet.{atOnce}
-use Rattle.reading.specs.declared.pauses.Pause.{Pause}
+use Rattle.reading.specs.Code.Quiet.{pauseOf, atOnce}
 use Rattle.extract.specs.Code.Search.{CutAt, StartAt}
 use Rattle.extract.specs.declared.parts.Parts.{Parts}
 use Rattle.extract.specs.Code.Parts.{noParts, onePart, twoParts, PlacedParts, Prepared, Chosen}
@@ -145,24 +144,20 @@ module _ {P : Procedure} {T : Trajectory} {started size : ℕ} {places table : L
         let q : m ≡ k = omega arith in
         chosen-two (omega arith) (omega arith) (c .ends) (c .begins) (moment _ _ _ (c .begin) (c .begins)) (λ us vs r t. sequence f (rw ex at r) (rw (ey, q) at t))
 
-  module _ {x y least most : ℕ} (f : formAt P p ≡ EndWindow) (ex : x ≡ fieldX P p) (ey : y ≡ fieldY P p) (em : least ≡ fieldM P p) (en : most ≡ fieldN P p) where
-    -- the pause of the window
-    abbrev pub paused : Pause
-    paused = record { least = least; most = most; started = started }
-
-    pub end-some : (k : ℕ) × (m : ℕ) × CutAt table x y b e paused b k m
+  module _ {x y : ℕ} (f : formAt P p ≡ EndWindow) (ex : x ≡ fieldX P p) (ey : y ≡ fieldY P p) where
+    pub end-some : (k : ℕ) × (m : ℕ) × CutAt table x y b e (pauseOf (P .node p) started) b k m
     end-some =
         let r = rule EndWindow f in
         let l = r .upto in
         let g = r .early in
         let small = s .ready .moments in
-        (r .k, r .m, record { after = r .after; end = omega arith; early = rw em g; late = rw en (r .late); quiet = quiet-law T (s .mask) (r .k) (r .m) .1 (r .quiet); begin = omega arith; ends = rw ex (r .left); begins = rw ey (r .right) })
+        (r .k, r .m, record { after = r .after; end = omega arith; early = g; late = r .late; quiet = quiet-law T (s .mask) (r .k) (r .m) .1 (r .quiet); begin = omega arith; ends = rw ex (r .left); begins = rw ey (r .right) })
 
-    pub end-chosen : {k m : ℕ} → CutAt table x y b e paused b k m → Chosen P T table p b e (twoParts x b k y m e)
+    pub end-chosen : {k m : ℕ} → CutAt table x y b e (pauseOf (P .node p) started) b k m → Chosen P T table p b e (twoParts x b k y m e)
     end-chosen {k} {m} c =
         let (lx, (ly, none)) = lowers EndWindow f in
         chosen-two (omega arith) (omega arith) (c .ends) (c .begins) (moment _ _ _ (c .begin) (c .begins))
-        (λ us vs r t. endWindow f (rw ex at r) (rw ey at t) (rw em at (c .early)) (rw en at (c .late)) (quiet-law T (s .mask) k m .0 (c .quiet)))
+        (λ us vs r t. endWindow f (rw ex at r) (rw ey at t) (c .early) (c .late) (quiet-law T (s .mask) k m .0 (c .quiet)))
 
   module _ {x y least most : ℕ} (f : formAt P p ≡ StartWindow) (ex : x ≡ fieldX P p) (ey : y ≡ fieldY P p) (em : least ≡ fieldM P p) (en : most ≡ fieldN P p) where
     pub start-some : (k : ℕ) × (m : ℕ) × (l : ℕ) × StartAt table x y b e least most k m l

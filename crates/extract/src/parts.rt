@@ -14,6 +14,7 @@ use model::Triple;
 use reading::pauses::Pause;
 use reading::pauses::Timeline;
 use reading::pauses::at_once;
+use reading::pauses::pause_of;
 use words::MOMENTS;
 
 pub struct Parts {
@@ -190,18 +191,7 @@ pub fn choose_parts(
         // a loop's passes are found one at a time
         5 => none(),
         6 => start_window_parts(table, x, y, m, most, b, e),
-        7 => end_window_parts(
-            table,
-            x,
-            y,
-            Pause {
-                least: m,
-                most,
-                started: timeline.started,
-            },
-            b,
-            e,
-        ),
+        7 => end_window_parts(table, x, y, pause_of(word, timeline.started), b, e),
         8 => set_parts(words, place, values, timeline.last, table, b, e),
         // reserved: refused in a job, and nothing reads such a node
         9.. => none(),

@@ -1,7 +1,7 @@
 // The pause of an end window: how long it may last, and that it is quiet (no action starts in it).
 ghost use mathlib.Core.Path.{_≡_};
 ghost use Prim.Native.Nat.{_<_};
-ghost use Rattle.reading.specs.Code.Quiet.{startIn, AllStarts, QuietUpto, atOnce};
+ghost use Rattle.reading.specs.Code.Quiet.{startIn, AllStarts, QuietUpto, pauseOf, atOnce};
 
 // The last moment of a plan, and the set of the moments at which some action starts.
 pub struct Timeline {
@@ -14,6 +14,17 @@ pub struct Pause {
     pub least: usize,
     pub most: usize,
     pub started: u64,
+}
+
+// The pause that an end window of this word asks for.
+pub fn pause_of(word: u32, started: u64) -> Pause
+    ensures { λ r. ⌜ r ≡ pauseOf word started ⌝ }
+{
+    Pause {
+        least: words::node_m(word),
+        most: words::node_n(word),
+        started,
+    }
 }
 
 // No pause: what follows begins at once.

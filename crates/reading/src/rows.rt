@@ -14,6 +14,7 @@ ghost use Rattle.reading.specs.Code.Quiet.{QuietIn};
 ghost use Rattle.reading.specs.Code.Table.{TwoRows, RowsThrough, WindowReady, After, RowReady, RowOf};
 use crate::pauses::Pause;
 use crate::pauses::Timeline;
+use crate::pauses::pause_of;
 use crate::pauses::quiet_upto;
 use words::MOMENTS;
 
@@ -176,18 +177,7 @@ pub fn row(
         4 => if_row(values[x * MOMENTS + b], table, y, m, b),
         5 => while_row(values[x * MOMENTS + b], last, table, p, y, b),
         6 => start_window_row(last, table, x, y, m, most, b),
-        7 => end_window_row(
-            last,
-            table,
-            x,
-            y,
-            Pause {
-                least: m,
-                most,
-                started: timeline.started,
-            },
-            b,
-        ),
+        7 => end_window_row(last, table, x, y, pause_of(word, timeline.started), b),
         // 9 to 15 are reserved: refused in a job, and nothing reads such a node (8 is none of `row`'s, see `fill_node`)
         8.. => 0,
     }

@@ -6,6 +6,7 @@ use mathlib.Core.Logic.{_↔_}
 use mathlib.Core.List.{List}
 use lib.ListN.{getD}
 use Rattle.bitset.specs.Code.Members.{has, In}
+use Rattle.words.specs.Fields.{nodeM, nodeN}
 use Rattle.reading.specs.declared.pauses.Pause.{Pause}
 
 -- action a starts at t, by the sets of each action's start moments
@@ -23,6 +24,10 @@ QuietIn started k m = (t : ℕ) → k ≤ t → t < m → has started t ≡ fals
 -- r is the latest moment to which a pause from k on may last: it is no longer than `most`, and quiet
 pub record QuietUpto (pause : Pause) (k r : ℕ) : Type 0 where
   pub at : (m : ℕ) → (m ≤ r) ↔ ((m ≤ k + pause .most) × QuietIn (pause .started) k m)
+
+-- the pause that an end window of this word asks for
+abbrev pub pauseOf : ℕ → ℕ → Pause
+pauseOf w started = record { least = nodeM w; most = nodeN w; started = started }
 
 -- what follows begins at once
 abbrev pub atOnce : Pause

@@ -96,14 +96,15 @@ start-requires c κs =
 
 end-requires : tie.Need-end-window-parts-requires-2
 end-requires c κs =
-    let f = c .before in
+    let a = c .before in
+    let f = a .before in
     let h = entry f .pre .1 in
-    record {
+    rw (c .pause-of .ensures) (record {
       within = pair f;
-      early = f .before .before .node-m .ensures .1;
-      late = f .before .node-n .ensures .1;
-      some = end-some (h .prepared) (h .known) (h .within) (h .found) (form-is f (c .match .keys8)) (x-is f) (y-is f) (m-is f) (n-is f);
-    }
+      early = rw (← m-is f) (f .before .before .node-m .ensures .1);
+      late = rw (← n-is f) (f .before .node-n .ensures .1);
+      some = end-some (h .prepared) (h .known) (h .within) (h .found) (form-is f (a .match .keys8)) (x-is f) (y-is f);
+    })
 
 set-requires : tie.Need-set-parts-requires
 set-requires c κs =
@@ -151,10 +152,10 @@ start-returns c = λ u h.
 
 end-returns : tie.Need-returns-8
 end-returns c = λ u h.
-    let a = c .before in
+    let a = c .before .before in
     let f = a .before in
     let (k, l, found, is) = c .end-window-parts2 .ensures in
-    rw is (end-chosen (h .prepared) (h .known) (h .within) (h .found) (form-is f (a .match .keys8)) (x-is f) (y-is f) (m-is f) (n-is f) found)
+    rw is (end-chosen (h .prepared) (h .known) (h .within) (h .found) (form-is f (a .match .keys8)) (x-is f) (y-is f) (rw (c .before .pause-of .ensures) at found))
 
 set-returns : tie.Need-returns-9
 set-returns c = λ u h. let a = c .before in
@@ -176,7 +177,7 @@ choose-parts-spec =
     (λ c κs. search needs) sequence-requires choice-requires (λ c. search needs)
     (λ c. omega (arith, moments (entry (c .before)) .0, at-x (c .before) .node-x .ensures .1))
     (λ c. omega (arith, moments (entry (c .before)) .0, at-x (c .before) .node-x .ensures .1))
-    (λ c κs. moments (entry (c .before .before))) (λ c κs. search needs) start-requires end-requires set-requires (λ c κs. search needs)
+    (λ c κs. moments (entry (c .before .before))) (λ c κs. search needs) start-requires (λ c κs. search needs) end-requires set-requires (λ c κs. search needs)
     act-returns test-returns sequence-returns choice-returns if-returns
     (λ c. λ u h. let a = c .before in absurd (h .other (form-is (a .before) (a .match .keys6)))) start-returns end-returns set-returns
     reserved-returns)

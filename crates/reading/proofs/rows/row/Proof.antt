@@ -95,13 +95,16 @@ start-window-row-requires c κs =
 
 end-window-row-requires : tie.Need-end-window-row-requires
 end-window-row-requires c κs =
-    let f = c .before in
+    let a = c .before in
+    let f = a .before in
     let s = entry f .pre in
-    let g = lower f (c .match .keys8) in
+    let g = lower f (a .match .keys8) in
     let x = x-is f in
-    let y = y-is f in (
+    let y = y-is f in
+    let m = m-is f in
+    let n = n-is f in (
       record { rows = record { begin = omega arith; first = omega arith; second = omega arith }; inside = s .inside _ (omega arith) },
-      search needs,
+      rw (c .pause-of .ensures) (record { moments = s .moments; from = omega (arith, f .before .before .node-m .ensures .1); upto = omega (arith, f .before .node-n .ensures .1) }),
     )
 
 -- ---- what each arm gives
@@ -123,9 +126,9 @@ returns-7 c = let a = c .before in λ e.
     rw (form-is (a .before) (a .match .keys7), ← n-is (a .before), ← m-is (a .before), ← y-is (a .before), ← x-is (a .before)) (c .start-window-row .ensures e)
 
 returns-8 : tie.Need-returns-8
-returns-8 c = let a = c .before in λ e.
-    rw (form-is (a .before) (a .match .keys8), ← n-is (a .before), ← m-is (a .before), ← y-is (a .before), ← x-is (a .before))
-    (Iff·trans (c .end-window-row .ensures e) (ends-law (trajectory (entry (a .before))) (entry (a .before) .pre .mask)))
+returns-8 c = let a = c .before .before in λ e.
+    rw (form-is (a .before) (a .match .keys8), ← y-is (a .before), ← x-is (a .before))
+    (Iff·trans (rw (c .before .pause-of .ensures) at (c .end-window-row .ensures e)) (ends-law (trajectory (entry (a .before))) (entry (a .before) .pre .mask)))
 
 returns-9 : tie.Need-returns-9
 returns-9 c =
@@ -138,7 +141,7 @@ row-spec =
     (tie.spec (λ c κs. search needs) (λ c κs. search needs) (λ c κs. search needs) (λ c κs. search needs) (λ c κs. search needs) (λ c. search needs)
     (λ c. search needs) (λ c. search needs) (λ c. search needs) (λ c κs. search needs) (λ c. search needs) (λ c. search needs) (λ c. search needs)
     (λ c κs. search needs) sequence-row-requires choice-row-requires (λ c. search needs) (λ c. search needs) (λ c. search needs) if-row-requires
-    (λ c. search needs) (λ c. search needs) (λ c. search needs) while-row-requires start-window-row-requires end-window-row-requires
+    (λ c. search needs) (λ c. search needs) (λ c. search needs) while-row-requires start-window-row-requires (λ c κs. search needs) end-window-row-requires
     (λ c. let a = c .before .before .before in λ e. rw (form-is (a .before) (a .match .keys1), ← x-is (a .before)) (c .act-row .ensures e))
     (λ c. let a = c .before .before in λ e. rw (form-is (a .before) (a .match .keys2), ← x-is (a .before)) (c .test-row .ensures e)) returns-3
     returns-4 returns-5 returns-6 returns-7 returns-8
