@@ -1,5 +1,7 @@
 -- What a reading (004's trace) is: node p is read from moment b to moment e, and ws are the words of the nodes that were used, each with
--- its begin and end. Starts that no act uses are allowed, but for those in the pause of an end window; b ≤ e follows (`onward`, proofs/Step.antt), and so do the parts' places in b..e. The mode tells a whole reading of a node from the passes of a loop, so that a loop's own word stands once.
+-- its begin and end. Starts that no act uses are allowed, but for those in the pause of an end window. That b ≤ e follows (`onward`,
+-- proofs/Step.antt), and so do the parts' places in b..e. The mode tells a whole reading of a node from the passes of a loop, so that a
+-- loop's own word stands once.
 use Prim.Native.Nat.{ℕ, _+_, _<_, _≤_, max}
 use mathlib.Core.Bool.{true, false}
 use mathlib.Core.Path.{_≡_}

@@ -1,6 +1,7 @@
 -- Laws that belong to no one function: Choices (what tests put together say), Scan (what a list of words has, from a position on), AnyBelow
--- and AllBelow (whether some number below n, or every one, passes a test), Lists (each word and each two, by their positions), Entries (the entries of a list after a
--- store), Concat (lists one after the other), Insert (a list with one word put in), Copies (lists written to a buffer).
+-- and AllBelow (whether some number below n, or every one, passes a test), Lists (each word and each two, by their positions), Entries (the
+-- entries of a list after a store), Concat (lists one after the other), Insert (a list with one word put in), Copies (lists written to a
+-- buffer).
 pub mod Choices
 pub mod Scan
 pub mod AnyBelow
