@@ -10,7 +10,7 @@ use borrow.Author.Needs.{needs}
 use Rattle.history.proofs.states.apply_start.Statement.{statement}
 use Rattle.history.proofs.states.apply_start.Tie as tie
 
-abbrev entry : tie.After-acts-arg → tie.Start
+abbrev entry : tie.After-finish-of → tie.Start
 entry c = c .before .before .before .before
 
 abbrev arm : tie.After-apply-arg → tie.Then1
@@ -24,10 +24,7 @@ acts-here c =
     let a = entry (c .before) .args in
     let p = entry (c .before) .pre .0 in
     acts-tabled (a .hiding) (a .t) (a .s) (p .tables .durations) (p .named .action 0 (omega arith)) (c .before .before .start-moment .ensures .0)
-    (c .before .before .before .start-action .ensures .0) (c .acts .ensures)
-
-add-acts : tie.Need-add-acts
-add-acts c = omega (arith, entry c .pre .0 .tables .durations .small (c .before .before .start-action .result), c .before .start-moment .ensures .1)
+    (c .before .finish-of .ensures) (c .acts .ensures)
 
 returns : tie.Need-returns
 returns c =
@@ -46,5 +43,5 @@ returns-2 c =
 pub apply-start-spec : {M : Type 1} → statement M
 apply-start-spec =
     tie.close
-    (tie.spec (λ c κs. search needs) (λ c κs. search needs) (λ c. search needs) (λ c. search needs) add-acts (λ c κs. search needs)
+    (tie.spec (λ c κs. search needs) (λ c κs. search needs) (λ c κs. c .before .before .before .pre .0 .tables .durations .small _) (λ c κs. search needs)
     (λ c. search needs) (λ c κs. search needs) (λ c κs. search needs) returns returns-2)
