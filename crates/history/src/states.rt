@@ -1,10 +1,10 @@
 // The history of a plan: the state (the values of the fluents) at moment 0, and from each moment to the next, where the starts in hand are
 // carried along.
 ghost use mathlib.Core.Path.{_≡_};
-ghost use mathlib.Core.Bool.{cond, _&&_};
+ghost use mathlib.Core.Bool.{_||_};
 ghost use mathlib.Core.List.{List, _∷_, []};
 ghost use Prim.Native.Nat.{ℕ, _+_, _<_, _≤_};
-ghost use lib.Dec.{eqb, ltb};
+ghost use lib.Dec.{eqb};
 ghost use lib.ListN.{length};
 ghost use Rattle.words.specs.Fields.{knownValue};
 ghost use Rattle.job.specs.Parts.{fluents};
@@ -28,7 +28,6 @@ use words::fluents_of;
 use words::kind_of;
 use words::known_value;
 use words::start_action;
-use words::start_moment;
 
 // Stores what the word `w` says that is initially known.
 fn store_known(head: u32, w: u32, state: &mut [u8; 64])
@@ -80,18 +79,14 @@ fn apply(effects: &[u8; 4096], a: usize, n: usize, hiding: bool, state: &mut [u8
     }
 }
 
-// A start at `u` that finishes at `end` hides at moment `t`, or finishes then.
-fn acts(u: usize, end: usize, hiding: bool, t: usize) -> bool
-    ensures { λ r. ⌜ r ≡ cond hiding (ltb u t && ltb t end) (eqb end t) ⌝ }
+// Whether a start that finishes at `end` acts in a pass to moment `t`: all hide, and those give that finish then.
+fn acts(end: usize, hiding: bool, t: usize) -> bool
+    ensures { λ r. ⌜ r ≡ (hiding || eqb end t) ⌝ }
 {
-    if hiding {
-        (u < t) & (t < end)
-    } else {
-        end == t
-    }
+    hiding | (end == t)
 }
 
-// Applies the start `s`, if it acts at moment `t`.
+// Applies the start `s`, if it acts in a pass to moment `t`.
 fn apply_start(
     job: &[u32],
     durations: &[usize; 64],
@@ -104,14 +99,12 @@ fn apply_start(
     requires { ⌜ Walkable (now job) (now durations) (now effects) (s ∷ []) × (fluents (now job) ≤ length (now state)) ⌝ }
     ensures { λ _. ⌜ AfterPass (now (job .entry)) hiding t (s ∷ []) (now (state .entry)) (now (state .exit)) ⌝ }
 {
-    let a = start_action(s);
-    let u = start_moment(s);
-    if acts(u, finish_of(durations, s), hiding, t) {
-        apply(effects, a, fluents_of(job[0]), hiding, state);
+    if acts(finish_of(durations, s), hiding, t) {
+        apply(effects, start_action(s), fluents_of(job[0]), hiding, state);
     }
 }
 
-// Applies all starts that act at moment `t`: from the last to the first, so that the first prevails.
+// Applies all starts that act in a pass to moment `t`: from the last to the first, so that the first prevails.
 fn apply_starts(
     job: &[u32],
     durations: &[usize; 64],
@@ -131,9 +124,8 @@ fn apply_starts(
     }
 }
 
-// From moment `t` to the next, where those in `starting` begin. Of the starts in hand, the first `count` words of `held`, those that finish
-// then make what they make, and over that the others leave open what they hide; then the held list is that of the next moment, and its
-// count is handed back.
+// From moment `t` to the next, where the starts in `starting` begin. Of the starts in hand, the first `count` words of `held`, those that
+// finish then give their effects; the others stay in hand, and so do those that begin, which do not hide yet. The number in hand then.
 fn step(
     job: &[u32],
     durations: &[usize; 64],
@@ -148,10 +140,11 @@ fn step(
     ensures { λ r. ⌜ ((S : List ℕ) → Ordered (now (job .entry)) S → now (starting .entry) ≡ startingAt S (t + 1) → Carried (now (job .entry)) S t (now (held .entry)) count (now (state .entry)) → Carried (now (job .entry)) S (t + 1) (now (held .exit)) r (now (state .exit))) ⌝ }
 {
     apply_starts(job, durations, effects, &held[..count], false, t + 1, state);
-    apply_starts(job, durations, effects, &held[..count], true, t + 1, state);
     let kept = keep_unfinished(durations, t + 1, held, count);
     copy_words(starting, kept, held);
-    kept + starting.len()
+    let all = kept + starting.len();
+    apply_starts(job, durations, effects, &held[..kept], true, t + 1, state);
+    all
 }
 
 // The one walk of the states, up to moment `last`. The first `next` starts have begun.

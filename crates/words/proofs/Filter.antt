@@ -1,5 +1,5 @@
 -- The words of a list that pass a test. Assumes nothing.
-use mathlib.Core.Bool.{Bool, true, false, cond, true≢false, _||_}
+use mathlib.Core.Bool.{Bool, true, false, cond, _&&_, _||_, true≢false}
 use mathlib.Core.List.{List, [], _∷_, _++_, append-nil, List·Memᴰ, List·Memᴰ·head, List·Memᴰ·tail, List·Memᴰ·not-nil, List·Memᴰ·cases-cons}
 use mathlib.Core.Logic.{_↔_, ⊎-elim}
 use mathlib.Core.Path.{_≡_, refl, ap, sym, _∙_}
@@ -87,10 +87,21 @@ module _ (test : ℕ → Bool) where
   mem-filter s S = (filter-mem s S, λ h. mem-filtered s (h .0) (h .1))
 
 -- two tests that agree on each word
-pub filter-agree : (f g : ℕ → Bool) {S : List ℕ} → Each (λ s. f s ≡ g s) S → filter f S ≡ filter g S
-unfolding filter
-filter-agree f g each-none = refl
-filter-agree f g (each-more e a) = rw (e, filter-agree f g a)
+module _ (f g : ℕ → Bool) where
+  pub filter-agree : {S : List ℕ} → Each (λ s. f s ≡ g s) S → filter f S ≡ filter g S
+  unfolding filter
+  filter-agree each-none = refl
+  filter-agree (each-more e a) = rw (e, filter-agree a)
+
+  pub any-agree : {S : List ℕ} → Each (λ s. f s ≡ g s) S → any f S ≡ any g S
+  unfolding any
+  any-agree each-none = refl
+  any-agree (each-more e a) = rw (e, any-agree a)
+
+  pub findOr-agree : (gives : ℕ → ℕ) (other : ℕ) {S : List ℕ} → Each (λ s. f s ≡ g s) S → findOr f gives other S ≡ findOr g gives other S
+  unfolding findOr
+  findOr-agree gives other each-none = refl
+  findOr-agree gives other (each-more e a) = rw (e, findOr-agree gives other a)
 
 -- two tests that no word passes both
 pub filter-apart : (f g : ℕ → Bool) → ((s : ℕ) → f s ≡ true → g s ≡ false) → (S : List ℕ) → length (filter f S) + length (filter g S) ≤ length S
@@ -105,27 +116,26 @@ filter-apart f g h (s ∷ S) = cases (f s) refl (g s) refl (filter-apart f g h S
     cases false e true q ih = omega arith
     cases false e false q ih = omega arith
 
--- a test that only words pass which are kept finds the same among these
+-- a test on the words kept is one on all words
 module _ (test keeps : ℕ → Bool) where
-  pub any-filter : {S : List ℕ} → Each (λ s. test s ≡ true → keeps s ≡ true) S → any test (filter keeps S) ≡ any test S
+  pub any-filter : (S : List ℕ) → any test (filter keeps S) ≡ any (λ s. keeps s && test s) S
   unfolding filter any
-  any-filter each-none = refl
-  any-filter (each-more {s} {ss = S} h a) = cases (keeps s) refl (test s) refl (any-filter a)
+  any-filter [] = refl
+  any-filter (s ∷ S) = cases (keeps s) (any-filter S)
     where
-      cases : (k : Bool) → keeps s ≡ k → (t : Bool) → test s ≡ t → any test (filter keeps S) ≡ any test S
-          → any test (cond k (s ∷ filter keeps S) (filter keeps S)) ≡ (t || any test S)
-      cases true e t f ih = rw (f, ih)
-      cases false e true f ih = absurd (true≢false (sym (h f) ∙ e))
-      cases false e false f ih = ih
+      cases : (k : Bool) → any test (filter keeps S) ≡ any (λ s. keeps s && test s) S
+          → any test (cond k (s ∷ filter keeps S) (filter keeps S)) ≡ ((k && test s) || any (λ s. keeps s && test s) S)
+      cases true ih = rw ih
+      cases false ih = ih
 
-  pub findOr-filter : (gives : ℕ → ℕ) (other : ℕ) {S : List ℕ} → Each (λ s. test s ≡ true → keeps s ≡ true) S
-      → findOr test gives other (filter keeps S) ≡ findOr test gives other S
+  pub findOr-filter : (gives : ℕ → ℕ) (other : ℕ) (S : List ℕ)
+      → findOr test gives other (filter keeps S) ≡ findOr (λ s. keeps s && test s) gives other S
   unfolding filter findOr
-  findOr-filter gives other each-none = refl
-  findOr-filter gives other (each-more {s} {ss = S} h a) = cases (keeps s) refl (test s) refl (findOr-filter gives other a)
+  findOr-filter gives other [] = refl
+  findOr-filter gives other (s ∷ S) = cases (keeps s) (findOr-filter gives other S)
     where
-      cases : (k : Bool) → keeps s ≡ k → (t : Bool) → test s ≡ t → findOr test gives other (filter keeps S) ≡ findOr test gives other S
-          → findOr test gives other (cond k (s ∷ filter keeps S) (filter keeps S)) ≡ cond t (gives s) (findOr test gives other S)
-      cases true e t f ih = rw (f, ih)
-      cases false e true f ih = absurd (true≢false (sym (h f) ∙ e))
-      cases false e false f ih = ih
+      cases : (k : Bool) → findOr test gives other (filter keeps S) ≡ findOr (λ s. keeps s && test s) gives other S
+          → findOr test gives other (cond k (s ∷ filter keeps S) (filter keeps S))
+          ≡ cond (k && test s) (gives s) (findOr (λ s. keeps s && test s) gives other S)
+      cases true ih = rw ih
+      cases false ih = ih
