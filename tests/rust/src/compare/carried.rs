@@ -50,7 +50,7 @@ pub fn run_largest(seed: u64, plans: usize, calls: &Calls) -> Report {
             0 => (carried::full(&mut run.random), (turn + 1) % 4),
             _ => (carried::nearly_full(&mut run.random), 4 + turn % 3),
         };
-        run.plan(&plan, Also { find: turn % 8 == 0, trial: matches!(number % 16, 5 | 10), slips: turn % 4 == 0 });
+        run.plan(&plan, Also { find: turn % 8 == 0, trial: matches!(number % 16, 5 | 10), slips: true });
         for damage in [damage::ALL[turn % 4], damage::ALL[other]] {
             let late = run.random.between(plan.starts.len() * 2 / 3, plan.starts.len());
             run.damaged(&plan, damage, late);
@@ -98,7 +98,8 @@ impl Run<'_> {
         let wrong = plan_damage::facts(&mut self.random, &read.facts, plan.draft.last, plan.draft.fluents);
         self.check(&job, &plan.starts, &wrong, &right);
         if also.slips {
-            let told = carried_rules::slips().into_iter().filter(|slip| carried_rules::tells(read, slip));
+            let slips = carried_rules::slips().into_iter().chain(carried_rules::late_slips());
+            let told = slips.filter(|slip| carried_rules::tells(read, slip));
             told.for_each(|slip| self.report.tally.add(&slip_row(slip.name), "0"));
         }
         if also.find {

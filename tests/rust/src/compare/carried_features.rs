@@ -4,7 +4,7 @@ use crate::checker::answer::{Answer, Refusal};
 use crate::checker::calls::Plan;
 use crate::checker::job::Known;
 use crate::checker::starts::{clash, Start};
-use crate::compare::carried_rules::slips;
+use crate::compare::carried_rules::{late_slips, slips};
 use crate::generate::carried_damage::Damage;
 use crate::tally::Tally;
 use std::collections::BTreeSet;
@@ -279,13 +279,13 @@ pub fn needed_of_largest(plans: usize) -> Vec<Needed> {
         needed.extend(columns.iter().map(|&column| (name.to_string(), column, least.max(1))));
     };
     need(ALL_STARTS, &["0"], plans / 2);
-    need(THOUSAND, &["0"], plans * 4 / 5);
+    need(THOUSAND, &["0"], plans * 3 / 4);
     need(LONG_LISTS, &["0"], plans / 2);
     need(LONG_LISTS, &["6"], plans);
     need(LONG_LISTS, &["7"], plans / 10);
-    need("check, at word 1,000 or later", &["6", "7", "8", "9", "10"], plans / 20);
+    need("check, at word 1,000 or later", &["6", "7", "8", "9", "10"], plans / 40);
     need("check, at word 1,000 or later", &["11"], 1);
-    need("fill, at word 1,000 or later", &["6", "7", "8", "9", "10"], plans / 20);
+    need("fill, at word 1,000 or later", &["6", "7", "8", "9", "10"], plans / 40);
     need("start, 1,000 starts or more", &["0"], plans / 40);
     need("show, 1,000 starts or more", &["0"], plans / 40);
     need("find", &["0", "13"], plans / 40);
@@ -296,5 +296,7 @@ pub fn needed_of_largest(plans: usize) -> Vec<Needed> {
         "an action again where it finishes",
     ];
     crowds.iter().for_each(|name| need(name, &["0"], plans / 4));
+    slips().iter().for_each(|slip| need(&slip_row(slip.name), &["0"], 1));
+    late_slips().iter().for_each(|slip| need(&slip_row(slip.name), &["0"], plans / 20));
     needed
 }

@@ -21,6 +21,8 @@ pub struct Moment<'a> {
     pub no_later: bool,
     /// Whether an earlier moment had no start.
     pub after_gap: bool,
+    /// How many starts of the plan are at earlier moments.
+    pub earlier: usize,
 }
 
 #[derive(Clone, Copy)]
@@ -125,7 +127,7 @@ const ADDING: [Rule; 12] = [
     },
     Rule {
         name: "the first start of a moment alone is added",
-        seen: |now| joined(now.held, &now.new[..few(now, 1)]),
+        seen: |now| joined(now.held, &cut(now.new, 1)),
         ..RIGHT
     },
     Rule {
@@ -212,9 +214,24 @@ const DOING: [Rule; 8] = [
     Rule { name: "what is hidden keeps its value", value: |_, given, before| first(given).or(before), ..RIGHT },
 ];
 
-/// All slips.
+/// Slips that show late in long lists alone.
+const LATE: [Rule; 3] = [
+    Rule { name: "starts behind word 1,000 are not added", seen: |now| up_to_word(now, 1_000), ..RIGHT },
+    Rule { name: "starts behind word 2,048 are not added", seen: |now| up_to_word(now, 2_048), ..RIGHT },
+    Rule { name: "starts behind word 3,500 are not added", seen: |now| up_to_word(now, 3_500), ..RIGHT },
+];
+
+/// All slips but the late ones.
 pub fn slips() -> Vec<Rule> {
     [&LEAVING[..], &ADDING, &ROOM, &DOING].concat()
+}
+
+pub fn late_slips() -> Vec<Rule> {
+    LATE.to_vec()
+}
+
+fn up_to_word(now: &Moment, most: usize) -> Vec<Start> {
+    joined(now.held, &cut(now.new, most.saturating_sub(now.earlier)))
 }
 
 fn finish(start: &Start) -> usize {
@@ -231,10 +248,6 @@ fn only(of: &[Start], test: impl Fn(&Start) -> bool) -> Vec<Start> {
 
 fn cut(list: &[Start], most: usize) -> Vec<Start> {
     list[..list.len().min(most)].to_vec()
-}
-
-fn few(now: &Moment, most: usize) -> usize {
-    now.new.len().min(most)
 }
 
 fn first(given: &[Option<bool>]) -> Option<bool> {
@@ -265,7 +278,8 @@ pub fn states_by(job: &Job, starts: &[Start], rule: &Rule) -> Vec<State> {
     let (mut held, mut rest, mut after_gap) = (vec![], starts, false);
     for t in 0..=job.last {
         let (new, later) = rest.split_at(rest.iter().take_while(|start| start.moment == t).count());
-        let now = Moment { t, last: job.last, held: &held, new, no_later: later.is_empty(), after_gap };
+        let (no_later, earlier) = (later.is_empty(), starts.len() - rest.len());
+        let now = Moment { t, last: job.last, held: &held, new, no_later, after_gap, earlier };
         let seen = (rule.seen)(&now);
         let state = match states.last() {
             None => first_state(job, new, rule),

@@ -69,14 +69,37 @@ pub fn full(random: &mut Random) -> LawfulPlan {
 /// 64 actions, n = 63 and a start wherever the rules allow one, but for two actions left for damage: one clashes with
 /// others, one has a need.
 pub fn nearly_full(random: &mut Random) -> LawfulPlan {
-    let laws = *random.pick(&[Laws::Usual, Laws::One, Laws::One, Laws::Turns]);
-    let durations = *random.pick(&[Durations::MostlyOne, Durations::MostlyOne, Durations::Short]);
+    let laws = *random.pick(&[Laws::Usual, Laws::One, Laws::Turns]);
+    let durations = *random.pick(&[Durations::MostlyOne, Durations::Short]);
     let when = When::Always;
-    let shape = Shape { last: 63, actions: 64, fluents: random.between(3, 5), durations, laws, when, idle: 0 };
+    let mut shape = Shape { last: 63, actions: 64, fluents: random.between(3, 5), durations, laws, when, idle: 0 };
     let mut actions = actions(random, &shape);
+    if random.chance(60) {
+        shape.fluents = 6;
+        actions = changing_to_the_end(random);
+    }
     actions[62] = Action { duration: 1, needs: vec![], makes: vec![(0, random.chance(50))], idle: true };
-    actions[63] = Action { duration: 1, needs: vec![(0, random.chance(50))], makes: vec![], idle: true };
+    actions[63] = Action { duration: 1, needs: vec![(1, random.chance(50))], makes: vec![], idle: true };
     plan_of(random, &shape, &actions)
+}
+
+/// Most of 62 actions make fluent 0 true at each moment. Seven have other fluents, of which each is hidden or turned again
+/// and again: two turn one in a moment each, two turn one more slowly, three of 2, 3 and 7 moments make one each.
+fn changing_to_the_end(random: &mut Random) -> Vec<Action> {
+    let turning = |duration: usize, fluent: usize, value: bool| Action {
+        duration,
+        needs: vec![(fluent, !value)],
+        makes: vec![(fluent, value)],
+        idle: false,
+    };
+    let making =
+        |duration: usize, fluent: usize| Action { duration, needs: vec![], makes: vec![(fluent, true)], idle: false };
+    let mut actions = vec![making(1, 0); 55];
+    actions.extend([turning(1, 1, true), turning(1, 1, false), turning(2, 2, true), turning(3, 2, false)]);
+    actions.extend([making(2, 3), making(3, 4), making(7, 5)]);
+    random.shuffle(&mut actions);
+    actions.resize(64, Action::default());
+    actions
 }
 
 fn short(random: &mut Random) -> Shape {

@@ -20,7 +20,7 @@ pub enum Damage {
     Again,
     /// Row 9.
     Clash,
-    /// Row 10.
+    /// Row 10; of an action without effects if there is one, which clashes with nothing.
     Need,
 }
 
@@ -59,11 +59,11 @@ pub fn at(random: &mut Random, plan: &LawfulPlan, damage: Damage, place: usize) 
             put_in(list, words::start(field(near, 11, 6).saturating_sub(sooner), other))
         }
         Need => {
-            let needy =
-                (0..draft.actions.len()).filter(|&action| draft.actions[action].iter().any(|&law| is_need(law)));
-            let needy: Vec<usize> = needy.collect();
-            let action = *needy.get(random.below(needy.len().max(1)))?;
-            put_in(list, words::start(field(near, 11, 6), action))
+            let has_need = |&action: &usize| draft.actions[action].iter().any(|&law| is_need(law));
+            let mut needy: Vec<usize> = (0..draft.actions.len()).filter(has_need).collect();
+            random.shuffle(&mut needy);
+            needy.sort_by_key(|&action| draft.actions[action].iter().any(|&law| is_effect(law)));
+            needy.iter().find_map(|&action| put_in(list, words::start(field(near, 11, 6), action)))
         }
     }
 }
@@ -105,9 +105,13 @@ fn is_need(law: u32) -> bool {
     kind(law) == 4 && field(law, 7, 6) < 2
 }
 
+fn is_effect(law: u32) -> bool {
+    kind(law) == 4 && field(law, 7, 6) >= 2
+}
+
 /// Whether one makes true what the other makes false: the roles are 2 and 3.
 fn clash(draft: &Draft, one: usize, other: usize) -> bool {
-    let contrary = |law: u32| kind(law) == 4 && field(law, 7, 6) >= 2 && draft.actions[other].contains(&(law ^ 1 << 6));
+    let contrary = |law: u32| is_effect(law) && draft.actions[other].contains(&(law ^ 1 << 6));
     draft.actions[one].iter().any(|&law| contrary(law))
 }
 
