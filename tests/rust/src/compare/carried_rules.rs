@@ -25,6 +25,9 @@ pub struct Moment<'a> {
     pub earlier: usize,
 }
 
+/// The value of a fluent by whether it is hidden, what finished starts make of it, and what it was before.
+type Value = fn(bool, &[Option<bool>], Option<bool>) -> Option<bool>;
+
 #[derive(Clone, Copy)]
 pub struct Rule {
     pub name: &'static str,
@@ -34,8 +37,7 @@ pub struct Rule {
     gives: fn(&Start, usize) -> bool,
     /// Of the starts seen, those in hand after t.
     kept: fn(&[Start], usize) -> Vec<Start>,
-    /// The value of a fluent by whether it is hidden, what finished starts make of it, and what it was before.
-    value: fn(bool, &[Option<bool>], Option<bool>) -> Option<bool>,
+    value: Value,
     /// Whether a start at 0 hides there.
     hides_at_0: bool,
 }

@@ -93,7 +93,7 @@ fn facts(job: &Job, words: &[u32]) -> Result<Vec<u32>, Refusal> {
 }
 
 /// What the buffer holds before each call.
-const NOISE: [u32; 4_098] = [7; 4_098];
+static NOISE: [u32; 4_098] = [7; 4_098];
 
 /// Fill and each word of its buffer; then check with the list of the rules.
 fn judge(
