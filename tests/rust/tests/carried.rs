@@ -2,24 +2,14 @@
 //! starts at every moment. Cases written by hand are among those of `plan.rs`.
 
 use planreader_tests::compare::carried::{self, Calls};
-use planreader_tests::compare::{carried_features, carried_tiny, plan, trial};
+use planreader_tests::compare::{carried_features, carried_tiny, plan};
 use planreader_tests::host;
 
 const SEED: u64 = 0x5e3a_1071_0018;
 const LARGEST_SEED: u64 = 0x5e3a_1071_0019;
 const SECOND_LARGEST_SEED: u64 = 0x5e3a_1071_001a;
 
-const CALLS: Calls = Calls {
-    of_trials: trial::Calls {
-        begin: &host::trial_begin,
-        start: &host::trial_start,
-        on: &host::trial_on,
-        show: &host::trial_show,
-        check: &host::check,
-        fill: &host::fill,
-    },
-    find: &host::find,
-};
+const CALLS: Calls = Calls { of_trials: host::TRIAL_CALLS, find: &host::find };
 
 #[test]
 fn generated_plans_with_much_in_hand_get_the_checker_s_outcomes() {
