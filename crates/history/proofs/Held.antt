@@ -18,7 +18,8 @@ use Rattle.words.proofs.Filter.{any-filter, findOr-filter, any-agree, findOr-ag
 use Rattle.job.specs.Parts.{duration}
 use Rattle.history.specs.Actions.{finish, inHand, hides, finishes, affects}
 use Rattle.history.specs.Values.{hidesFluent, givesFluent, givenValue, nextValue}
-use Rattle.history.specs.Held.{heldAt, beginsAt, startingAt, HeldExactly}
+use Rattle.history.specs.Held.{heldAt, HeldExactly}
+use Rattle.history.specs.Code.Held.{beginsAt, startingAt}
 
 -- in hand is u ≤ t < u + d
 module _ (job : List ℕ) (t s : ℕ) where

@@ -17,7 +17,7 @@ use Rattle.words.specs.Lists.{Pairs}
 use Rattle.words.proofs.Scan.{takeWhile-entry, takeWhile-stop, takeWhile-take, run-inside}
 use Rattle.words.proofs.Lists.{pairs-at}
 use Rattle.words.proofs.Filter.{filter-hit, filter-miss, filter-slice}
-use Rattle.history.specs.Held.{beginsAt, startingAt}
+use Rattle.history.specs.Code.Held.{beginsAt, startingAt}
 
 -- of starts in the order of their moments, the first `next` are those before moment t
 pub record Begun (S : List ℕ) (t next : ℕ) : Type 0 where

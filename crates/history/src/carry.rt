@@ -3,8 +3,7 @@ ghost use mathlib.Core.Path.{_≡_};
 ghost use Prim.Native.Nat.{ℕ, _<_, _≤_};
 ghost use lib.ListN.{length, getD, drop};
 ghost use Rattle.words.specs.Scan.{takeWhile};
-ghost use Rattle.history.specs.Held.{beginsAt};
-ghost use Rattle.history.specs.Code.Held.{lastsPast, Filtered};
+ghost use Rattle.history.specs.Code.Held.{beginsAt, lastsPast, Filtered};
 use crate::tables::finish_of;
 use words::start_moment;
 

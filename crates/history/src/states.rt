@@ -10,9 +10,8 @@ ghost use Rattle.words.specs.Fields.{knownValue};
 ghost use Rattle.job.specs.Parts.{fluents};
 ghost use Rattle.job.specs.Code.WellFormed.{WellFormed};
 ghost use Rattle.history.specs.Values.{lists};
-ghost use Rattle.history.specs.Held.{startingAt};
-ghost use Rattle.history.specs.Code.Tables.{Walkable, StateAt, HistoryUpto};
-ghost use Rattle.history.specs.Code.Held.{Ordered, Ascending, Carried, Steppable};
+ghost use Rattle.history.specs.Code.Tables.{Named, Walkable, StateAt, HistoryUpto};
+ghost use Rattle.history.specs.Code.Held.{startingAt, Ascending, Carried, Steppable};
 ghost use Rattle.history.specs.Code.Stores.{Overlaid, Mapped};
 ghost use Rattle.history.specs.Code.Passes.{changed, changedBy, AfterPass};
 use crate::carry::keep_unfinished;
@@ -137,7 +136,7 @@ fn step(
     state: &mut [u8; 64],
 ) -> usize
     requires { ⌜ Steppable (now job) (now durations) (now effects) (now starting) t (now held) count (now state) ⌝ }
-    ensures { λ r. ⌜ ((S : List ℕ) → Ordered (now (job .entry)) S → now (starting .entry) ≡ startingAt S (t + 1) → Carried (now (job .entry)) S t (now (held .entry)) count (now (state .entry)) → Carried (now (job .entry)) S (t + 1) (now (held .exit)) r (now (state .exit))) ⌝ }
+    ensures { λ r. ⌜ ((S : List ℕ) → Named (now (job .entry)) S → Ascending S → now (starting .entry) ≡ startingAt S (t + 1) → Carried (now (job .entry)) S t (now (held .entry)) count (now (state .entry)) → Carried (now (job .entry)) S (t + 1) (now (held .exit)) r (now (state .exit))) ⌝ }
 {
     apply_starts(job, durations, effects, &held[..count], false, t + 1, state);
     let kept = keep_unfinished(durations, t + 1, held, count);

@@ -3,14 +3,21 @@ use mathlib.Core.Bool.{Bool}
 use mathlib.Core.List.{List}
 use mathlib.Core.Path.{_≡_}
 use Prim.Native.Nat.{ℕ, _+_, _<_, _≤_}
-use lib.Dec.{ltb}
+use lib.Dec.{eqb, ltb}
 use lib.ListN.{length, take}
-use Rattle.words.specs.Fields.{startMoment, startAction}
-use Rattle.words.specs.Lists.{Each, Pairs}
+use Rattle.words.specs.Fields.{startMoment}
+use Rattle.words.specs.Lists.{Pairs}
 use Rattle.words.specs.Scan.{filter}
-use Rattle.job.specs.Parts.{fluents, duration}
+use Rattle.job.specs.Parts.{fluents}
 use Rattle.history.specs.Held.{heldAt}
 use Rattle.history.specs.Code.Tables.{tabledFinish, Walkable, StateAt}
+
+-- a start begins at moment t; the starts that do
+abbrev pub beginsAt : ℕ → ℕ → Bool
+beginsAt t s = eqb (startMoment s) t
+
+abbrev pub startingAt : List ℕ → ℕ → List ℕ
+startingAt starts t = filter (beginsAt t) starts
 
 -- a start finishes after moment t, by a table of durations
 abbrev pub lastsPast : List ℕ → ℕ → ℕ → Bool
@@ -25,11 +32,6 @@ pub record Filtered (test : ℕ → Bool) (count : ℕ) (old : List ℕ) (n : �
 pub record Ascending (starts : List ℕ) : Type 0 where
   pub moments : Pairs (λ s s'. startMoment s ≤ startMoment s') starts
   pub few : length starts ≤ 4096
-
--- the same, each of an action that lasts
-pub record Ordered (job starts : List ℕ) : Type 0 where
-  pub lasting : Each (λ s. 0 < duration job (startAction s)) starts
-  pub ascending : Ascending starts
 
 -- a walk at moment t: its state and its held list are those of that moment
 pub record Carried (job starts : List ℕ) (t : ℕ) (held : List ℕ) (count : ℕ) (bytes : List ℕ) : Type 0 where

@@ -6,11 +6,11 @@ use lib.ListN.{length}
 use Prim.Native.Nat.{ℕ, _+_, _-_, _≤_}
 use Rattle.job.specs.Parts.{fluents}
 use Rattle.history.specs.Values.{valueAt}
-use Rattle.words.proofs.Lists.{each-of}
-use Rattle.history.specs.Code.Held.{Ordered, Carried}
+use Rattle.history.specs.Code.Held.{Carried}
 use Rattle.history.proofs.HeldList.{Begun, begun-none, begun-more, begun-starting, begun-first}
 use Rattle.history.proofs.Stores.{Rows, rows-none, rows-more}
-use Rattle.history.proofs.Moments.{state-start, carried-start, held-named, held-room}
+use Rattle.history.proofs.Moments.{state-start}
+use Rattle.history.proofs.Carried.{each-lasts, carried-start, held-named, held-room}
 use native.Mathlib.Omega.{arith}
 use borrow.Author.Needs.{needs}
 use Rattle.history.proofs.states.history.Statement.{statement}
@@ -56,12 +56,6 @@ joined c = c .before .before .before
 abbrev stepped : tie.After-store-row2 Inv-loop μ-loop → tie.After-step Inv-loop μ-loop
 stepped c = c .before .before .before .before
 
-ordered-starts : (s : tie.Start Inv-loop μ-loop) → Ordered (s .args .job .now) (s .args .starts .now)
-ordered-starts s = record {
-  lasting = each-of (s .args .starts .now) (λ i l. s .pre .0 .well .lasting _ (s .pre .0 .named .action i l));
-  ascending = s .pre .1;
-}
-
 -- the starts of moment 0 have room in the held list
 first-fits : (f : tie.After-starting-at Inv-loop μ-loop) → length (f .starting-at .result .now) ≤ 4096
 first-fits f = let p = start f .pre .1 in rw (f .starting-at .ensures) (omega (arith, begun-first (p .moments) .inside, p .few))
@@ -77,7 +71,7 @@ loop-holds c =
       bound = omega arith;
       few = omega (arith, s .pre .2);
       size = copied .copy-words .kept .1 .1 .0;
-      carried = rw (copied .copy-words .ensures) (carried-start (ordered-starts s) state _ (f .starting-at .ensures ∙ begun-starting ascends begun-none) (first-fits f));
+      carried = rw (copied .copy-words .ensures) (carried-start (each-lasts (s .pre .0 .well) (s .pre .0 .named)) state _ (f .starting-at .ensures ∙ begun-starting ascends begun-none) (first-fits f));
       begun = rw (f .starting-at .ensures) (begun-first ascends);
       stored = rows-more (s .pre .0 .well .few-fluents) rows-none (f .before .store-row .ensures) (state-start state .value);
     }
@@ -101,14 +95,14 @@ loop-again c =
     let j = joined d in
     let s = begin (head j) in
     let inv = head j .loop .inv in
-    let up = s .pre .1 .moments in
-    let new = d .step .ensures (s .args .starts .now) (ordered-starts s) (j .starting-at2 .ensures ∙ begun-starting up (inv .begun)) (inv .carried) in
+    let ascends = s .pre .1 .moments in
+    let new = d .step .ensures (s .args .starts .now) (s .pre .0 .named) (s .pre .1) (j .starting-at2 .ensures ∙ begun-starting ascends (inv .begun)) (inv .carried) in
     record {
       bound = omega (arith, j .before .loop-test .taken);
       few = inv .few;
       size = d .step .kept .1 .1 .1 .1 .1 .0 ∙ inv .size;
       carried = new;
-      begun = rw (j .starting-at2 .ensures) (begun-more up (inv .begun));
+      begun = rw (j .starting-at2 .ensures) (begun-more ascends (inv .begun));
       stored = rows-more (s .pre .0 .well .few-fluents) (inv .stored) (c .store-row2 .ensures) (new .state .value);
     }
 

@@ -6,7 +6,7 @@ use native.Mathlib.Omega.{arith}
 use borrow.Author.Needs.{needs}
 use lib.ListN.{length}
 use lib.Seq.{length-take-le}
-use Rattle.history.proofs.Moments.{walkable-kept, carried-next}
+use Rattle.history.proofs.Carried.{each-lasts, walkable-kept, carried-next}
 use Rattle.history.proofs.states.step.Statement.{statement}
 use Rattle.history.proofs.states.step.Tie as tie
 
@@ -51,9 +51,9 @@ returns c =
     let w = written (c .before .before) in
     let k = kept w in
     let s = start k in
-    λ S ordered begin carried.
+    λ S named ascends begin carried.
     rw (w .copy-words .ensures)
-    (carried-next ordered carried (s .pre .walk .tables .durations) (s .pre .walk .named) (k .keep-unfinished .ensures) begin (room k)
+    (carried-next (each-lasts (s .pre .walk .well) named) ascends carried (s .pre .walk .tables .durations) (s .pre .walk .named) (k .keep-unfinished .ensures) begin (room k)
     (given k .apply-starts .ensures) (rw (w .copy-words .ensures) at (c .apply-starts2 .ensures)))
 
 pub step-spec : {M : Type 1} → statement M
