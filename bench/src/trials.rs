@@ -1,11 +1,11 @@
 //! The calls on a trial of 4,000 starts, beside check of those starts with their facts and beside the independent checker.
-use crate::calls::{plan, CALL};
-use crate::instructions::count_run;
+use crate::calls::CALL;
+use crate::instructions::{count_run, counted_call};
+use crate::plans::largest;
 use crate::shapes::facts;
 use crate::time::{best, is_within};
 use planreader_tests::checker::{answer::Answer, trial as plain};
 use planreader_tests::host;
-use std::hint::black_box;
 
 /// The argument of a counted run that is about the trial, and those for its two calls.
 pub const COUNTED: &str = "trial";
@@ -29,12 +29,19 @@ const SHOW: [Call; 2] = [
     |job, trial, buffer| plain::trial_show(job, trial, buffer),
 ];
 
+const CALLS: [(&str, [Call; 2]); 4] = [("begin", BEGIN), ("start", START), ("on", ON), ("show", SHOW)];
+
+/// The names of the calls, and how long each takes.
+pub fn times() -> [(String, f64); 4] {
+    let (job, _, trial) = trial();
+    CALLS.map(|(name, [call, _])| (format!("{name} in a trial"), timed(10, call, &job, &trial).0))
+}
+
 /// Prints the times; whether they are within the limits, all moves are accepted, and both say the same.
 pub fn within_limits() -> bool {
     let (job, starts, trial) = trial();
     println!("trials of {} starts, ms; limit; independent checker, ms", starts.len());
-    let calls = [("begin", BEGIN), ("start", START), ("on", ON), ("show", SHOW)];
-    let within = calls.map(|(name, call)| call_within_limit(name, call, &job, &trial));
+    let within = CALLS.map(|(name, call)| call_within_limit(name, call, &job, &trial));
     print_start_and_check(&job, &starts, &trial);
     !within.contains(&false)
 }
@@ -55,7 +62,7 @@ fn print_start_and_check(job: &[u32], starts: &[u32], trial: &[u32]) {
 /// The job of the largest plan, 4,000 of its 4,032 starts, and the trial of these: at its moment, 62, the higher actions are started, so that
 /// action 0 goes in before them.
 fn trial() -> (Vec<u32>, Vec<u32>, Vec<u32>) {
-    let (job, all) = plan(1);
+    let (job, all) = largest(1);
     let starts = [&all[..62 * 64], &all[62 * 64 + 32..]].concat();
     let mut trial = [&[62, starts.len() as u32], &starts[..]].concat();
     trial.resize(plain::TRIAL_WORDS, 0);
@@ -111,11 +118,4 @@ pub fn run(call: &str) {
         COUNTED_CHECK => counted_call(&mut || host::check(&job, &starts, &facts)),
         _ => panic!("no call {call} is counted"),
     };
-}
-
-/// The only function whose instructions count, with what it calls. Callgrind knows it by this name.
-#[no_mangle]
-#[inline(never)]
-fn counted_call(call: &mut dyn FnMut() -> Answer) -> Answer {
-    black_box(call())
 }
