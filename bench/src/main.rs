@@ -7,8 +7,9 @@ fn main() {
     match arguments.iter().map(String::as_str).collect::<Vec<_>>()[..] {
         [] => hold_to_limits(),
         [instructions::COUNTED, subject, call] => run_counted(subject, call),
-        [figures::FIGURES, kind] => figures::print(kind),
-        _ => panic!("the only arguments are those of a counted run, and `figures times` and `figures instructions`"),
+        [figures::FIGURES, kind] => figures::print_names(kind),
+        [figures::FIGURES, kind, name] => figures::print(kind, name),
+        _ => panic!("the only arguments are those of a counted run and of figures"),
     }
 }
 

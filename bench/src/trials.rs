@@ -11,12 +11,13 @@ use planreader_tests::host;
 pub const COUNTED: &str = "trial";
 const COUNTED_START: &str = "start";
 const COUNTED_CHECK: &str = "check";
+pub const COUNTED_CALLS: [&str; 2] = [COUNTED_START, COUNTED_CHECK];
 
 /// How many instructions a start may take beside check.
 const START_TO_CHECK: f64 = 1.0;
 
 /// A call on a job, a trial and a buffer, which show alone writes to.
-type Call = fn(&[u32], &mut [u32], &mut [u32]) -> Answer;
+pub type Call = fn(&[u32], &mut [u32], &mut [u32]) -> Answer;
 
 /// The archive's call and the checker's.
 const BEGIN: [Call; 2] =
@@ -29,12 +30,12 @@ const SHOW: [Call; 2] = [
     |job, trial, buffer| plain::trial_show(job, trial, buffer),
 ];
 
-const CALLS: [(&str, [Call; 2]); 4] = [("begin", BEGIN), ("start", START), ("on", ON), ("show", SHOW)];
+pub const CALLS: [(&str, [Call; 2]); 4] = [("begin", BEGIN), ("start", START), ("on", ON), ("show", SHOW)];
 
-/// The names of the calls, and how long each takes.
-pub fn times() -> [(String, f64); 4] {
+/// The least time of a call, in milliseconds.
+pub fn time(runs: usize, call: Call) -> f64 {
     let (job, _, trial) = trial();
-    CALLS.map(|(name, [call, _])| (format!("{name} in a trial"), timed(10, call, &job, &trial).0))
+    timed(runs, call, &job, &trial).0
 }
 
 /// Prints the times; whether they are within the limits, all moves are accepted, and both say the same.
@@ -92,7 +93,7 @@ fn call_within_limit(name: &str, [call, checker]: [Call; 2], job: &[u32], trial:
 /// Prints the instructions of a start and of check, which other work on the machine does not change; whether a start takes no more.
 pub fn instructions_are_within() -> bool {
     println!("start in a trial, instructions; check of the same starts with their facts, instructions; ratio; limit");
-    match [COUNTED_START, COUNTED_CHECK].map(|call| count_run(COUNTED, call)) {
+    match COUNTED_CALLS.map(count) {
         [Ok(start), Ok(check)] => {
             let ratio = start as f64 / check as f64;
             let within = ratio <= START_TO_CHECK;
@@ -107,6 +108,11 @@ pub fn instructions_are_within() -> bool {
             false
         }
     }
+}
+
+/// How many instructions one of the two calls takes.
+pub fn count(call: &str) -> Result<u64, String> {
+    count_run(COUNTED, call)
 }
 
 /// The run that is counted.
