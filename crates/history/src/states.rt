@@ -1,27 +1,33 @@
-// The history of a plan: the state (the values of the fluents) at moment 0, and from each moment to the next.
+// The history of a plan: the state (the values of the fluents) at moment 0, and from each moment to the next, where the starts in hand are
+// carried along.
 ghost use mathlib.Core.Path.{_≡_};
-ghost use mathlib.Core.Bool.{cond, _&&_};
-ghost use mathlib.Core.List.{_∷_, []};
-ghost use Prim.Native.Nat.{_+_, _<_, _≤_};
-ghost use lib.Dec.{eqb, ltb};
+ghost use mathlib.Core.Bool.{_||_};
+ghost use mathlib.Core.List.{List, _∷_, []};
+ghost use Prim.Native.Nat.{ℕ, _+_, _<_, _≤_};
+ghost use lib.Dec.{eqb};
 ghost use lib.ListN.{length};
 ghost use Rattle.words.specs.Fields.{knownValue};
 ghost use Rattle.job.specs.Parts.{fluents};
 ghost use Rattle.job.specs.Code.WellFormed.{WellFormed};
 ghost use Rattle.history.specs.Values.{lists};
-ghost use Rattle.history.specs.Code.Tables.{Walkable, StateAt, Steppable, HistoryUpto};
+ghost use Rattle.history.specs.Held.{startingAt};
+ghost use Rattle.history.specs.Code.Tables.{Walkable, StateAt, HistoryUpto};
+ghost use Rattle.history.specs.Code.Held.{Ordered, Ascending, Carried, Steppable};
 ghost use Rattle.history.specs.Code.Stores.{Overlaid, Mapped};
 ghost use Rattle.history.specs.Code.Passes.{changed, changedBy, AfterPass};
+use crate::carry::keep_unfinished;
+use crate::carry::starting_at;
+use crate::tables::finish_of;
 use crate::tables::store_row;
 use words::FLUENTS;
 use words::KNOWN;
 use words::OPEN;
+use words::copy_words;
 use words::fluent_of;
 use words::fluents_of;
 use words::kind_of;
 use words::known_value;
 use words::start_action;
-use words::start_moment;
 
 // Stores what the word `w` says that is initially known.
 fn store_known(head: u32, w: u32, state: &mut [u8; 64])
@@ -73,18 +79,14 @@ fn apply(effects: &[u8; 4096], a: usize, n: usize, hiding: bool, state: &mut [u8
     }
 }
 
-// A start at `u` that finishes at `end` hides at moment `t`, or finishes then.
-fn acts(u: usize, end: usize, hiding: bool, t: usize) -> bool
-    ensures { λ r. ⌜ r ≡ cond hiding (ltb u t && ltb t end) (eqb end t) ⌝ }
+// Whether a start that finishes at `end` acts in a pass to moment `t`: all hide, and those give that finish then.
+fn acts(end: usize, hiding: bool, t: usize) -> bool
+    ensures { λ r. ⌜ r ≡ (hiding || eqb end t) ⌝ }
 {
-    if hiding {
-        (u < t) & (t < end)
-    } else {
-        end == t
-    }
+    hiding | (end == t)
 }
 
-// Applies the start `s`, if it acts at moment `t`.
+// Applies the start `s`, if it acts in a pass to moment `t`.
 fn apply_start(
     job: &[u32],
     durations: &[usize; 64],
@@ -97,14 +99,12 @@ fn apply_start(
     requires { ⌜ Walkable (now job) (now durations) (now effects) (s ∷ []) × (fluents (now job) ≤ length (now state)) ⌝ }
     ensures { λ _. ⌜ AfterPass (now (job .entry)) hiding t (s ∷ []) (now (state .entry)) (now (state .exit)) ⌝ }
 {
-    let a = start_action(s);
-    let u = start_moment(s);
-    if acts(u, u + durations[a], hiding, t) {
-        apply(effects, a, fluents_of(job[0]), hiding, state);
+    if acts(finish_of(durations, s), hiding, t) {
+        apply(effects, start_action(s), fluents_of(job[0]), hiding, state);
     }
 }
 
-// Applies all starts that act at moment `t`: from the last to the first, so that the first prevails.
+// Applies all starts that act in a pass to moment `t`: from the last to the first, so that the first prevails.
 fn apply_starts(
     job: &[u32],
     durations: &[usize; 64],
@@ -124,23 +124,30 @@ fn apply_starts(
     }
 }
 
-// From the state at moment `t` to that at the next: what starts that finish make, and over that what those that hide leave open.
+// From moment `t` to the next, where the starts in `starting` begin. Of the starts in hand, the first `count` words of `held`, those that
+// finish then give their effects; the others stay in hand, and so do those that begin, which do not hide yet. The number in hand then.
 fn step(
     job: &[u32],
     durations: &[usize; 64],
     effects: &[u8; 4096],
-    starts: &[u32],
+    starting: &[u32],
     t: usize,
+    held: &mut [u32],
+    count: usize,
     state: &mut [u8; 64],
-)
-    requires { ⌜ Steppable (now job) (now durations) (now effects) (now starts) t (now state) ⌝ }
-    ensures { λ _. ⌜ StateAt (now (job .entry)) (now (starts .entry)) (t + 1) (now (state .exit)) ⌝ }
+) -> usize
+    requires { ⌜ Steppable (now job) (now durations) (now effects) (now starting) t (now held) count (now state) ⌝ }
+    ensures { λ r. ⌜ ((S : List ℕ) → Ordered (now (job .entry)) S → now (starting .entry) ≡ startingAt S (t + 1) → Carried (now (job .entry)) S t (now (held .entry)) count (now (state .entry)) → Carried (now (job .entry)) S (t + 1) (now (held .exit)) r (now (state .exit))) ⌝ }
 {
-    apply_starts(job, durations, effects, starts, false, t + 1, state);
-    apply_starts(job, durations, effects, starts, true, t + 1, state);
+    apply_starts(job, durations, effects, &held[..count], false, t + 1, state);
+    let kept = keep_unfinished(durations, t + 1, held, count);
+    copy_words(starting, kept, held);
+    let all = kept + starting.len();
+    apply_starts(job, durations, effects, &held[..kept], true, t + 1, state);
+    all
 }
 
-// The one walk of the states, up to moment `last`.
+// The one walk of the states, up to moment `last`. The first `next` starts have begun.
 pub fn history(
     job: &[u32],
     durations: &[usize; 64],
@@ -148,16 +155,33 @@ pub fn history(
     starts: &[u32],
     last: usize,
 ) -> [u8; 4096]
-    requires { ⌜ Walkable (now job) (now durations) (now effects) (now starts) × (last < 64) ⌝ }
+    requires { ⌜ Walkable (now job) (now durations) (now effects) (now starts) × Ascending (now starts) × (last < 64) ⌝ }
     ensures { λ r. ⌜ HistoryUpto (now (job .entry)) (now (starts .entry)) last r ⌝ }
 {
     let mut table = [OPEN; 4096];
     let mut state = initial_state(job);
+    store_row(&state, 0, &mut table);
+    let mut held = [0u32; 4096];
+    let first = starting_at(starts, 0, 0);
+    copy_words(first, 0, &mut held);
+    let mut next = first.len();
+    let mut count = next;
     let mut t = 0;
-    while t <= last {
-        store_row(&state, t, &mut table);
-        step(job, durations, effects, starts, t, &mut state);
+    while t < last {
+        let starting = starting_at(starts, next, t + 1);
+        count = step(
+            job,
+            durations,
+            effects,
+            starting,
+            t,
+            &mut held,
+            count,
+            &mut state,
+        );
+        next += starting.len();
         t += 1;
+        store_row(&state, t, &mut table);
     }
     table
 }

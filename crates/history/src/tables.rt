@@ -2,12 +2,12 @@
 ghost use mathlib.Core.Path.{_≡_};
 ghost use Prim.Native.Nat.{_<_};
 ghost use mathlib.Core.List.{_∷_, []};
-ghost use lib.ListN.{length, replicate};
-ghost use Rattle.words.specs.Fields.{unknown};
+ghost use lib.ListN.{length, getD, replicate};
+ghost use Rattle.words.specs.Fields.{unknown, startAction};
 ghost use Rattle.job.specs.Parts.{actions, lawsOf};
 ghost use Rattle.job.specs.Code.WellFormed.{WellFormed, Indexed};
 ghost use Rattle.history.specs.Actions.{makesFluent, lawValue};
-ghost use Rattle.history.specs.Code.Tables.{Durations, Effects};
+ghost use Rattle.history.specs.Code.Tables.{Durations, Effects, tabledFinish};
 ghost use Rattle.history.specs.Code.Stores.{Overlaid, RowStored};
 use words::FLUENTS;
 use words::LAW;
@@ -19,6 +19,8 @@ use words::made_value;
 use words::makes_value;
 use words::role_of;
 use words::run_length;
+use words::start_action;
+use words::start_moment;
 
 pub fn durations(job: &[u32], places: &[usize; 64]) -> [usize; 64]
     requires { ⌜ WellFormed (now job) × Indexed (now job) 3 (now places) ⌝ }
@@ -33,6 +35,14 @@ pub fn durations(job: &[u32], places: &[usize; 64]) -> [usize; 64]
         a += 1;
     }
     table
+}
+
+// The moment at which a start finishes.
+pub fn finish_of(durations: &[usize; 64], s: u32) -> usize
+    requires { ⌜ getD (now durations) (startAction s) 0 < 64 ⌝ }
+    ensures { λ r. ⌜ r ≡ tabledFinish (now (durations .entry)) s ⌝ }
+{
+    start_moment(s) + durations[start_action(s)]
 }
 
 // The laws of action `a`: the words of kind 4 after its own.

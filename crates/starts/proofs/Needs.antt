@@ -1,8 +1,8 @@
 -- The needs of an action, by the history of a plan; a start that is put in changes none up to its own moment. Assumes nothing.
 use mathlib.Core.Bool.{Bool}
-use mathlib.Core.List.{List, [], _∷_}
-use mathlib.Core.Path.{_≡_, refl, sym, _∙_}
-use Prim.Native.Nat.{ℕ, suc, _+_, _*_, _≤_, _<_}
+use mathlib.Core.List.{List}
+use mathlib.Core.Path.{_≡_, sym, _∙_}
+use Prim.Native.Nat.{ℕ, _+_, _*_, _≤_, _<_}
 use native.Mathlib.Omega.{arith}
 use borrow.Author.Tests.{eqb-true}
 use lib.ListN.{length, getD, drop, length-drop}
@@ -11,6 +11,8 @@ use Rattle.words.specs.Fields.{ofKind, kind, fluentOf, startMoment, startAction
 use Rattle.words.specs.Scan.{any, takeWhile}
 use Rattle.words.specs.Lists.{insert}
 use Rattle.words.proofs.Scan.{takeWhile-entry}
+use Rattle.words.proofs.Filter.{any-agree}
+use Rattle.words.proofs.Lists.{each-of}
 use Rattle.job.specs.Parts.{headWord, fluents, actions, duration, lawsOf}
 use Rattle.job.proofs.ByPlace.{action-counted, laws-place}
 use Rattle.history.specs.Values.{valueAt}
@@ -18,12 +20,6 @@ use Rattle.history.proofs.Before.{value-before}
 use Rattle.starts.specs.Rows.{unmet, unmetAt, needsUnmet}
 use Rattle.starts.specs.Code.Given.{Recorded}
 use Rattle.starts.proofs.StartsFormed.{right-word}
-
--- two tests that agree on the words of a list
-any-agree : (test test' : ℕ → Bool) (ws : List ℕ) → ((i : ℕ) → i < length ws → test (getD ws i 0) ≡ test' (getD ws i 0)) → any test ws ≡ any test' ws
-unfolding any
-any-agree test test' [] h = refl
-any-agree test test' (w ∷ ws) h = rw (h 0 (omega arith), any-agree test test' ws (λ i l. h (suc i) (omega arith)))
 
 module _ {job places history starts : List ℕ} (given : Recorded job places history starts) (a : ℕ) (h : a < actions job) where
   -- the laws of an action speak of fluents of the job
@@ -43,7 +39,7 @@ module _ {job places history starts : List ℕ} (given : Recorded job places his
           (given .formed .law (p + i) (omega (arith, entry .2, length-drop p job)) (eqb-true (kind (getD job (p + i) 0)) 4 (rw same at (entry .1))))
 
   pub needs-read : (t : ℕ) → t ≤ given .last → any (unmet (headWord job) (λ f. getD history (t * 64 + f) 0)) (lawsOf job a) ≡ unmetAt job starts t a
-  needs-read t m = any-agree _ _ (lawsOf job a) agree
+  needs-read t m = any-agree _ _ (each-of (lawsOf job a) agree)
     where
       agree : (i : ℕ) → i < length (lawsOf job a)
           → unmet (headWord job) (λ f. getD history (t * 64 + f) 0) (getD (lawsOf job a) i 0) ≡ unmet (headWord job) (valueAt job starts t) (getD (lawsOf job a) i 0)
@@ -61,4 +57,4 @@ unmet-read given {i} l ea el eu er =
 pub unmet-before : (job : List ℕ) (w : ℕ) → 0 < duration job (startAction w) → (starts : List ℕ) (t a : ℕ) → t ≤ startMoment w
     → unmetAt job (insert w starts) t a ≡ unmetAt job starts t a
 unmet-before job w lasts starts t a l =
-    any-agree _ _ (lawsOf job a) (λ i m. rw (value-before job w lasts starts t (fluentOf (headWord job) (getD (lawsOf job a) i 0)) l))
+    any-agree _ _ (each-of (lawsOf job a) (λ i m. rw (value-before job w lasts starts t (fluentOf (headWord job) (getD (lawsOf job a) i 0)) l)))

@@ -10,9 +10,11 @@ use lib.Dec.{eqb}
 use lib.ListN.{length, getD}
 use Rattle.words.specs.Fields.{kind, field, startMoment, startAction, startWord}
 use Rattle.words.proofs.Choices.{both-true}
+use Rattle.words.proofs.Lists.{pairs-of}
 use Rattle.job.specs.Parts.{actions, lastMoment}
 use Rattle.history.specs.Actions.{finish}
-use Rattle.history.specs.Code.Tables.{Durations, Named}
+use Rattle.history.specs.Code.Tables.{Durations, tabledFinish, Named}
+use Rattle.history.specs.Code.Held.{Ascending}
 use Rattle.history.proofs.Moments.{finish-tabled}
 use Rattle.answers.specs.declared.Refusal.{Refusal}
 use Rattle.answers.specs.Rows.{firstOf}
@@ -88,7 +90,7 @@ words-ascend {job} {starts} h (suc i) j l m = cases (decLt j i) (λ k. words-asc
 
 -- a right start's finish, by the table of durations
 pub finish-is : {job durations starts : List ℕ} → Durations job durations → StartsFormed job starts → (i : ℕ) → i < length starts
-    → startMoment (getD starts i 0) + getD durations (startAction (getD starts i 0)) 0 ≡ finish job (getD starts i 0)
+    → tabledFinish durations (getD starts i 0) ≡ finish job (getD starts i 0)
 finish-is d h i l = finish-tabled d _ (right-word h i l .action)
 
 -- a right word is that of its action and its moment
@@ -127,3 +129,10 @@ pub moments-ordered : {job starts : List ℕ} → StartsFormed job starts → ((
     × (startAction (getD starts j 0) ≡ startAction (getD starts i 0) → startMoment (getD starts j 0) < startMoment (getD starts i 0))
 moments-ordered h words {i} {j} l m =
     ordered (word-is (right-word h j (omega arith)) (words j)) (word-is (right-word h i m) (words i)) (words-ascend h i j l m)
+
+-- so a walk of the states can take them
+pub ascending : {job starts : List ℕ} → StartsFormed job starts → ((i : ℕ) → getD starts i 0 < 2 ^ 32) → Ascending starts
+ascending {job} {starts} h words = record {
+  moments = pairs-of starts (λ i j l m. moments-ordered h words l m .0);
+  few = few-words job starts words (length starts) (h .right);
+}

@@ -11,10 +11,10 @@ ghost use Rattle.history.specs.Code.Tables.{Effects};
 ghost use Rattle.starts.specs.Rows.{clash, clashes, numbered};
 ghost use Rattle.starts.specs.Code.Latest.{Clashes, clashesAfter};
 ghost use Rattle.starts.specs.Code.Given.{Timed, Paired, Compared};
-use crate::times::finish_of;
 use answers::Refusal;
 use answers::none;
 use answers::refuse;
+use history::finish_of;
 use words::*;
 
 // Whether two actions clash, and the table of all pairs.

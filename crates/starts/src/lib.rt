@@ -13,7 +13,6 @@ use answers::Refusal;
 pub use clashes::first_clash;
 pub use clashes::has_clash;
 pub use order::wrong_word;
-pub use times::finish_of;
 pub use times::late_end;
 pub use times::restart;
 pub use unmet::check_needs;

@@ -1,23 +1,14 @@
 // Rows 7 and 8: when starts finish.
 ghost use mathlib.Core.Path.{_≡_};
-ghost use Prim.Native.Nat.{_+_, _<_};
-ghost use lib.ListN.{length, getD};
-ghost use Rattle.words.specs.Fields.{startMoment, startAction};
+ghost use lib.ListN.{length};
 ghost use Rattle.answers.specs.Rows.{firstOf};
 ghost use Rattle.starts.specs.Rows.{endsLate, inHandAlready, numbered};
 ghost use Rattle.starts.specs.Code.Given.{Timed};
 use answers::Refusal;
 use answers::none;
 use answers::refuse;
+use history::finish_of;
 use words::*;
-
-// The moment at which a start finishes, by the table of durations.
-pub fn finish_of(durations: &[usize; 64], s: u32) -> usize
-    requires { ⌜ getD (now durations) (startAction s) 0 < 64 ⌝ }
-    ensures { λ r. ⌜ r ≡ startMoment s + getD (now (durations .entry)) (startAction s) 0 ⌝ }
-{
-    start_moment(s) + durations[start_action(s)]
-}
 
 // Row 7.
 pub fn late_end(job: &[u32], durations: &[usize; 64], starts: &[u32]) -> Refusal

@@ -13,8 +13,8 @@ ghost use Rattle.trial.specs.Code.Given.{Facing, FacingAll, Present, sta
 use answers::Refusal;
 use answers::refuse;
 use answers::row_of;
+use history::finish_of;
 use history::laws_of;
-use starts::finish_of;
 use starts::has_clash;
 use starts::has_unmet;
 use theory::Plan;

@@ -5,8 +5,8 @@ use Prim.Native.Nat.{ℕ, suc, _+_, _-_, _<_, _≤_}
 use native.Mathlib.Nat.{add-zero, zero-add, add-suc, suc-add}
 use native.Mathlib.Numerals.{add-one}
 use native.Mathlib.Omega.{arith}
-use lib.ListN.{length, getD, take, drop, set, length-set, length-drop}
-use lib.Seq.{sets, length-sets, take-suc, take-length, length-take-le}
+use lib.ListN.{length, getD, take, drop, set, length-set, length-drop, length-append}
+use lib.Seq.{sets, sets-eq, length-sets, take-suc, take-length, length-take-le, take-take, take-at}
 use Rattle.words.specs.Scan.{takeWhile}
 use Rattle.words.specs.Lists.{insert}
 use Rattle.words.specs.Code.Place.{notAbove}
@@ -21,6 +21,17 @@ sets-append (v ∷ vs) ws l i = rw (add-suc i (length vs)) (sets-append vs ws (s
 pub sets-more : (l list : List ℕ) (at i : ℕ) → i < length list → set (sets l at (take i list)) (at + i) (getD list i 0) ≡ sets l at (take (i + 1) list)
 sets-more l list at i h =
     sym (rw (add-one i, take-suc list i 0 h, sets-append (take i list) (getD list i 0 ∷ []) l at, length-take-le i list (omega arith)))
+
+-- a list written after the first n words of a buffer, which stay
+pub sets-front : (buffer ws : List ℕ) (n : ℕ) → n + length ws ≤ length buffer → take (n + length ws) (sets buffer n ws) ≡ take n buffer ++ ws
+sets-front buffer ws n h =
+    rw (sets-eq ws buffer n h)
+    (take-at (take n buffer ++ ws) (drop (n + length ws) buffer) (n + length ws) (rw (length-append, length-take-le n buffer (omega arith))))
+
+pub sets-before : (buffer ws : List ℕ) (n : ℕ) → n + length ws ≤ length buffer → take n (sets buffer n ws) ≡ take n buffer
+sets-before buffer ws n h =
+    let front = take n buffer in
+    sym (take-take n (n + length ws) (sets buffer n ws) (omega arith)) ∙ rw (sets-front buffer ws n h) (take-at front ws n (length-take-le n buffer (omega arith)))
 
 -- the words that stay before w, then w, then the rest
 module _ (buffer list : List ℕ) (w i : ℕ) {b : List ℕ} (p : b ≡ sets buffer 0 (take i list)) where

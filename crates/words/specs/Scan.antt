@@ -20,6 +20,11 @@ unfoldable pub findOr : (ℕ → Bool) → (ℕ → ℕ) → ℕ → List ℕ �
 findOr test gives other [] = other
 findOr test gives other (w ∷ ws) = cond (test w) (gives w) (findOr test gives other ws)
 
+-- the words that pass, in their order
+unfoldable pub filter : (ℕ → Bool) → List ℕ → List ℕ
+filter test [] = []
+filter test (w ∷ ws) = cond (test w) (w ∷ filter test ws) (filter test ws)
+
 -- the words up to the first that fails
 unfoldable pub takeWhile : (ℕ → Bool) → List ℕ → List ℕ
 takeWhile test [] = []

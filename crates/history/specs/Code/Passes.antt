@@ -1,19 +1,19 @@
--- Between functions: a step to the next moment is two passes over the starts, from the last to the first: those that finish, and then those
--- that hide.
-use mathlib.Core.Bool.{Bool, not, cond, _&&_}
+-- Between functions: a step to the next moment is two passes over starts in hand, from the last to the first: those that finish then, and after
+-- that all others, which hide.
+use mathlib.Core.Bool.{Bool, not, cond, _&&_, _||_}
 use mathlib.Core.List.{List}
 use Prim.Native.Nat.{ℕ, _+_, _*_}
 use lib.Dec.{eqb}
 use lib.ListN.{getD}
 use Rattle.words.specs.Fields.{unknown}
 use Rattle.job.specs.Parts.{fluents}
-use Rattle.history.specs.Actions.{hides, finishes, affects}
+use Rattle.history.specs.Actions.{finishes, affects}
 use Rattle.history.specs.Values.{givenValue}
 use Rattle.history.specs.Code.Stores.{Overlaid}
 
--- in either pass: a start acts at moment t; it acts on fluent f; the value that it then leaves
+-- in either pass to moment t: a start acts; it acts on fluent f; the value that it then leaves
 abbrev pub acts : List ℕ → Bool → ℕ → ℕ → Bool
-acts job hiding t s = cond hiding (hides job t s) (finishes job t s)
+acts job hiding t s = hiding || finishes job t s
 
 abbrev pub actsOn : List ℕ → Bool → ℕ → ℕ → ℕ → Bool
 actsOn job hiding t f s = acts job hiding t s && affects job f s

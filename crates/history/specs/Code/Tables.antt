@@ -3,7 +3,7 @@ use mathlib.Core.List.{List}
 use mathlib.Core.Path.{_≡_}
 use Prim.Native.Nat.{ℕ, _+_, _*_, _<_, _≤_}
 use lib.ListN.{length, getD}
-use Rattle.words.specs.Fields.{startAction}
+use Rattle.words.specs.Fields.{startMoment, startAction}
 use Rattle.job.specs.Parts.{fluents, actions, lastMoment, duration}
 use Rattle.job.specs.Code.WellFormed.{WellFormed}
 use Rattle.history.specs.Actions.{effect}
@@ -13,6 +13,10 @@ use Rattle.history.specs.Values.{valueAt}
 pub record Durations (job table : List ℕ) : Type 0 where
   pub entry : (a : ℕ) → a < actions job → getD table a 0 ≡ duration job a
   pub small : (a : ℕ) → getD table a 0 < 64
+
+-- the moment at which a start finishes, by such a table
+abbrev pub tabledFinish : List ℕ → ℕ → ℕ
+tabledFinish table s = startMoment s + getD table (startAction s) 0
 
 -- entry a * 64 + f has the value that action a makes of fluent f
 pub record Effects (job table : List ℕ) : Type 0 where
@@ -38,12 +42,6 @@ pub record Walkable (job durations effects starts : List ℕ) : Type 0 where
 pub record StateAt (job starts : List ℕ) (t : ℕ) (state : List ℕ) : Type 0 where
   pub room : fluents job ≤ length state
   pub value : (f : ℕ) → f < fluents job → getD state f 0 ≡ valueAt job starts t f
-
--- a state from which a walk goes on
-pub record Steppable (job durations effects starts : List ℕ) (t : ℕ) (bytes : List ℕ) : Type 0 where
-  pub walk : Walkable job durations effects starts
-  pub soon : t < 64
-  pub state : StateAt job starts t bytes
 
 -- the history of a plan up to moment k: entry t * 64 + f has the value of fluent f at moment t; the whole history
 pub record HistoryUpto (job starts : List ℕ) (k : ℕ) (table : List ℕ) : Type 0 where

@@ -1,11 +1,14 @@
 -- `theory::judge_starts` meets its contract: rows 6 to 9 refuse, or they pass and row 10 says the rest. Assumes nothing.
 use mathlib.Core.Path.{_≡_, _∙_, ap}
+use Prim.Native.Nat.{ℕ, _<_, _^_}
+use native.Mathlib.Omega.{arith}
+use lib.ListN.{getD}
 use Rattle.answers.specs.declared.Refusal.{Refusal}
 use Rattle.job.specs.Refusal.{jobRefusal}
 use Rattle.job.proofs.WellFormed.{well-formed}
 use Rattle.starts.specs.Rows.{startsRefusal}
 use Rattle.starts.proofs.Rows.{starts-found, starts-next}
-use Rattle.starts.proofs.StartsFormed.{times-passed, named, right-word}
+use Rattle.starts.proofs.StartsFormed.{times-passed, named, right-word, ascending}
 use Rattle.theory.specs.Answers.{planRefusal}
 use Rattle.answers.proofs.Rows.{or-passed}
 use Rattle.theory.proofs.Passing.{actions-indexed}
@@ -16,6 +19,10 @@ use Rattle.theory.proofs.judge_starts.Tie as tie
 -- the function's entry, from where the places of actions are taken; the two tables, from the rows on times; and the entry from there
 abbrev placed : tie.After-places2 → tie.Start
 placed c = c .before .before .before .before .before
+
+-- words are of 32 bits
+words : (c : tie.After-places2) (i : ℕ) → getD (placed c .args .starts .now) i 0 < 2 ^ 32
+words c i = omega (arith, c .before .before .before .shared-slice-known2 .given i)
 
 abbrev tabled : tie.After-effects → tie.After-durations
 tabled c = c .before .before
@@ -70,6 +77,7 @@ history-requires c κs =
         tables = record { durations = tabled (made times) .durations .ensures; effects = made times .effects .ensures };
         named = named (times-passed (times .check-times .ensures) (passing .if1 .left));
       },
+      ascending (times-passed (times .check-times .ensures) (passing .if1 .left)) (words (tabled (made times) .before)),
       timed times .pre .soon,
     )
 

@@ -10,32 +10,26 @@ use borrow.Author.Needs.{needs}
 use Rattle.history.proofs.states.apply_start.Statement.{statement}
 use Rattle.history.proofs.states.apply_start.Tie as tie
 
-abbrev entry : tie.After-acts-arg → tie.Start
-entry c = c .before .before .before .before
+abbrev entry : tie.After-finish-of → tie.Start
+entry c = c .before .before
 
 abbrev arm : tie.After-apply-arg → tie.Then1
-arm c = c .before .before .before
-
-abbrev tested : tie.After-apply-arg → tie.After-acts
-tested c = arm c .before
+arm c = c .before .before .before .before
 
 acts-here : (c : tie.After-acts) → c .acts .result ≡ acts (entry (c .before) .args .job .now) (entry (c .before) .args .hiding) (entry (c .before) .args .t) (entry (c .before) .args .s)
 acts-here c =
     let a = entry (c .before) .args in
     let p = entry (c .before) .pre .0 in
-    acts-tabled (a .hiding) (a .t) (a .s) (p .tables .durations) (p .named .action 0 (omega arith)) (c .before .before .start-moment .ensures .0)
-    (c .before .before .before .start-action .ensures .0) (c .acts .ensures)
-
-add-acts : tie.Need-add-acts
-add-acts c = omega (arith, entry c .pre .0 .tables .durations .small (c .before .before .start-action .result), c .before .start-moment .ensures .1)
+    acts-tabled (a .hiding) (a .t) (a .s) (p .tables .durations) (p .named .action 0 (omega arith)) (c .before .finish-of .ensures) (c .acts .ensures)
 
 returns : tie.Need-returns
 returns c =
-    let here = tested (c .before) in
+    let taken = arm (c .before) in
+    let here = taken .before in
     let a = entry (here .before) .args in
     let p = entry (here .before) .pre .0 in
-    start-applied (a .hiding) (a .t) (a .s) (p .tables .effects) (p .named .action 0 (omega arith)) (sym (acts-here here) ∙ arm (c .before) .if1 .taken)
-    (rw (c .before .before .fluents-of .ensures .0, here .before .before .before .start-action .ensures .0) at (c .apply .ensures))
+    start-applied (a .hiding) (a .t) (a .s) (p .tables .effects) (p .named .action 0 (omega arith)) (sym (acts-here here) ∙ taken .if1 .taken)
+    (rw (c .before .before .fluents-of .ensures .0, c .before .before .before .before .start-action .ensures .0) at (c .apply .ensures))
 
 returns-2 : tie.Need-returns-2
 returns-2 c =
@@ -46,5 +40,5 @@ returns-2 c =
 pub apply-start-spec : {M : Type 1} → statement M
 apply-start-spec =
     tie.close
-    (tie.spec (λ c κs. search needs) (λ c κs. search needs) (λ c. search needs) (λ c. search needs) add-acts (λ c κs. search needs)
+    (tie.spec (λ c κs. c .before .pre .0 .tables .durations .small _) (λ c κs. search needs) (λ c κs. search needs)
     (λ c. search needs) (λ c κs. search needs) (λ c κs. search needs) returns returns-2)

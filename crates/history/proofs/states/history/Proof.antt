@@ -1,57 +1,125 @@
--- `history::states::history` meets its contract. The invariant: the state is that at `t`, and the rows of the moments before `t` are stored.
--- Assumes nothing.
+-- `history::states::history` meets its contract. The invariant: the state and the held list are those of moment `t`, the first `next` starts
+-- are those up to `t`, and the rows of the moments up to `t` are stored. Assumes nothing.
 use mathlib.Core.List.{List}
+use mathlib.Core.Path.{_≡_, _∙_}
+use lib.ListN.{length}
 use Prim.Native.Nat.{ℕ, _+_, _-_, _≤_}
 use Rattle.job.specs.Parts.{fluents}
 use Rattle.history.specs.Values.{valueAt}
-use Rattle.history.specs.Code.Tables.{StateAt}
+use Rattle.words.proofs.Lists.{each-of}
+use Rattle.history.specs.Code.Held.{Ordered, Carried}
+use Rattle.history.proofs.HeldList.{Begun, begun-none, begun-more, begun-starting, begun-first}
 use Rattle.history.proofs.Stores.{Rows, rows-none, rows-more}
-use Rattle.history.proofs.Moments.{state-start}
+use Rattle.history.proofs.Moments.{state-start, carried-start, held-named, held-room}
 use native.Mathlib.Omega.{arith}
 use borrow.Author.Needs.{needs}
 use Rattle.history.proofs.states.history.Statement.{statement}
 use Rattle.history.proofs.states.history.Tie as tie
 
-record Walked (job starts : List ℕ) (last t : ℕ) (state table : List ℕ) : Type 0 where
-  bound : t ≤ last + 1
+record Walked (job starts : List ℕ) (last t next : ℕ) (state held : List ℕ) (count : ℕ) (table : List ℕ) : Type 0 where
+  bound : t ≤ last
   few : last ≤ 63
-  reached : StateAt job starts t state
-  stored : Rows (valueAt job starts) (fluents job) t table
+  size : length held ≡ 4096
+  carried : Carried job starts t held count state
+  begun : Begun starts (t + 1) next
+  stored : Rows (valueAt job starts) (fluents job) (t + 1) table
 
 abbrev Inv-loop : tie.InvT-loop
-Inv-loop job durations effects starts last table₀ state₀ t₀ table state t = Walked job starts last t state table
+Inv-loop job durations effects starts last table₀ state₀ held₀ next₀ count₀ t₀ table state held next count t = Walked job starts last t next state held count table
 
 abbrev μ-loop : tie.MeasureT-loop
-μ-loop job durations effects starts last table₀ state₀ t₀ table state t = last + 1 - t
+μ-loop job durations effects starts last table₀ state₀ held₀ next₀ count₀ t₀ table state held next count t = last - t
 
-abbrev start : tie.After-initial-state Inv-loop μ-loop → tie.Start Inv-loop μ-loop
-start c = c .before .before .before
+-- the entry from the state at moment 0, and that state from the loop
+abbrev entry : tie.After-initial-state Inv-loop μ-loop → tie.Start Inv-loop μ-loop
+entry c = c .before .before .before
 
-abbrev turn : tie.After-state2 Inv-loop μ-loop → tie.At-loop Inv-loop μ-loop
-turn c = c .before .before .before .before .before
+abbrev initial : tie.After-store-row Inv-loop μ-loop → tie.After-initial-state Inv-loop μ-loop
+initial c = c .before .before .before
+
+abbrev found : tie.After-copy-words Inv-loop μ-loop → tie.After-starting-at Inv-loop μ-loop
+found c = c .before .before
+
+abbrev start : tie.After-starting-at Inv-loop μ-loop → tie.Start Inv-loop μ-loop
+start c = entry (initial (c .before))
+
+abbrev begin : tie.At-loop Inv-loop μ-loop → tie.Start Inv-loop μ-loop
+begin c = start (found (c .before .before))
+
+-- a turn: where the starts of its moment are found, and where its step is made
+abbrev head : tie.After-starting-at2 Inv-loop μ-loop → tie.At-loop Inv-loop μ-loop
+head c = c .before .before
+
+abbrev joined : tie.After-step Inv-loop μ-loop → tie.After-starting-at2 Inv-loop μ-loop
+joined c = c .before .before .before
+
+abbrev stepped : tie.After-store-row2 Inv-loop μ-loop → tie.After-step Inv-loop μ-loop
+stepped c = c .before .before .before .before
+
+ordered-starts : (s : tie.Start Inv-loop μ-loop) → Ordered (s .args .job .now) (s .args .starts .now)
+ordered-starts s = record {
+  lasting = each-of (s .args .starts .now) (λ i l. s .pre .0 .well .lasting _ (s .pre .0 .named .action i l));
+  ascending = s .pre .1;
+}
+
+-- the starts of moment 0 have room in the held list
+first-fits : (f : tie.After-starting-at Inv-loop μ-loop) → length (f .starting-at .result .now) ≤ 4096
+first-fits f = let p = start f .pre .1 in rw (f .starting-at .ensures) (omega (arith, begun-first (p .moments) .inside, p .few))
 
 loop-holds : tie.Need-loop-holds Inv-loop μ-loop
-loop-holds c = record {
-  bound = omega arith;
-  few = omega (arith, start c .pre .1);
-  reached = state-start (c .initial-state .ensures);
-  stored = rows-none;
-}
+loop-holds c =
+    let copied = c .before in
+    let f = found copied in
+    let s = start f in
+    let state = initial (f .before) .initial-state .ensures in
+    let ascends = s .pre .1 .moments in
+    record {
+      bound = omega arith;
+      few = omega (arith, s .pre .2);
+      size = copied .copy-words .kept .1 .1 .0;
+      carried = rw (copied .copy-words .ensures) (carried-start (ordered-starts s) state _ (f .starting-at .ensures ∙ begun-starting ascends begun-none) (first-fits f));
+      begun = rw (f .starting-at .ensures) (begun-first ascends);
+      stored = rows-more (s .pre .0 .well .few-fluents) rows-none (f .before .store-row .ensures) (state-start state .value);
+    }
+
+step-requires : tie.Need-step-requires Inv-loop μ-loop
+step-requires c κs =
+    let j = c .before .before in
+    let s = begin (head j) in
+    let inv = head j .loop .inv in
+    record {
+      walk = record { well = s .pre .0 .well; tables = s .pre .0 .tables; named = held-named (inv .carried) (s .pre .0 .named) };
+      soon = omega (arith, inv .bound, inv .few);
+      room =
+          rw (j .starting-at2 .ensures, begun-starting (s .pre .1 .moments) (inv .begun), inv .size) (omega (arith, held-room (inv .carried), s .pre .1 .few));
+      state = inv .carried .state .room;
+    }
 
 loop-again : tie.Need-loop-again Inv-loop μ-loop
 loop-again c =
-    let here = turn (c .before) in
-    let few = start (here .before) .pre .0 .well .few-fluents in
-    let old = here .loop .inv in
-    record { bound = omega arith; few = old .few; reached = c .step .ensures; stored = rows-more few (old .stored) (c .before .before .store-row .ensures) (old .reached .value) }
+    let d = stepped c in
+    let j = joined d in
+    let s = begin (head j) in
+    let inv = head j .loop .inv in
+    let up = s .pre .1 .moments in
+    let new = d .step .ensures (s .args .starts .now) (ordered-starts s) (j .starting-at2 .ensures ∙ begun-starting up (inv .begun)) (inv .carried) in
+    record {
+      bound = omega (arith, j .before .loop-test .taken);
+      few = inv .few;
+      size = d .step .kept .1 .1 .1 .1 .1 .0 ∙ inv .size;
+      carried = new;
+      begun = rw (j .starting-at2 .ensures) (begun-more up (inv .begun));
+      stored = rows-more (s .pre .0 .well .few-fluents) (inv .stored) (c .store-row2 .ensures) (new .state .value);
+    }
 
 returns : tie.Need-returns Inv-loop μ-loop
 returns c =
     let rows = c .before .loop .inv .stored in
-    record { size = rows .size; entry = λ t f l m. rows .entry t f (omega arith) m }
+    record { size = rows .size; entry = λ t f l m. rows .entry t f (omega (arith, c .before .loop .inv .bound)) m }
 
 pub history-spec : {M : Type 1} → statement M
 history-spec =
     tie.close
-    (tie.spec Inv-loop μ-loop (λ c κs. search needs) loop-holds (λ c κs. search needs) (λ c κs. search needs) (λ c. search needs)
-    (λ c. search needs) loop-again returns)
+    (tie.spec Inv-loop μ-loop (λ c κs. search needs) (λ c κs. search needs) (λ c κs. search needs) (λ c. search needs) (λ c κs. search (needs, first-fits (c .before)))
+    loop-holds (λ c. search needs) (λ c κs. search needs) (λ c. search needs) step-requires (λ c. search needs) (λ c. search needs)
+    (λ c κs. search needs) (λ c. search needs) loop-again returns)

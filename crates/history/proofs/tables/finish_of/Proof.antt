@@ -1,8 +1,8 @@
--- `starts::times::finish_of` meets its contract: the sum of the two readings. Assumes nothing.
+-- `history::tables::finish_of` meets its contract: the sum of the two readings. Assumes nothing.
 use borrow.Author.Needs.{needs}
 use native.Mathlib.Omega.{arith}
-use Rattle.starts.proofs.times.finish_of.Statement.{statement}
-use Rattle.starts.proofs.times.finish_of.Tie as tie
+use Rattle.history.proofs.tables.finish_of.Statement.{statement}
+use Rattle.history.proofs.tables.finish_of.Tie as tie
 
 add-result : tie.Need-add-result
 add-result c = let m = c .before .before .start-moment .ensures .1 in let d = c .before .before .before .pre in omega (arith, rw (← c .before .start-action .ensures .0) at d)

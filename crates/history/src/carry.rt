@@ -1,0 +1,55 @@
+// The starts in hand, in a list that a walk of the states carries: those that finish leave it, and those that begin join it.
+ghost use mathlib.Core.Path.{_≡_};
+ghost use Prim.Native.Nat.{ℕ, _<_, _≤_};
+ghost use lib.ListN.{length, getD, drop};
+ghost use Rattle.words.specs.Scan.{takeWhile};
+ghost use Rattle.history.specs.Held.{beginsAt};
+ghost use Rattle.history.specs.Code.Held.{lastsPast, Filtered};
+use crate::tables::finish_of;
+use words::start_moment;
+
+// How many starts lead from position `from` on that begin at moment `t`; these starts.
+fn starting_count(starts: &[u32], from: usize, t: usize) -> usize
+    requires { ⌜ from ≤ length (now starts) ⌝ }
+    ensures { λ r. ⌜ r ≡ length (takeWhile (beginsAt t) (drop from (now (starts .entry)))) ⌝ }
+{
+    let mut i = from;
+    while i < starts.len() {
+        if start_moment(starts[i]) != t {
+            return i - from;
+        }
+        i += 1;
+    }
+    i - from
+}
+
+pub(crate) fn starting_at<'a>(starts: &'a [u32], from: usize, t: usize) -> &'a [u32]
+    requires { ⌜ from ≤ length (now starts) ⌝ }
+    ensures { λ r. ⌜ now r ≡ takeWhile (beginsAt t) (drop from (now (starts .entry))) ⌝ }
+{
+    let end = from + starting_count(starts, from, t);
+    &starts[from..end]
+}
+
+// Keeps of the first `count` starts those that finish after moment `t`, in their order, and says how many they are.
+pub(crate) fn keep_unfinished(
+    durations: &[usize; 64],
+    t: usize,
+    held: &mut [u32],
+    count: usize,
+) -> usize
+    requires { ⌜ ((a : ℕ) → getD (now durations) a 0 < 64) × (count ≤ length (now held)) ⌝ }
+    ensures { λ r. ⌜ Filtered (lastsPast (now (durations .entry)) t) count (now (held .entry)) r (now (held .exit)) ⌝ }
+{
+    let mut n = 0;
+    let mut i = 0;
+    while i < count {
+        let s = held[i];
+        if t < finish_of(durations, s) {
+            held[n] = s;
+            n += 1;
+        }
+        i += 1;
+    }
+    n
+}
