@@ -36,6 +36,10 @@ enum fault {
     FILL_12_AT_4096,
     FILL_ACCEPTS_4095,
     FILL_REFUSAL_WRITES,
+    FILL_FINISHES_EARLY,
+    FILL_HIDES_AT_FINISH,
+    FILL_HIDES_AT_OWN_MOMENT,
+    FILL_LAST_NOT_ADDED,
     FIND_13_FOR_ALL,
     FIND_13_WRITES,
     FIND_WRITES_NOTHING,
@@ -159,9 +163,53 @@ static uint64_t spoil_fill(uint64_t answer, uint32_t *buffer, size_t buffer_len,
     }
 }
 
+/* By action and fluent: how long the action lasts, if it makes the fluent true or false. */
+static uint32_t making[64][64];
+
+static void read_making(const uint32_t *job, size_t job_len)
+{
+    uint32_t action = 0;
+    memset(making, 0, sizeof making);
+    for (size_t i = 0; i < job_len; i++) {
+        if (job[i] >> 28 == 3u) action = job[i];
+        if (job[i] >> 28 == 4u && job[i] & 128u) making[action >> 6 & 63u][job[i] & 63u] = action & 63u;
+    }
+}
+
+/* Does a start hide this fact's fluent, by the fault? */
+static bool hides_too(const uint32_t *starts, size_t starts_len, uint32_t fact)
+{
+    uint32_t moment = planreader_fact_moment(fact), fluent = planreader_fact_fluent(fact);
+    for (size_t i = 0; i < starts_len; i++) {
+        uint32_t begin = starts[i] >> 6 & 63u, lasts = making[starts[i] & 63u][fluent];
+        if (fault() == FILL_HIDES_AT_FINISH && lasts && moment == begin + lasts) return true;
+        if (fault() == FILL_HIDES_AT_OWN_MOMENT && lasts > 1 && moment && moment == begin) return true;
+    }
+    return false;
+}
+
+/* fill, with a slip in the starts in hand that it carries from moment to moment. The other calls are right, and so the harness can see it: a
+ * slip that all calls have in common it cannot, as it does not work out states. */
+static uint64_t fill_with_slip(const uint32_t *job, size_t job_len, const uint32_t *starts, size_t starts_len, uint32_t *buffer)
+{
+    static uint32_t room[4096], other[2048];
+    size_t kept = 0, seen = starts_len;
+    memcpy(other, job, job_len * sizeof *job);
+    for (size_t i = 0; fault() == FILL_FINISHES_EARLY && i < job_len; i++) other[i] -= job[i] >> 28 == 3u && (job[i] & 63u) > 1;
+    while (fault() == FILL_LAST_NOT_ADDED && seen && starts[seen - 1] >> 6 == starts[starts_len - 1] >> 6) seen--;
+    uint64_t answer = right_fill(other, job_len, starts, seen, room, 4096);
+    if (planreader_number(answer)) return answer;
+    read_making(job, job_len);
+    for (size_t i = 0; i < planreader_length(answer); i++)
+        if (!hides_too(starts, starts_len, room[i])) buffer[kept++] = room[i];
+    return (uint64_t)kept << 24;
+}
+
 uint64_t fill(const uint32_t *job, size_t job_len, const uint32_t *starts, size_t starts_len, uint32_t *buffer, size_t buffer_len)
 {
     static uint32_t room[4096];
+    if (fault() >= FILL_FINISHES_EARLY && fault() <= FILL_LAST_NOT_ADDED && job_len >= 1 && job_len <= 2048 && buffer_len >= 4096)
+        return fill_with_slip(job, job_len, starts, starts_len, buffer);
     uint32_t first = buffer_len ? buffer[0] : 0;
     if (fault() == FILL_12_AT_4096 && buffer_len == 4096) return UINT64_C(12) << 56;
     if (fault() == FILL_ACCEPTS_4095 && buffer_len == 4095) return right_fill(job, job_len, starts, starts_len, room, 4096);

@@ -1,6 +1,7 @@
 //! The calls of the proved archive. Only this file knows their C form.
 
 use crate::checker::answer::Answer;
+use crate::compare::trial;
 
 extern "C" {
     #[link_name = "check"]
@@ -110,3 +111,13 @@ pub fn trial_show(job: &[u32], trial: &[u32], buffer: &mut [u32]) -> Answer {
         c_trial_show(job.as_ptr(), job.len(), trial.as_ptr(), trial.len(), buffer.as_mut_ptr(), buffer.len())
     })
 }
+
+/// The archive's calls on trials, with its check and its filler.
+pub const TRIAL_CALLS: trial::Calls = trial::Calls {
+    begin: &trial_begin,
+    start: &trial_start,
+    on: &trial_on,
+    show: &trial_show,
+    check: &check,
+    fill: &fill,
+};

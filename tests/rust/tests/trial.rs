@@ -1,8 +1,7 @@
 //! The archive's calls on trials against the checker written apart.
 
 use planreader_tests::checker::answer::{Answer, Refusal};
-use planreader_tests::compare::trial::{self, Calls};
-use planreader_tests::compare::{trial_by_hand, trial_moves, trial_tiny};
+use planreader_tests::compare::{trial, trial_by_hand, trial_moves, trial_tiny};
 use planreader_tests::generate::trials;
 use planreader_tests::host;
 use planreader_tests::vectors;
@@ -12,18 +11,9 @@ const MOVES_SEED: u64 = 0x5e3a_1071_0011;
 const TINY_SEED: u64 = 0x5e3a_1071_0012;
 const WORDS_SEED: u64 = 0x5e3a_1071_0013;
 
-const CALLS: Calls = Calls {
-    begin: &host::trial_begin,
-    start: &host::trial_start,
-    on: &host::trial_on,
-    show: &host::trial_show,
-    check: &host::check,
-    fill: &host::fill,
-};
-
 #[test]
 fn generated_trials_get_the_checker_s_answers() {
-    let report = trial::run(SEED, 4_000, &CALLS);
+    let report = trial::run(SEED, 4_000, &host::TRIAL_CALLS);
     report.print(SEED, "outcomes, situations and order, by refusal number", &trial::COLUMNS);
     assert!(report.cases >= 50_000);
     assert_eq!(report.differences, 0);
@@ -32,7 +22,7 @@ fn generated_trials_get_the_checker_s_answers() {
 
 #[test]
 fn trials_with_each_word_damaged_get_the_checker_s_answers() {
-    let report = trial::each_word(WORDS_SEED, 20, &CALLS);
+    let report = trial::each_word(WORDS_SEED, 20, &host::TRIAL_CALLS);
     report.print(WORDS_SEED, "outcomes and situations", &trial::COLUMNS);
     assert!(report.cases >= 20_000);
     assert_eq!(report.differences, 0);
@@ -41,7 +31,7 @@ fn trials_with_each_word_damaged_get_the_checker_s_answers() {
 
 #[test]
 fn generated_lists_of_moves_keep_the_laws() {
-    let report = trial_moves::run(MOVES_SEED, 1_500, &CALLS);
+    let report = trial_moves::run(MOVES_SEED, 1_500, &host::TRIAL_CALLS);
     report.print(MOVES_SEED, "moves by their answer, and what the lists came to", &trial_moves::COLUMNS);
     assert!(report.cases >= 100_000);
     assert_eq!(report.differences, 0);
@@ -50,7 +40,7 @@ fn generated_lists_of_moves_keep_the_laws() {
 
 #[test]
 fn tiny_trials_pass_exactly_when_some_list_of_moves_gives_them() {
-    let report = trial_tiny::run(TINY_SEED, 48, &CALLS);
+    let report = trial_tiny::run(TINY_SEED, 48, &host::TRIAL_CALLS);
     report.print(TINY_SEED, "tiny jobs, all moves against all small trials", &trial_tiny::COLUMNS);
     assert_eq!(report.differences, 0);
     let counts = trial_tiny::COLUMNS.map(|column| report.tally.count(trial_tiny::ROW, column));
@@ -59,7 +49,7 @@ fn tiny_trials_pass_exactly_when_some_list_of_moves_gives_them() {
 
 #[test]
 fn hand_written_trials_get_the_paper_s_outcomes() {
-    vectors::trial::vectors().iter().for_each(|vector| trial_by_hand::hold(vector, &CALLS));
+    vectors::trial::vectors().iter().for_each(|vector| trial_by_hand::hold(vector, &host::TRIAL_CALLS));
 }
 
 #[test]

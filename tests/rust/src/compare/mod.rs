@@ -1,5 +1,9 @@
 //! Runs of generated cases through the checker and through another answerer, with counts and differences.
 
+pub mod carried;
+pub mod carried_features;
+pub mod carried_rules;
+pub mod carried_tiny;
 pub mod find;
 pub mod find_features;
 pub mod find_tiny;

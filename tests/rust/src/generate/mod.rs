@@ -1,5 +1,8 @@
 //! Generators of jobs, plans and trials. They know how words are built, and nothing of what the product answers.
 
+pub mod carried;
+pub mod carried_damage;
+pub mod carried_starts;
 pub mod damage;
 pub mod draft;
 pub mod finds;

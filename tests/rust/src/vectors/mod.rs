@@ -1,5 +1,6 @@
 //! Cases written by hand from documents 01 and 02, with the answers that their sentences give.
 
+pub mod carried;
 pub mod find;
 pub mod job;
 pub mod plan;

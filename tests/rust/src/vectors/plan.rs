@@ -1,5 +1,6 @@
 //! The rows on starts and facts: the paper's sentences and the settled open points 10 to 15.
 
+use crate::vectors::carried;
 use crate::words::*;
 
 pub struct Vector {
@@ -14,8 +15,9 @@ pub struct Vector {
 }
 
 pub fn vectors() -> Vec<Vector> {
-    let groups = [row_6(), row_7_and_8(), row_9(), row_10(), lists(), row_11(), largest(), calls()];
-    groups.into_iter().flatten().collect()
+    let rows = [row_6(), row_7_and_8(), row_9(), row_10(), lists(), row_11(), largest(), calls()];
+    let groups = rows.into_iter().chain([carried::vectors()]);
+    groups.flatten().collect()
 }
 
 pub const LIFT: usize = 0;
