@@ -1,5 +1,5 @@
 //! Find beside the yardstick on all shapes: times, and for some instructions.
-use crate::instructions::{self, Finder};
+use crate::instructions::{self, all_within, Finder};
 use crate::shapes::{self, facts, Shape};
 use crate::time::{best, is_within};
 use crate::yardstick;
@@ -30,13 +30,7 @@ fn shape_within_limits(shape: &Shape) -> bool {
 pub fn instructions_within_limits() -> bool {
     println!("find, instructions; yardstick, instructions; ratio; limit");
     let counted = shapes::all().into_iter().filter(|shape| shape.counted);
-    match counted.map(|shape| ratio_within_limit(&shape)).collect::<Result<Vec<bool>, String>>() {
-        Ok(within) => !within.contains(&false),
-        Err(told) => {
-            println!("{told}");
-            false
-        }
-    }
+    all_within(counted.map(|shape| ratio_within_limit(&shape)))
 }
 
 fn ratio_within_limit(shape: &Shape) -> Result<bool, String> {

@@ -1,7 +1,8 @@
-//! Instructions of one call, counted by callgrind: this program runs itself under valgrind with a shape and a finder, or with a trial's call.
+//! Instructions of one call, counted by callgrind: this program runs itself under valgrind with a shape and a finder, with a trial's call, or
+//! with a plan for fill.
 use crate::shapes::{self, facts, Shape};
 use crate::yardstick;
-use planreader_tests::host;
+use planreader_tests::{checker::answer::Answer, host};
 use std::hint::black_box;
 use std::process::Command;
 
@@ -53,6 +54,15 @@ pub fn count_run(subject: &str, call: &str) -> Result<u64, String> {
     }
 }
 
+/// Whether all are within their limits; prints what went wrong with a run.
+pub fn all_within(results: impl Iterator<Item = Result<bool, String>>) -> bool {
+    let print = |told: String| {
+        println!("{told}");
+        false
+    };
+    results.map(|result| result.unwrap_or_else(print)).fold(true, |all, within| all & within)
+}
+
 /// The run that is counted.
 pub fn run(name: &str, finder: &str) {
     let shape = shapes::all().into_iter().find(|shape| shape.name == name).expect("a shape of that name");
@@ -62,7 +72,13 @@ pub fn run(name: &str, finder: &str) {
     black_box(counted_find(archive, &shape.job, &shape.starts, &facts, &mut buffer));
 }
 
-/// The only function whose instructions count, with what it calls. Callgrind knows it by this name.
+/// The only two functions whose instructions count, with what they call. Callgrind knows them by these names.
+#[no_mangle]
+#[inline(never)]
+pub fn counted_call(call: &mut dyn FnMut() -> Answer) -> Answer {
+    black_box(call())
+}
+
 #[no_mangle]
 #[inline(never)]
 fn counted_find(archive: bool, job: &[u32], starts: &[u32], facts: &[u32], buffer: &mut [u32]) -> usize {

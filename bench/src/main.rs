@@ -1,13 +1,27 @@
 //! Times of check, fill, trials and find, beside the independent checker and the yardstick, and instructions counted by callgrind. Exits
 //! with 1 where a limit is broken or answers differ.
-use planreader_bench::{agreement, calls, finds, instructions, plain, time, trials};
+use planreader_bench::{agreement, calls, figures, finds, instructions, plain, time, trials, walks};
 
 fn main() {
     let arguments: Vec<String> = std::env::args().skip(1).collect();
-    if let [first, subject, call] = &arguments[..] {
-        assert_eq!(first, instructions::COUNTED, "the only arguments are those of a counted run");
-        return if subject == trials::COUNTED { trials::run(call) } else { instructions::run(subject, call) };
+    match arguments.iter().map(String::as_str).collect::<Vec<_>>()[..] {
+        [] => hold_to_limits(),
+        [instructions::COUNTED, subject, call] => run_counted(subject, call),
+        [figures::FIGURES, kind] => figures::print_names(kind),
+        [figures::FIGURES, kind, name] => figures::print(kind, name),
+        _ => panic!("the only arguments are those of a counted run and of figures"),
     }
+}
+
+fn run_counted(subject: &str, call: &str) {
+    match subject {
+        trials::COUNTED => trials::run(call),
+        walks::COUNTED => walks::run(call),
+        shape => instructions::run(shape, call),
+    }
+}
+
+fn hold_to_limits() {
     println!(
         "limits are multiplied by {:.2}: how slow this machine is beside the one on which they were set",
         time::slowness()
@@ -18,6 +32,7 @@ fn main() {
         plain::agrees(),
         finds::within_limits(),
         agreement::within_limits(),
+        walks::instructions_within_limits(),
         trials::instructions_are_within(),
         finds::instructions_within_limits(),
     ];

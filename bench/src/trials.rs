@@ -1,22 +1,23 @@
 //! The calls on a trial of 4,000 starts, beside check of those starts with their facts and beside the independent checker.
-use crate::calls::{plan, CALL};
-use crate::instructions::count_run;
+use crate::calls::CALL;
+use crate::instructions::{count_run, counted_call};
+use crate::plans::largest;
 use crate::shapes::facts;
 use crate::time::{best, is_within};
 use planreader_tests::checker::{answer::Answer, trial as plain};
 use planreader_tests::host;
-use std::hint::black_box;
 
 /// The argument of a counted run that is about the trial, and those for its two calls.
 pub const COUNTED: &str = "trial";
 const COUNTED_START: &str = "start";
 const COUNTED_CHECK: &str = "check";
+pub const COUNTED_CALLS: [&str; 2] = [COUNTED_START, COUNTED_CHECK];
 
 /// How many instructions a start may take beside check.
 const START_TO_CHECK: f64 = 1.0;
 
 /// A call on a job, a trial and a buffer, which show alone writes to.
-type Call = fn(&[u32], &mut [u32], &mut [u32]) -> Answer;
+pub type Call = fn(&[u32], &mut [u32], &mut [u32]) -> Answer;
 
 /// The archive's call and the checker's.
 const BEGIN: [Call; 2] =
@@ -29,12 +30,19 @@ const SHOW: [Call; 2] = [
     |job, trial, buffer| plain::trial_show(job, trial, buffer),
 ];
 
+pub const CALLS: [(&str, [Call; 2]); 4] = [("begin", BEGIN), ("start", START), ("on", ON), ("show", SHOW)];
+
+/// The least time of a call, in milliseconds.
+pub fn time(runs: usize, call: Call) -> f64 {
+    let (job, _, trial) = trial();
+    timed(runs, call, &job, &trial).0
+}
+
 /// Prints the times; whether they are within the limits, all moves are accepted, and both say the same.
 pub fn within_limits() -> bool {
     let (job, starts, trial) = trial();
     println!("trials of {} starts, ms; limit; independent checker, ms", starts.len());
-    let calls = [("begin", BEGIN), ("start", START), ("on", ON), ("show", SHOW)];
-    let within = calls.map(|(name, call)| call_within_limit(name, call, &job, &trial));
+    let within = CALLS.map(|(name, call)| call_within_limit(name, call, &job, &trial));
     print_start_and_check(&job, &starts, &trial);
     !within.contains(&false)
 }
@@ -55,7 +63,7 @@ fn print_start_and_check(job: &[u32], starts: &[u32], trial: &[u32]) {
 /// The job of the largest plan, 4,000 of its 4,032 starts, and the trial of these: at its moment, 62, the higher actions are started, so that
 /// action 0 goes in before them.
 fn trial() -> (Vec<u32>, Vec<u32>, Vec<u32>) {
-    let (job, all) = plan(1);
+    let (job, all) = largest(1);
     let starts = [&all[..62 * 64], &all[62 * 64 + 32..]].concat();
     let mut trial = [&[62, starts.len() as u32], &starts[..]].concat();
     trial.resize(plain::TRIAL_WORDS, 0);
@@ -85,7 +93,7 @@ fn call_within_limit(name: &str, [call, checker]: [Call; 2], job: &[u32], trial:
 /// Prints the instructions of a start and of check, which other work on the machine does not change; whether a start takes no more.
 pub fn instructions_are_within() -> bool {
     println!("start in a trial, instructions; check of the same starts with their facts, instructions; ratio; limit");
-    match [COUNTED_START, COUNTED_CHECK].map(|call| count_run(COUNTED, call)) {
+    match COUNTED_CALLS.map(count) {
         [Ok(start), Ok(check)] => {
             let ratio = start as f64 / check as f64;
             let within = ratio <= START_TO_CHECK;
@@ -102,6 +110,11 @@ pub fn instructions_are_within() -> bool {
     }
 }
 
+/// How many instructions one of the two calls takes.
+pub fn count(call: &str) -> Result<u64, String> {
+    count_run(COUNTED, call)
+}
+
 /// The run that is counted.
 pub fn run(call: &str) {
     let (job, starts, mut trial) = trial();
@@ -111,11 +124,4 @@ pub fn run(call: &str) {
         COUNTED_CHECK => counted_call(&mut || host::check(&job, &starts, &facts)),
         _ => panic!("no call {call} is counted"),
     };
-}
-
-/// The only function whose instructions count, with what it calls. Callgrind knows it by this name.
-#[no_mangle]
-#[inline(never)]
-fn counted_call(call: &mut dyn FnMut() -> Answer) -> Answer {
-    black_box(call())
 }

@@ -1,7 +1,7 @@
 //! Jobs with as many end windows as there is room for, over rows of many ends: in plans with few starts, with many, and with the most.
 use super::nodes::Nodes;
 use super::{Shape, LARGEST, WINDOWS};
-use crate::calls;
+use crate::plans::largest;
 use planreader_tests::words::{action, formula, head, kind, node, start};
 
 /// How many times as many instructions as the yardstick find may take on a small job.
@@ -27,7 +27,7 @@ fn small_shape(name: &str, starts: Vec<u32>) -> Shape {
 
 /// The largest plan of check, 4,032 starts, in a job of 2,048 words: after the actions two formulas that always hold, and this procedure.
 fn largest_shape() -> Shape {
-    let (job, starts) = calls::plan(1);
+    let (job, starts) = largest(1);
     let before_formulas = job.into_iter().take_while(|&word| kind(word) < 5);
     let before_nodes = before_formulas.chain([formula(0, 0, 0); 2]).collect();
     let name = "29 end windows, 4,032 starts".to_string();

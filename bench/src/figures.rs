@@ -1,0 +1,83 @@
+//! What the archive alone takes, one figure a run: the script `before-and-after` has two archives measured by turns.
+use crate::instructions::{self, Finder};
+use crate::plans::{self, Plan};
+use crate::shapes::{self, facts};
+use crate::time::best;
+use crate::{trials, walks};
+use planreader_tests::{checker::answer::Answer, host};
+
+/// A time is the best of so many.
+const RUNS: usize = 100;
+
+/// The first argument of such a run.
+pub const FIGURES: &str = "figures";
+
+/// A call on a job, starts, facts, which fill does not take, and a buffer, which check does not.
+type Call = fn(&[u32], &[u32], &[u32], &mut [u32]) -> Answer;
+
+const CHECK: Call = |job, starts, facts, _| host::check(job, starts, facts);
+const FILL: Call = |job, starts, _, buffer| host::fill(job, starts, buffer);
+const FIND: Call = host::find;
+
+struct Figure {
+    name: String,
+    measure: Box<dyn Fn() -> f64>,
+}
+
+impl Figure {
+    fn new(name: String, measure: impl Fn() -> f64 + 'static) -> Figure {
+        Figure { name, measure: Box::new(measure) }
+    }
+}
+
+pub fn print_names(kind: &str) {
+    figures(kind).iter().for_each(|figure| println!("{}", figure.name));
+}
+
+pub fn print(kind: &str, name: &str) {
+    let figure = figures(kind).into_iter().find(|figure| figure.name == name).expect("a figure of that name");
+    println!("{}", (figure.measure)());
+}
+
+/// Times are in milliseconds.
+fn figures(kind: &str) -> Vec<Figure> {
+    match kind {
+        "times" => times(),
+        "instructions" => instructions(),
+        _ => panic!("figures are times or instructions, not {kind}"),
+    }
+}
+
+fn times() -> Vec<Figure> {
+    let plans = plans::all().into_iter().flat_map(|Plan { name, job, starts, .. }| {
+        [time(format!("check: {name}"), CHECK, &job, &starts), time(format!("fill: {name}"), FILL, &job, &starts)]
+    });
+    let trial = trials::CALLS
+        .map(|(name, [call, _])| Figure::new(format!("{name} in a trial"), move || trials::time(RUNS, call)));
+    let finds =
+        shapes::all().into_iter().map(|shape| time(format!("find: {}", shape.name), FIND, &shape.job, &shape.starts));
+    plans.chain(trial).chain(finds).collect()
+}
+
+fn time(name: String, call: Call, job: &[u32], starts: &[u32]) -> Figure {
+    let (job, starts) = (job.to_vec(), starts.to_vec());
+    Figure::new(name, move || {
+        let facts = facts(&job, &starts);
+        let mut buffer = vec![0; 4096];
+        best(RUNS, || call(&job, &starts, &facts, &mut buffer)).0
+    })
+}
+
+fn instructions() -> Vec<Figure> {
+    let fills = plans::all().into_iter().map(|plan| count(format!("fill: {}", plan.name), move || walks::count(&plan)));
+    let trial =
+        trials::COUNTED_CALLS.map(|call| count(format!("{call} on the trial's starts"), move || trials::count(call)));
+    let counted = shapes::all().into_iter().filter(|shape| shape.counted);
+    let finds = counted
+        .map(|shape| count(format!("find: {}", shape.name), move || instructions::count(&shape, Finder::Archive)));
+    fills.chain(trial).chain(finds).collect()
+}
+
+fn count(name: String, run: impl Fn() -> Result<u64, String> + 'static) -> Figure {
+    Figure::new(name, move || run().unwrap_or_else(|told| panic!("{told}")) as f64)
+}

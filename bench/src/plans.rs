@@ -1,0 +1,77 @@
+//! Lawful plans for check and fill: the largest ones, and plans by how many starts are in hand.
+use planreader_tests::words::{action, formula, head, initially, law, node, start};
+
+/// The last moments of the plans by starts in hand.
+pub const LASTS: [usize; 3] = [15, 31, 63];
+
+/// How many laws an action of the largest plans has.
+const LAWS: usize = 29;
+
+/// Fluents of the plans by starts in hand: one that all actions need, and six that they make. So few, so that the walk of the states takes
+/// little for the fluents of a start that acts, and it shows how many starts it looks at.
+const MADE: usize = 6;
+
+pub struct Plan {
+    pub name: String,
+    pub last: usize,
+    pub job: Vec<u32>,
+    /// They ascend and are lawful.
+    pub starts: Vec<u32>,
+    /// For each moment the number of starts in hand, added up.
+    pub in_hand: usize,
+}
+
+pub fn all() -> Vec<Plan> {
+    let largest = [1, 2, 7].map(|d| {
+        let (job, starts) = largest(d);
+        let in_hand = starts.len() * d;
+        Plan { name: format!("the largest, d = {d}"), last: 63, job, starts, in_hand }
+    });
+    largest.into_iter().chain(LASTS.into_iter().flat_map(by_starts_in_hand)).collect()
+}
+
+/// 64 fluents, all known from the start; 64 actions of duration d, each with 29 laws (12 needs, 17 makes, all true, so that nothing
+/// clashes); every action starts at every d-th moment. With d > 1 the needs would be hidden, so the laws all make. With 62 formulas the
+/// job has 2,048 words, the most there may be.
+pub fn largest(d: usize) -> (Vec<u32>, Vec<u32>) {
+    let mut job = vec![head(64, 64, 63)];
+    job.extend((0..64).map(|f| initially(f, true)));
+    for a in 0..64 {
+        job.push(action(a, d));
+        let needs = if d == 1 { 12 } else { 0 };
+        job.extend((0..LAWS).map(|i| law(if i < needs { 0 } else { 2 }, (a + i * 3) % 64)));
+    }
+    job.extend([formula(0, 0, 0); 62]);
+    job.push(node(1, 0, 0, 0, 0));
+    let starts = (0..=63 - d).step_by(d).flat_map(|u| (0..64).map(move |a| start(u, a))).collect();
+    (job, starts)
+}
+
+/// Without starts; with 64 starts in hand at each moment; and for n = 63 also with one, with eight, and of different durations.
+pub fn by_starts_in_hand(last: usize) -> Vec<Plan> {
+    let short = |_| 1;
+    let mut plans = vec![plan("no starts", last, short, 0), plan("64 in hand", last, short, 64)];
+    if last == 63 {
+        plans.extend([1, 8].map(|started| plan(&format!("{started} in hand"), last, short, started)));
+        plans.push(plan("durations 2, 7 and 63", last, |a| [2, 7, 63][a % 3], 64));
+    }
+    plans
+}
+
+/// A job of 64 actions of these durations, of which so many start at 0 and whenever they have finished, as long as they finish by `last`.
+/// Fluents 1 to 3 are made true and were false at first, 4 to 6 the other way round; those who make a fluent have the same duration.
+fn plan(name: &str, last: usize, duration: impl Fn(usize) -> usize, started: usize) -> Plan {
+    let mut job = vec![head(1 + MADE, 64, last), initially(0, true)];
+    job.extend((0..MADE).map(|i| initially(1 + i, i >= MADE / 2)));
+    for a in 0..64 {
+        let made = a % MADE;
+        job.extend([action(a, duration(a)), law(0, 0), law(if made < MADE / 2 { 2 } else { 3 }, 1 + made)]);
+    }
+    job.extend([formula(0, 0, 0), node(1, 0, 0, 0, 0)]);
+    let starting = |u: usize, a: usize| u % duration(a) == 0 && u + duration(a) <= last;
+    let pairs: Vec<(usize, usize)> = (0..=last).flat_map(|u| (0..started).map(move |a| (u, a))).collect();
+    let pairs: Vec<(usize, usize)> = pairs.into_iter().filter(|&(u, a)| starting(u, a)).collect();
+    let in_hand = pairs.iter().map(|&(_, a)| duration(a)).sum();
+    let starts = pairs.into_iter().map(|(u, a)| start(u, a)).collect();
+    Plan { name: format!("{name}, n = {last}"), last, job, starts, in_hand }
+}

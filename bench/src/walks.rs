@@ -1,0 +1,53 @@
+//! Instructions of fill by how many starts are in hand: the walk of the states carries these from moment to moment, and does not look
+//! through all starts at each.
+use crate::instructions::{all_within, count_run, counted_call};
+use crate::plans::{self, by_starts_in_hand, Plan, LASTS};
+use planreader_tests::host;
+
+/// The argument of a counted run that is about fill on a plan.
+pub const COUNTED: &str = "fill";
+
+/// How many instructions fill may take without starts, and beyond that for each start (rows 6 to 10 look at it) and for each moment at
+/// which one is in hand. When these were set, it took 606,440, about 522 and about 101.
+const WITHOUT_STARTS: u64 = 650_000;
+const START: u64 = 600;
+const IN_HAND: u64 = 110;
+
+/// Prints the instructions; whether they are within the limits.
+pub fn instructions_within_limits() -> bool {
+    println!("fill, instructions; limit; beyond those without starts, for each start in hand at a moment");
+    all_within(LASTS.into_iter().flat_map(plans_within_limits))
+}
+
+/// The plans with this last moment, of which the first has no starts.
+fn plans_within_limits(last: usize) -> Vec<Result<bool, String>> {
+    let plans = by_starts_in_hand(last);
+    match count(&plans[0]) {
+        Ok(without) => plans.iter().map(|plan| plan_within_limit(plan, without)).collect(),
+        Err(told) => vec![Err(told)],
+    }
+}
+
+fn plan_within_limit(plan: &Plan, without: u64) -> Result<bool, String> {
+    let (starts, in_hand) = (plan.starts.len() as u64, plan.in_hand as u64);
+    let (taken, limit) = match starts {
+        0 => (without, WITHOUT_STARTS),
+        _ => (count(plan)?, without + START * starts + IN_HAND * in_hand),
+    };
+    let each = taken.saturating_sub(without).checked_div(in_hand).map_or("-".to_string(), |each| each.to_string());
+    let told = if taken <= limit { "" } else { "  FAILED" };
+    println!("{taken:>12} {limit:>12} {each:>6}  {}: {starts} starts, {in_hand} in hand{told}", plan.name);
+    Ok(taken <= limit)
+}
+
+/// How many instructions fill takes on a plan.
+pub fn count(plan: &Plan) -> Result<u64, String> {
+    count_run(COUNTED, &plan.name)
+}
+
+/// The run that is counted.
+pub fn run(name: &str) {
+    let plan = plans::all().into_iter().find(|plan| plan.name == name).expect("a plan of that name");
+    let mut buffer = vec![0; 4096];
+    counted_call(&mut || host::fill(&plan.job, &plan.starts, &mut buffer));
+}
