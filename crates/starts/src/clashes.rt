@@ -17,22 +17,21 @@ use answers::refuse;
 use history::finish_of;
 use words::*;
 
-// Whether two actions clash, and the table of all pairs.
+// Whether two actions clash, without a way out of the loop, so that it can be done on many fluents at once; and the table of all pairs.
 pub fn has_clash(job: &[u32], effects: &[u8; 4096], a: usize, b: usize) -> bool
     requires { ⌜ Paired (now job) (now effects) a b ⌝ }
     ensures { λ r. ⌜ r ≡ clash (now (job .entry)) a b ⌝ }
 {
     let n = fluents_of(job[0]);
+    let mut found = false;
     let mut f = 0;
     while f < n {
         let x = effects[a * FLUENTS + f];
         let y = effects[b * FLUENTS + f];
-        if ((x == 2) & (y == 0)) | ((x == 0) & (y == 2)) {
-            return true;
-        }
+        found |= ((x == 2) & (y == 0)) | ((x == 0) & (y == 2));
         f += 1;
     }
-    false
+    found
 }
 
 fn clash_entry(job: &[u32], effects: &[u8; 4096], k: usize) -> u8
