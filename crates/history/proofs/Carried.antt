@@ -2,8 +2,7 @@
 use mathlib.Core.Bool.{Bool, true, false}
 use mathlib.Core.List.{List, []}
 use mathlib.Core.Path.{_≡_, sym, ap, _∙_}
-use Prim.Native.Nat.{ℕ, _+_, _<_, _≤_}
-use native.Mathlib.Nat.{zero-add}
+use Prim.Native.Nat.{ℕ, suc, _+_, _<_, _≤_}
 use native.Mathlib.Numerals.{add-one}
 use native.Mathlib.Omega.{arith}
 use borrow.Author.Tests.{ne-eqb}
@@ -12,30 +11,30 @@ use lib.Seq.{sets, length-sets, length-take-le}
 use Rattle.words.specs.Fields.{startMoment, startAction}
 use Rattle.words.specs.Lists.{Each}
 use Rattle.words.specs.Scan.{filter}
-use Rattle.words.proofs.Copies.{sets-front, sets-before}
+use Rattle.words.proofs.Copies.{sets-front, sets-first, sets-before}
 use Rattle.words.proofs.Filter.{filter-agree, each-filter, filter-apart}
 use Rattle.words.proofs.Lists.{each-of, each-at}
 use Rattle.job.specs.Code.WellFormed.{WellFormed}
 use Rattle.job.specs.Parts.{actions, duration}
 use Rattle.history.specs.Actions.{finish, inHand}
-use Rattle.history.specs.Held.{heldAt}
+use Rattle.history.specs.Held.{heldAt, beginsAt, startingAt, unfinished, Lasting, Ascending}
 use Rattle.history.specs.Code.Tables.{Durations, Named, Walkable, StateAt}
-use Rattle.history.specs.Code.Held.{beginsAt, startingAt, lastsPast, Filtered, Ascending, Carried}
+use Rattle.history.specs.Code.Held.{unfinishedBy, Filtered, Carried}
 use Rattle.history.specs.Code.Passes.{AfterPass}
-use Rattle.history.proofs.Held.{in-hand-true, unfinished, held-start, held-next}
+use Rattle.history.proofs.Held.{in-hand-true, held-start, held-next}
 use Rattle.history.proofs.Moments.{state-start, state-next, finish-tabled}
 
 -- each start lasts
-pub each-lasts : {job S : List ℕ} → WellFormed job → Named job S → Each (λ s. 0 < duration job (startAction s)) S
+pub each-lasts : {job S : List ℕ} → WellFormed job → Named job S → Lasting job S
 each-lasts {job} {S} w n = each-of S (λ i l. w .lasting _ (n .action i l))
 
 -- a walk at moment 0: its held list has the starts that begin then
-pub carried-start : {job S : List ℕ} → Each (λ s. 0 < duration job (startAction s)) S → {state : List ℕ} → StateAt job [] 0 state → {first : List ℕ} (held : List ℕ) → first ≡ startingAt S 0 → length first ≤ length held
+pub carried-start : {job S : List ℕ} → Lasting job S → {state : List ℕ} → StateAt job [] 0 state → {first : List ℕ} (held : List ℕ) → first ≡ startingAt S 0 → length first ≤ length held
     → Carried job S 0 (sets held 0 first) (length first) state
 carried-start {job} {S} lasting s {first} held begin room = record {
   state = state-start s;
   inside = rw (length-sets held 0 first) room;
-  words = rw zero-add at (sets-front held first 0 (rw zero-add room)) ∙ begin ∙ sym (held-start job lasting);
+  words = sets-first held first room ∙ begin ∙ sym (held-start job S lasting);
 }
 
 -- starts that pass a test name actions of the job as the others do
@@ -52,21 +51,21 @@ module _ {job S : List ℕ} {t : ℕ} {held : List ℕ} {count : ℕ} {bytes : L
       rw (sym (length-take-le count held (c .inside)) ∙ ap length (c .words))
       (filter-apart (inHand job t) (beginsAt (t + 1)) (λ s e. ne-eqb (startMoment s) (t + 1) (λ z. omega (arith, in-hand-true job t s e .0))) S)
 
--- those kept, with the starts that begin written after them
+-- those kept name actions of the job also after the starts that begin are written behind them
 pub walkable-kept : {job durations effects held : List ℕ} {count n : ℕ} {kept : List ℕ} {test : ℕ → Bool} (starting : List ℕ) → Walkable job durations effects (take count held)
     → Filtered test count held n kept → n + length starting ≤ length kept → Walkable job durations effects (take n (sets kept n starting))
 walkable-kept {n = n} {kept = kept} {test = test} starting w f room =
     record { well = w .well; tables = w .tables; named = rw (sets-before kept starting n room, f .words) (named-filter test (w .named)) }
 
 -- a step: the state and the held list of the next moment
-module _ {job durations S : List ℕ} {t : ℕ} {held : List ℕ} {count : ℕ} {old : List ℕ} (lasting : Each (λ s. 0 < duration job (startAction s)) S)
+module _ {job durations S : List ℕ} {t : ℕ} {held : List ℕ} {count : ℕ} {old : List ℕ} (lasting : Lasting job S)
     (ascends : Ascending S) (c : Carried job S t held count old)
-    (d : Durations job durations) (named : Named job (take count held)) {n : ℕ} {kept : List ℕ} (f : Filtered (lastsPast durations (t + 1)) count held n kept) where
+    (d : Durations job durations) (named : Named job (take count held)) {n : ℕ} {kept : List ℕ} (f : Filtered (unfinishedBy durations (t + 1)) count held n kept) where
   -- those kept are in hand and do not finish
-  kept-held : take n kept ≡ filter (unfinished job t) (heldAt job S t)
+  kept-held : take n kept ≡ filter (unfinished job (suc t)) (heldAt job S t)
   kept-held =
       f .words
-      ∙ filter-agree (lastsPast durations (t + 1)) (unfinished job t) (each-of (take count held) (λ i l. rw (add-one t, finish-tabled d _ (named .action i l))))
+      ∙ filter-agree (unfinishedBy durations (t + 1)) (unfinished job (suc t)) (each-of (take count held) (λ i l. rw (add-one t, finish-tabled d _ (named .action i l))))
       ∙ rw (c .words)
 
   pub carried-next : {starting mid new : List ℕ} → starting ≡ startingAt S (t + 1) → n + length starting ≤ length kept
@@ -77,5 +76,5 @@ module _ {job durations S : List ℕ} {t : ℕ} {held : List ℕ} {count : ℕ} 
     inside = rw (length-sets kept n starting) room;
     words =
         sets-front kept starting n room
-        ∙ rw (kept-held, begin, add-one t) (sym (held-next job t lasting (ascends .moments)));
+        ∙ rw (kept-held, begin, add-one t) (sym (held-next job S t lasting ascends));
   }

@@ -18,8 +18,7 @@ use Rattle.words.proofs.Filter.{any-filter, findOr-filter, any-agree, findOr-ag
 use Rattle.job.specs.Parts.{duration}
 use Rattle.history.specs.Actions.{finish, inHand, hides, finishes, affects}
 use Rattle.history.specs.Values.{hidesFluent, givesFluent, givenValue, nextValue}
-use Rattle.history.specs.Held.{heldAt, HeldExactly}
-use Rattle.history.specs.Code.Held.{beginsAt, startingAt}
+use Rattle.history.specs.Held.{heldAt, beginsAt, startingAt, unfinished, Lasting, Ascending, HeldExactly, HeldStart, HeldNext}
 
 -- in hand is u ≤ t < u + d
 module _ (job : List ℕ) (t s : ℕ) where
@@ -36,25 +35,21 @@ held-exactly job starts t s =
     let m = mem-filter (inHand job t) s starts in
     (λ h. let r = m .0 h in (r .0, in-hand-true job t s (r .1)), λ h. m .1 (h .0, true-in-hand job t s (h .1 .0) (h .1 .1)))
 
--- a start in hand that does not finish at the next moment
-abbrev pub unfinished : List ℕ → ℕ → ℕ → Bool
-unfinished job t s = ltb (suc t) (finish job s)
-
 module _ (job : List ℕ) (t f : ℕ) where
   -- what hides at the next moment is in hand now and does not finish then
-  hides-held : (s : ℕ) → (inHand job t s && (unfinished job t s && affects job f s)) ≡ hidesFluent job (suc t) f s
-  hides-held s = same-test (inHand job t s && (unfinished job t s && affects job f s)) (hidesFluent job (suc t) f s) to from
+  hides-held : (s : ℕ) → (inHand job t s && (unfinished job (suc t) s && affects job f s)) ≡ hidesFluent job (suc t) f s
+  hides-held s = same-test (inHand job t s && (unfinished job (suc t) s && affects job f s)) (hidesFluent job (suc t) f s) to from
     where
-      to : (inHand job t s && (unfinished job t s && affects job f s)) ≡ true → hidesFluent job (suc t) f s ≡ true
+      to : (inHand job t s && (unfinished job (suc t) s && affects job f s)) ≡ true → hidesFluent job (suc t) f s ≡ true
       to e =
-          let a = both-true (inHand job t s) (unfinished job t s && affects job f s) e in
-          let b = both-true (unfinished job t s) (affects job f s) (a .1) in
+          let a = both-true (inHand job t s) (unfinished job (suc t) s && affects job f s) e in
+          let b = both-true (unfinished job (suc t) s) (affects job f s) (a .1) in
           rw (lt-ltb (startMoment s) (suc t) (omega (arith, in-hand-true job t s (a .0) .0)), b .0, b .1)
 
-      from : hidesFluent job (suc t) f s ≡ true → (inHand job t s && (unfinished job t s && affects job f s)) ≡ true
+      from : hidesFluent job (suc t) f s ≡ true → (inHand job t s && (unfinished job (suc t) s && affects job f s)) ≡ true
       from e =
           let a = both-true (hides job (suc t) s) (affects job f s) e in
-          let b = both-true (ltb (startMoment s) (suc t)) (unfinished job t s) (a .0) in
+          let b = both-true (ltb (startMoment s) (suc t)) (unfinished job (suc t) s) (a .0) in
           let l = ltb-true (startMoment s) (suc t) (b .0) in
           let m = ltb-true (suc t) (finish job s) (b .1) in
           rw (true-in-hand job t s (omega arith) (omega arith), b .1, a .1)
@@ -69,22 +64,22 @@ module _ (job : List ℕ) (t f : ℕ) where
       here l = true-in-hand job t s (omega arith) (omega arith)
 
   -- so a step of the state sees the starts in hand alone: those that finish give, the others hide
-  pub next-held : (old : ℕ) {S : List ℕ} → Each (λ s. 0 < duration job (startAction s)) S
-      → cond (any (affects job f) (filter (unfinished job t) (heldAt job S t))) unknown (findOr (givesFluent job (suc t) f) (givenValue job f) old (heldAt job S t))
+  pub next-held : (old : ℕ) {S : List ℕ} → Lasting job S
+      → cond (any (affects job f) (filter (unfinished job (suc t)) (heldAt job S t))) unknown (findOr (givesFluent job (suc t) f) (givenValue job f) old (heldAt job S t))
       ≡ nextValue job S (suc t) f old
   unfolding nextValue
   next-held old {S} lasting =
       rw (
-        any-filter (affects job f) (unfinished job t) (heldAt job S t),
-        any-filter (λ s. unfinished job t s && affects job f s) (inHand job t) S,
+        any-filter (affects job f) (unfinished job (suc t)) (heldAt job S t),
+        any-filter (λ s. unfinished job (suc t) s && affects job f s) (inHand job t) S,
         any-agree _ _ (each-map (λ s l. hides-held s) lasting),
         findOr-filter (givesFluent job (suc t) f) (inHand job t) (givenValue job f) old S,
         findOr-agree _ _ (givenValue job f) old (each-map gives-held lasting),
       )
 
 -- the set at moment 0: the starts that begin then
-pub held-start : (job : List ℕ) {S : List ℕ} → Each (λ s. 0 < duration job (startAction s)) S → heldAt job S 0 ≡ startingAt S 0
-held-start job lasting = filter-agree (inHand job 0) (beginsAt 0) (each-map begins lasting)
+pub held-start : HeldStart
+held-start job starts lasting = filter-agree (inHand job 0) (beginsAt 0) (each-map begins lasting)
   where
     begins : (s : ℕ) → 0 < duration job (startAction s) → inHand job 0 s ≡ beginsAt 0 s
     begins s l =
@@ -96,15 +91,15 @@ held-start job lasting = filter-agree (inHand job 0) (beginsAt 0) (each-map begi
         positive n = by-cases (decLt 0 (startMoment s)) (λ l. l) (λ l. absurd (n (omega arith)))
 
 -- the set at the next moment: of those in hand the ones that have not finished, and then the starts that begin then
-pub held-next : (job : List ℕ) (t : ℕ) {S : List ℕ} → Each (λ s. 0 < duration job (startAction s)) S → Pairs (λ s s'. startMoment s ≤ startMoment s') S
-    → heldAt job S (suc t) ≡ filter (unfinished job t) (heldAt job S t) ++ startingAt S (suc t)
+next-list : (job : List ℕ) (t : ℕ) {S : List ℕ} → Lasting job S → Ascending S
+    → heldAt job S (suc t) ≡ filter (unfinished job (suc t)) (heldAt job S t) ++ startingAt S (suc t)
 unfolding filter
-held-next job t each-none pairs-none = refl
-held-next job t (each-more {s} {ss = S} lasts ls) (pairs-more p ps) = cases (decLt (suc t) (startMoment s)) (decLt (startMoment s) (suc t)) (held-next job t ls ps)
+next-list job t each-none pairs-none = refl
+next-list job t (each-more {s} {ss = S} lasts ls) (pairs-more p ps) = cases (decLt (suc t) (startMoment s)) (decLt (startMoment s) (suc t)) (next-list job t ls ps)
   where
-    cases : Dec (suc t < startMoment s) → Dec (startMoment s < suc t) → heldAt job S (suc t) ≡ filter (unfinished job t) (heldAt job S t) ++ startingAt S (suc t)
+    cases : Dec (suc t < startMoment s) → Dec (startMoment s < suc t) → heldAt job S (suc t) ≡ filter (unfinished job (suc t)) (heldAt job S t) ++ startingAt S (suc t)
         → cond (inHand job (suc t) s) (s ∷ heldAt job S (suc t)) (heldAt job S (suc t))
-        ≡ filter (unfinished job t) (cond (inHand job t s) (s ∷ heldAt job S t) (heldAt job S t))
+        ≡ filter (unfinished job (suc t)) (cond (inHand job t s) (s ∷ heldAt job S t) (heldAt job S t))
         ++ cond (beginsAt (suc t) s) (s ∷ startingAt S (suc t)) (startingAt S (suc t))
     -- it starts later
     cases (yes l) m ih =
@@ -116,7 +111,7 @@ held-next job t (each-more {s} {ss = S} lasts ls) (pairs-more p ps) = cases (dec
       where
         early : (b : Bool) → ltb (suc t) (finish job s) ≡ b → Dec (t < finish job s)
             → cond b (s ∷ heldAt job S (suc t)) (heldAt job S (suc t))
-            ≡ filter (unfinished job t) (cond (ltb t (finish job s)) (s ∷ heldAt job S t) (heldAt job S t)) ++ startingAt S (suc t)
+            ≡ filter (unfinished job (suc t)) (cond (ltb t (finish job s)) (s ∷ heldAt job S t) (heldAt job S t)) ++ startingAt S (suc t)
         early true e d =
             let n = ltb-true (suc t) (finish job s) e in
             rw (lt-ltb t (finish job s) (omega arith), e, ih)
@@ -132,3 +127,6 @@ held-next job t (each-more {s} {ss = S} lasts ls) (pairs-more p ps) = cases (dec
           ih,
           filter-none (inHand job t) (each-map (λ v h. rw (lt-leb (startMoment v) t (omega arith))) p),
         )
+
+pub held-next : HeldNext
+held-next job starts t lasting ascends = next-list job t lasting ascends

@@ -1,23 +1,22 @@
 -- The starts in hand as the first words of a list: which of a plan's starts join it at a moment, which stay in it. Assumes nothing.
 use mathlib.Core.Bool.{Bool, true, false}
-use mathlib.Core.List.{List, []}
+use mathlib.Core.List.{List}
 use mathlib.Core.Logic.{by-cases}
 use mathlib.Core.Path.{_≡_, refl, sym, subst, _∙_}
-use Prim.Native.Nat.{ℕ, suc, _+_, _-_, _<_, _≤_}
+use Prim.Native.Nat.{ℕ, _+_, _-_, _<_, _≤_}
 use native.Mathlib.Decide.{decLt}
 use native.Mathlib.Nat.{zero-add}
 use native.Mathlib.Numerals.{add-one}
 use native.Mathlib.Omega.{arith}
 use borrow.Author.Tests.{eqb-true, eqb-false, eq-eqb, ne-eqb}
 use lib.ListN.{length, getD, take, drop, set, length-set, length-drop}
-use lib.Seq.{getD-drop, getD-set-other, take-suc-set, drop-append-add}
+use lib.Seq.{getD-drop, getD-set-other, take-suc-set}
 use Rattle.words.specs.Fields.{startMoment}
 use Rattle.words.specs.Scan.{takeWhile, filter}
-use Rattle.words.specs.Lists.{Pairs}
 use Rattle.words.proofs.Scan.{takeWhile-entry, takeWhile-stop, takeWhile-take, run-inside}
 use Rattle.words.proofs.Lists.{pairs-at}
 use Rattle.words.proofs.Filter.{filter-hit, filter-miss, filter-slice}
-use Rattle.history.specs.Code.Held.{beginsAt, startingAt}
+use Rattle.history.specs.Held.{beginsAt, startingAt, Ascending}
 
 -- of starts in the order of their moments, the first `next` are those before moment t
 pub record Begun (S : List ℕ) (t next : ℕ) : Type 0 where
@@ -28,7 +27,7 @@ pub record Begun (S : List ℕ) (t next : ℕ) : Type 0 where
 pub begun-none : {S : List ℕ} → Begun S 0 0
 begun-none = record { inside = omega arith; before = λ i l. absurd (omega arith); after = λ i l m. omega arith }
 
-module _ {S : List ℕ} {t next : ℕ} (ascends : Pairs (λ s s'. startMoment s ≤ startMoment s') S) (old : Begun S t next) where
+module _ {S : List ℕ} {t next : ℕ} (ascends : Ascending S) (old : Begun S t next) where
   abbrev n : ℕ
   n = length (takeWhile (beginsAt t) (drop next S))
 
@@ -68,7 +67,7 @@ module _ {S : List ℕ} {t next : ℕ} (ascends : Pairs (λ s s'. startMoment s 
       ∙ takeWhile-take (beginsAt t) (drop next S))
 
 -- at moment 0
-pub begun-first : {S : List ℕ} → Pairs (λ s s'. startMoment s ≤ startMoment s') S → Begun S 1 (length (takeWhile (beginsAt 0) S))
+pub begun-first : {S : List ℕ} → Ascending S → Begun S 1 (length (takeWhile (beginsAt 0) S))
 begun-first {S} ascends = subst (λ (k : ℕ). Begun S 1 k) (zero-add _) (begun-more ascends begun-none)
 
 -- a list on the way to `Filtered`: of the first i words those that pass are the first n, and from word i on it is as it was

@@ -13,12 +13,12 @@ use Rattle.words.specs.Scan.{filter}
 use Rattle.job.specs.Parts.{headWord, fluents, actions, duration, lawsOf}
 use Rattle.history.specs.Actions.{makesFluent, lawValue, effect, finish, affects}
 use Rattle.history.specs.Values.{valueAt}
-use Rattle.history.specs.Held.{heldAt}
+use Rattle.history.specs.Held.{heldAt, unfinished, Lasting}
 use Rattle.history.specs.Code.Tables.{Durations, tabledFinish, Effects, Walkable, StateAt}
 use Rattle.history.specs.Code.Stores.{Overlaid, Mapped}
 use Rattle.history.specs.Code.Passes.{acts, leaves, changedBy, AfterPass}
 use Rattle.history.proofs.Stores.{any-gives, overlaid-hit, overlaid-open}
-use Rattle.history.proofs.Held.{unfinished, next-held}
+use Rattle.history.proofs.Held.{next-held}
 
 -- the values that an action makes, from its laws
 pub effect-row : (job : List ℕ) (a : ℕ) {row : List ℕ} → Overlaid 64 (makesFluent (headWord job)) (λ f. lawValue (headWord job)) (replicate 64 unknown) (lawsOf job a) row
@@ -32,8 +32,8 @@ unfolding valueAt
 state-start s = record { room = s .room; value = s .value }
 
 -- the two passes: over the starts in hand, and over those of them that do not finish
-pub state-next : {job starts : List ℕ} (t : ℕ) {held kept old mid new : List ℕ} → Each (λ s. 0 < duration job (startAction s)) starts
-    → held ≡ heldAt job starts t → kept ≡ filter (unfinished job t) (heldAt job starts t) → StateAt job starts t old
+pub state-next : {job starts : List ℕ} (t : ℕ) {held kept old mid new : List ℕ} → Lasting job starts
+    → held ≡ heldAt job starts t → kept ≡ filter (unfinished job (suc t)) (heldAt job starts t) → StateAt job starts t old
     → AfterPass job false (t + 1) held old mid → AfterPass job true (t + 1) kept mid new → StateAt job starts (t + 1) new
 unfolding valueAt
 state-next {job} {starts} t {held} {kept} {old} {mid} {new} lasting is rest s g h = record { room = rw (h .size, g .size) (s .room); value = value }
@@ -47,10 +47,6 @@ state-next {job} {starts} t {held} {kept} {old} {mid} {new} lasting is rest s g 
 -- one start, by the tables of durations and effects
 pub finish-tabled : {job durations : List ℕ} → Durations job durations → (s : ℕ) → startAction s < actions job → tabledFinish durations s ≡ finish job s
 finish-tabled d s h = rw (d .entry (startAction s) h)
-
-pub acts-tabled : {job durations : List ℕ} (hiding : Bool) (t s : ℕ) → Durations job durations → startAction s < actions job → {end : ℕ} → end ≡ tabledFinish durations s
-    → {r : Bool} → r ≡ (hiding || eqb end t) → r ≡ acts job hiding t s
-acts-tabled hiding t s d h q r = r ∙ rw (q, finish-tabled d s h)
 
 pub start-applied : {job effects old new : List ℕ} (hiding : Bool) (t s : ℕ) → Effects job effects → startAction s < actions job → acts job hiding t s ≡ true
     → Mapped (fluents job) (changedBy effects (startAction s) hiding) old new → AfterPass job hiding t (s ∷ []) old new

@@ -3,11 +3,12 @@ ghost use mathlib.Core.Path.{_≡_};
 ghost use Prim.Native.Nat.{ℕ, _<_, _≤_};
 ghost use lib.ListN.{length, getD, drop};
 ghost use Rattle.words.specs.Scan.{takeWhile};
-ghost use Rattle.history.specs.Code.Held.{beginsAt, lastsPast, Filtered};
+ghost use Rattle.history.specs.Held.{beginsAt};
+ghost use Rattle.history.specs.Code.Held.{unfinishedBy, Filtered};
 use crate::tables::finish_of;
 use words::start_moment;
 
-// How many starts lead from position `from` on that begin at moment `t`; these starts.
+// How many starts from position `from` on begin at moment `t`, up to the first that does not; these starts.
 fn starting_count(starts: &[u32], from: usize, t: usize) -> usize
     requires { ⌜ from ≤ length (now starts) ⌝ }
     ensures { λ r. ⌜ r ≡ length (takeWhile (beginsAt t) (drop from (now (starts .entry)))) ⌝ }
@@ -31,14 +32,9 @@ pub(crate) fn starting_at<'a>(starts: &'a [u32], from: usize, t: usize) -> &'a [
 }
 
 // Keeps of the first `count` starts those that finish after moment `t`, in their order, and says how many they are.
-pub(crate) fn keep_unfinished(
-    durations: &[usize; 64],
-    t: usize,
-    held: &mut [u32],
-    count: usize,
-) -> usize
+pub fn keep_unfinished(durations: &[usize; 64], t: usize, held: &mut [u32], count: usize) -> usize
     requires { ⌜ ((a : ℕ) → getD (now durations) a 0 < 64) × (count ≤ length (now held)) ⌝ }
-    ensures { λ r. ⌜ Filtered (lastsPast (now (durations .entry)) t) count (now (held .entry)) r (now (held .exit)) ⌝ }
+    ensures { λ r. ⌜ Filtered (unfinishedBy (now (durations .entry)) t) count (now (held .entry)) r (now (held .exit)) ⌝ }
 {
     let mut n = 0;
     let mut i = 0;

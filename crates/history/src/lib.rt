@@ -3,6 +3,7 @@ mod carry;
 pub mod states;
 pub mod tables;
 
+pub use carry::keep_unfinished;
 pub use states::history;
 pub use tables::durations;
 pub use tables::effects;

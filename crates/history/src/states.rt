@@ -1,17 +1,16 @@
 // The history of a plan: the state (the values of the fluents) at moment 0, and from each moment to the next, where the starts in hand are
 // carried along.
 ghost use mathlib.Core.Path.{_≡_};
-ghost use mathlib.Core.Bool.{_||_};
 ghost use mathlib.Core.List.{List, _∷_, []};
 ghost use Prim.Native.Nat.{ℕ, _+_, _<_, _≤_};
-ghost use lib.Dec.{eqb};
 ghost use lib.ListN.{length};
 ghost use Rattle.words.specs.Fields.{knownValue};
 ghost use Rattle.job.specs.Parts.{fluents};
 ghost use Rattle.job.specs.Code.WellFormed.{WellFormed};
 ghost use Rattle.history.specs.Values.{lists};
 ghost use Rattle.history.specs.Code.Tables.{Named, Walkable, StateAt, HistoryUpto};
-ghost use Rattle.history.specs.Code.Held.{startingAt, Ascending, Carried, Steppable};
+ghost use Rattle.history.specs.Held.{startingAt, Ascending};
+ghost use Rattle.history.specs.Code.Held.{Carried, Steppable};
 ghost use Rattle.history.specs.Code.Stores.{Overlaid, Mapped};
 ghost use Rattle.history.specs.Code.Passes.{changed, changedBy, AfterPass};
 use crate::carry::keep_unfinished;
@@ -78,14 +77,7 @@ fn apply(effects: &[u8; 4096], a: usize, n: usize, hiding: bool, state: &mut [u8
     }
 }
 
-// Whether a start that finishes at `end` acts in a pass to moment `t`: all hide, and those give that finish then.
-fn acts(end: usize, hiding: bool, t: usize) -> bool
-    ensures { λ r. ⌜ r ≡ (hiding || eqb end t) ⌝ }
-{
-    hiding | (end == t)
-}
-
-// Applies the start `s`, if it acts in a pass to moment `t`.
+// Applies the start `s`, if it acts in a pass to moment `t`: in the hiding pass each does, in the other one that finishes then.
 fn apply_start(
     job: &[u32],
     durations: &[usize; 64],
@@ -98,7 +90,7 @@ fn apply_start(
     requires { ⌜ Walkable (now job) (now durations) (now effects) (s ∷ []) × (fluents (now job) ≤ length (now state)) ⌝ }
     ensures { λ _. ⌜ AfterPass (now (job .entry)) hiding t (s ∷ []) (now (state .entry)) (now (state .exit)) ⌝ }
 {
-    if acts(finish_of(durations, s), hiding, t) {
+    if hiding | (finish_of(durations, s) == t) {
         apply(effects, start_action(s), fluents_of(job[0]), hiding, state);
     }
 }
@@ -123,8 +115,9 @@ fn apply_starts(
     }
 }
 
-// From moment `t` to the next, where the starts in `starting` begin. Of the starts in hand, the first `count` words of `held`, those that
-// finish then give their effects; the others stay in hand, and so do those that begin, which do not hide yet. The number in hand then.
+// From moment `t` to the next, at which the starts in `starting` begin. Of those in hand, the first `count` words of `held`, the ones that
+// finish then give their effects and leave the list, and the others hide. Those that begin join the list and do not hide yet. How many are
+// in hand then.
 fn step(
     job: &[u32],
     durations: &[usize; 64],
@@ -154,7 +147,7 @@ pub fn history(
     starts: &[u32],
     last: usize,
 ) -> [u8; 4096]
-    requires { ⌜ Walkable (now job) (now durations) (now effects) (now starts) × Ascending (now starts) × (last < 64) ⌝ }
+    requires { ⌜ Walkable (now job) (now durations) (now effects) (now starts) × Ascending (now starts) × (length (now starts) ≤ 4096) × (last < 64) ⌝ }
     ensures { λ r. ⌜ HistoryUpto (now (job .entry)) (now (starts .entry)) last r ⌝ }
 {
     let mut table = [OPEN; 4096];

@@ -14,7 +14,7 @@ use Rattle.words.proofs.Lists.{pairs-of}
 use Rattle.job.specs.Parts.{actions, lastMoment}
 use Rattle.history.specs.Actions.{finish}
 use Rattle.history.specs.Code.Tables.{Durations, tabledFinish, Named}
-use Rattle.history.specs.Code.Held.{Ascending}
+use Rattle.history.specs.Held.{Ascending}
 use Rattle.history.proofs.Moments.{finish-tabled}
 use Rattle.answers.specs.declared.Refusal.{Refusal}
 use Rattle.answers.specs.Rows.{firstOf}
@@ -130,9 +130,5 @@ pub moments-ordered : {job starts : List ℕ} → StartsFormed job starts → ((
 moments-ordered h words {i} {j} l m =
     ordered (word-is (right-word h j (omega arith)) (words j)) (word-is (right-word h i m) (words i)) (words-ascend h i j l m)
 
--- so a walk of the states can take them
 pub ascending : {job starts : List ℕ} → StartsFormed job starts → ((i : ℕ) → getD starts i 0 < 2 ^ 32) → Ascending starts
-ascending {job} {starts} h words = record {
-  moments = pairs-of starts (λ i j l m. moments-ordered h words l m .0);
-  few = few-words job starts words (length starts) (h .right);
-}
+ascending {job} {starts} h words = pairs-of starts (λ i j l m. moments-ordered h words l m .0)

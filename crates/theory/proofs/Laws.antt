@@ -11,8 +11,9 @@ use native.Mathlib.Decide.{decLt}
 use borrow.Author.Tests.{eqb-true, eq-eqb, ne-eqb, lt-ltb, le-ltb, ltb-false}
 use lib.Dec.{eqb, ltb}
 use lib.ListN.{length, getD, take, drop, drop-of-length-le}
-use lib.Seq.{sets, sets-eq, take-at, take-length}
+use lib.Seq.{sets, sets-eq, take-length}
 use Rattle.words.proofs.Scan.{drop-next}
+use Rattle.words.proofs.Copies.{sets-first}
 use Rattle.answers.proofs.Rows.{or-assoc, row-none}
 use Rattle.answers.specs.declared.Refusal.{Refusal}
 use Rattle.answers.specs.declared.Answer.{Answer}
@@ -84,12 +85,12 @@ passes-equal (a ∷ given) (b ∷ wanted) i e = cases (eqb a b) refl e (passes-e
     cases false t e ih = absurd (omega arith)
 
 -- words written from the front
-sets-front : (l vs : List ℕ) → length vs ≤ length l → sets l 0 vs ≡ take (length vs) vs ++ drop (length vs) l
-sets-front l vs h = sets-eq vs l 0 (rw zero-add h) ∙ rw (zero-add, take-length)
+sets-whole : (l vs : List ℕ) → length vs ≤ length l → sets l 0 vs ≡ take (length vs) vs ++ drop (length vs) l
+sets-whole l vs h = sets-eq vs l 0 (rw zero-add h) ∙ rw (zero-add, take-length)
 
 pub filled-front : {old words : List ℕ} {n : ℕ} {new : List ℕ} → Filled old words n new → length words ≤ length old
     → (take n new ≡ words) × (new ≡ take n words ++ drop n old)
 filled-front {old} {words} {n} {new} f h = (
-  rw (f .held, f .count, sets-front old words h, take-length) (take-at words _ (length words) refl),
-  rw (f .held, f .count) (sets-front old words h),
+  rw (f .held, f .count) (sets-first old words h),
+  rw (f .held, f .count) (sets-whole old words h),
 )

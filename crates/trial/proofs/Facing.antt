@@ -1,19 +1,27 @@
--- When a start that is not later is one of the same action in hand, and when it clashes with a new one. Assumes nothing.
-use mathlib.Core.Bool.{false, _&&_}
+-- When a start that is not later is one of the same action in hand, and when it clashes with a new one; that starts in hand alone do. Assumes
+-- nothing.
+use mathlib.Core.Bool.{Bool, true, false, _&&_}
 use mathlib.Core.List.{List}
-use mathlib.Core.Path.{_≡_, ap, _∙_}
+use mathlib.Core.Path.{_≡_, refl, ap, sym, _∙_}
 use Prim.Native.Nat.{ℕ, _<_, _≤_}
 use native.Mathlib.Omega.{arith}
-use borrow.Author.Tests.{le-ltb, lt-ltb}
+use borrow.Author.Tests.{le-ltb, lt-ltb, ltb-false}
 use lib.Dec.{eqb, leb, ltb}
 use Rattle.words.specs.Fields.{startMoment, startAction, startWord}
-use Rattle.job.specs.Parts.{duration}
-use Rattle.history.specs.Actions.{finish}
+use Rattle.words.specs.Scan.{any, filter}
+use Rattle.words.proofs.Choices.{both-true, same-test}
+use Rattle.words.proofs.Filter.{any-filter, any-agree, each-filter}
+use Rattle.words.proofs.Lists.{each-map, each-with}
+use Rattle.job.specs.Parts.{actions, duration}
+use Rattle.history.specs.Actions.{finish, inHand}
+use Rattle.history.specs.Code.Held.{unfinishedBy}
+use Rattle.history.proofs.Held.{in-hand-true}
+use Rattle.history.proofs.Moments.{finish-tabled}
 use Rattle.starts.specs.Rows.{clash, together, clashing}
 use Rattle.starts.proofs.Opposed.{together-later}
 use Rattle.moves.specs.Trials.{busy}
 use Rattle.moves.proofs.Accept.{word-moment, word-action}
-use Rattle.trial.specs.Code.Given.{Facing}
+use Rattle.trial.specs.Code.Given.{Facing, FacingAll}
 
 pub busy-read : (job : List ℕ) (u a s : ℕ) {x y z : ℕ} → x ≡ startAction s → y ≡ startMoment s → z ≡ finish job s
     → busy job u a s ≡ (eqb x a && (leb y u && ltb u z))
@@ -39,3 +47,42 @@ module _ {job durations effects : List ℕ} {s u a : ℕ} (given : Facing job du
 
   pub clashing-yet : u < finish job s → clashing job s (startWord u a) ≡ clash job (startAction s) a
   clashing-yet l = rw (together-new, lt-ltb u (finish job s) l, of-a)
+
+-- of all starts of a plan: only those in hand are of the same action in hand, or clash
+module _ {job durations effects starts : List ℕ} {u a : ℕ} (given : FacingAll job durations effects starts u a) where
+  pub held-facing : FacingAll job durations effects (filter (unfinishedBy durations u) starts) u a
+  held-facing = record {
+    tables = given .tables;
+    action = each-filter (unfinishedBy durations u) (given .action);
+    past = each-filter (unfinishedBy durations u) (given .past);
+    present = given .present;
+    new = given .new;
+  }
+
+  tabled : (s : ℕ) → startAction s < actions job → unfinishedBy durations u s ≡ ltb u (finish job s)
+  tabled s k = rw (finish-tabled (given .tables .lasts) s k)
+
+  pub held-busy : any (busy job u a) (filter (unfinishedBy durations u) starts) ≡ any (busy job u a) starts
+  held-busy = any-filter (busy job u a) (unfinishedBy durations u) starts ∙ any-agree _ _ (each-map same (given .action))
+    where
+      same : (s : ℕ) → startAction s < actions job → (unfinishedBy durations u s && busy job u a s) ≡ busy job u a s
+      same s k =
+          same-test (unfinishedBy durations u s && busy job u a s) (busy job u a s) (λ e. both-true (unfinishedBy durations u s) (busy job u a s) e .1)
+          (λ e. rw (here (in-hand-true job u s (both-true (eqb (startAction s) a) (inHand job u s) e .1) .1), e))
+        where
+          here : u < finish job s → unfinishedBy durations u s ≡ true
+          here l = tabled s k ∙ lt-ltb u (finish job s) l
+
+  pub held-clash : any (λ s. clashing job s (startWord u a)) (filter (unfinishedBy durations u) starts) ≡ any (λ s. clashing job s (startWord u a)) starts
+  held-clash =
+      any-filter (λ s. clashing job s (startWord u a)) (unfinishedBy durations u) starts ∙ any-agree _ _ (each-with same (given .action) (given .past))
+    where
+      same : (s : ℕ) → startAction s < actions job → startMoment s ≤ u → (unfinishedBy durations u s && clashing job s (startWord u a)) ≡ clashing job s (startWord u a)
+      same s k l = cases (ltb u (finish job s)) refl
+        where
+          facing : Facing job durations effects s u a
+          facing = record { tables = given .tables; action = k; past = l; present = given .present; new = given .new }
+
+          cases : (b : Bool) → ltb u (finish job s) ≡ b → (unfinishedBy durations u s && clashing job s (startWord u a)) ≡ clashing job s (startWord u a)
+          cases true e = rw (tabled s k, e)
+          cases false e = rw (tabled s k, e) (sym (clashing-over facing (ltb-false u (finish job s) e)))

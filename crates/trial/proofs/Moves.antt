@@ -7,9 +7,10 @@ use native.Mathlib.Omega.{arith}
 use borrow.Author.Tests.{eq-eqb, leb-false}
 use lib.Dec.{leb}
 use lib.ListN.{length, take}
-use lib.Seq.{sets, sets-eq, length-sets, length-take-le, take-at}
+use lib.Seq.{sets, length-sets, length-take-le}
 use Rattle.words.specs.Fields.{startWord}
 use Rattle.words.specs.Lists.{insert, firstWords}
+use Rattle.words.proofs.Copies.{sets-first}
 use Rattle.words.proofs.Lists.{firstWords-take}
 use Rattle.words.proofs.Insert.{insert-length}
 use Rattle.answers.specs.declared.Refusal.{Refusal}
@@ -39,9 +40,8 @@ module _ (t : Trial) (w : ℕ) (s : Sized t) (room : t .length < 4096) {next : L
 
   pub put-front : firstWords (t .length + 1) next ≡ insert w (take (t .length) (t .starts))
   put-front =
-      let fits : 0 + length (insert w (take (t .length) (t .starts))) ≤ length (t .starts) = omega (arith, more, s .size) in
       firstWords-take (t .length + 1) next (omega (arith, put-size))
-      ∙ rw (put, sets-eq (insert w (take (t .length) (t .starts))) (t .starts) 0 fits) (take-at (insert w (take (t .length) (t .starts))) _ (t .length + 1) more)
+      ∙ rw (put, ← more) (sets-first (t .starts) (insert w (take (t .length) (t .starts))) (omega (arith, more, s .size)))
 
 -- the rows before the move's own refuse, or leave it to them
 module _ (job : List ℕ) (t : Trial) (m : Move) {early : Refusal} (is : early ≡ firstRow (jobRefusal job ∷ trialRefusal job (trialOf t) ∷ [])) where

@@ -2,7 +2,7 @@
 use mathlib.Core.Bool.{Bool, true, false}
 use mathlib.Core.List.{List}
 use mathlib.Core.Path.{_≡_, ap, sym, _∙_}
-use Prim.Native.Nat.{ℕ, _+_, _*_, _^_, _<_}
+use Prim.Native.Nat.{ℕ, _+_, _*_, _^_, _<_, _≤_}
 use native.Mathlib.Omega.{arith}
 use lib.Dec.{leb, ltb}
 use lib.ListN.{length, getD}
@@ -12,14 +12,14 @@ use Rattle.words.specs.Lists.{Each, insert}
 use Rattle.words.proofs.Lists.{each-at, each-map}
 use Rattle.words.proofs.Insert.{each-insert, insert-length}
 use Rattle.answers.specs.declared.Refusal.{Refusal}
-use Rattle.answers.specs.Rows.{refusal}
+use Rattle.answers.specs.Rows.{refusal, row, firstRefusal}
 use Rattle.job.specs.Parts.{headWord, actions, lastMoment, duration, lawsOf}
 use Rattle.job.specs.Refusal.{jobRefusal}
 use Rattle.job.specs.Code.WellFormed.{WellFormed, Indexed}
-use Rattle.answers.proofs.Rows.{or-none}
-use Rattle.starts.specs.Rows.{unmet, unmetAt, startsRefusal}
+use Rattle.answers.proofs.Rows.{or-none, or-refused, or-passed, or-assoc}
+use Rattle.starts.specs.Rows.{clashing, unmet, unmetAt, startsRefusal}
 use Rattle.starts.specs.Lawful.{Lawful}
-use Rattle.starts.specs.Code.Given.{StartsFormed, Timed, Recorded}
+use Rattle.starts.specs.Code.Given.{StartsFormed, Recorded}
 use Rattle.starts.proofs.Needs.{needs-read}
 use Rattle.starts.proofs.StartsFormed.{right-of}
 use Rattle.starts.proofs.Lawful.{lawful, lawful-formed}
@@ -29,7 +29,7 @@ use Rattle.theory.proofs.Passing.{job-clear, plan-formed, actions-indexed}
 use Rattle.moves.specs.Trials.{Trial, busy, startRefusal}
 use Rattle.moves.proofs.Accept.{startable, accept}
 use Rattle.moves.proofs.Passing.{lawful-few}
-use Rattle.trial.specs.Code.Given.{FacingAll, Present, stateRefusal, StartTested}
+use Rattle.trial.specs.Code.Given.{FacingAll, Present, heldRefusal, StartTested}
 
 -- a plan that rows 1 to 10 pass has lawful starts
 pub plan-lawful : {job starts : List ℕ} → planRefusal job starts .number ≡ 0 → Lawful job starts
@@ -43,8 +43,8 @@ module _ {job starts : List ℕ} {u : ℕ} {plan : Plan} (given : Present job st
   pub present-words : StartsFormed job starts
   present-words = lawful-formed job starts (plan-lawful (given .passed .clear))
 
-  pub present-timed : Timed job (plan .durations) starts
-  present-timed = record { formed = present-formed; lasts = given .passed .durations; words = present-words }
+  pub present-few : Each (λ s. s < 2 ^ 32) starts → length starts ≤ 4096
+  present-few small = lawful-few small (plan-lawful (given .passed .clear))
 
   pub present-indexed : Indexed job 3 (plan .index .actions .position)
   present-indexed = actions-indexed job (job-clear job starts (given .passed .clear)) (given .passed .index)
@@ -101,10 +101,14 @@ module _ (job starts : List ℕ) (u a : ℕ) where
     row-7 e = rw (n6, e)
 
     module _ (n7 : ltb (lastMoment job) (u + duration job a) ≡ false) where
-      pub row-8 : any (busy job u a) starts ≡ true → refusal 8 0 ≡ startRefusal job (record { moment = u; starts = starts }) a
+      all-rows : firstRefusal (heldRefusal job starts u a) (row (unmetAt job starts u a) 10 0) ≡ startRefusal job (record { moment = u; starts = starts }) a
       unfolding startRefusal
-      row-8 e = rw (n6, n7, e)
+      all-rows =
+          rw (n6, n7)
+          (sym (or-assoc (row (any (busy job u a) starts) 8 0) (row (any (λ s. clashing job s (startWord u a)) starts) 9 0) (row (unmetAt job starts u a) 10 0)))
 
-      pub rows-9-10 : any (busy job u a) starts ≡ false → stateRefusal job starts u a ≡ startRefusal job (record { moment = u; starts = starts }) a
-      unfolding startRefusal
-      rows-9-10 e = rw (n6, n7, e)
+      pub rows-8-9 : (heldRefusal job starts u a .number ≡ 0 → ⊥) → heldRefusal job starts u a ≡ startRefusal job (record { moment = u; starts = starts }) a
+      rows-8-9 never = or-refused (heldRefusal job starts u a) _ never ∙ all-rows
+
+      pub row-10 : heldRefusal job starts u a .number ≡ 0 → row (unmetAt job starts u a) 10 0 ≡ startRefusal job (record { moment = u; starts = starts }) a
+      row-10 clear = or-passed (heldRefusal job starts u a) _ clear ∙ all-rows

@@ -1,37 +1,37 @@
 // The rows on a trial and on a new start.
 ghost use mathlib.Core.Path.{_≡_};
-ghost use Prim.Native.Nat.{_<_};
+ghost use Prim.Native.Nat.{_<_, _≤_};
 ghost use lib.Dec.{ltb};
+ghost use lib.ListN.{length};
 ghost use Rattle.words.specs.Fields.{startMoment, startAction, startWord};
 ghost use Rattle.words.specs.Scan.{any};
-ghost use Rattle.history.specs.Code.Tables.{Durations};
+ghost use Rattle.history.specs.Code.Tables.{Durations, Named};
 ghost use Rattle.starts.specs.Rows.{clashing};
-ghost use Rattle.starts.specs.Code.Given.{Timed};
 ghost use Rattle.job.specs.Parts.{actions};
 ghost use Rattle.moves.specs.Trials.{busy};
-ghost use Rattle.trial.specs.Code.Given.{Facing, FacingAll, Present, stateRefusal, StartTested};
+ghost use Rattle.trial.specs.Code.Given.{Facing, FacingAll, Present, heldRefusal, StartTested};
 use answers::Refusal;
 use answers::refuse;
 use answers::row_of;
 use history::finish_of;
+use history::keep_unfinished;
 use history::laws_of;
 use starts::has_clash;
 use starts::has_unmet;
 use theory::Plan;
 use words::*;
 
-// Whether a word of the starts has a moment after `u`.
+// Whether a word of the starts has a moment after `u`: without a way out of the loop, so that many are compared at once.
 pub fn some_later(starts: &[u32], u: usize) -> bool
     ensures { λ r. ⌜ r ≡ any (λ s. ltb u (startMoment s)) (now (starts .entry)) ⌝ }
 {
-    let mut i = 0;
-    while i < starts.len() {
-        if u < start_moment(starts[i]) {
-            return true;
-        }
-        i += 1;
+    let mut found = false;
+    let mut i = starts.len();
+    while 0 < i {
+        i -= 1;
+        found = (u < start_moment(starts[i])) | found;
     }
-    false
+    found
 }
 
 // Whether the start `s` is one of action `a` that is in hand at moment `u`.
@@ -47,7 +47,7 @@ fn is_busy(job: &[u32], durations: &[usize; 64], s: u32, u: usize, a: usize) -> 
 
 // Whether some start is.
 fn some_busy(job: &[u32], durations: &[usize; 64], starts: &[u32], u: usize, a: usize) -> bool
-    requires { ⌜ Timed (now job) (now durations) (now starts) ⌝ }
+    requires { ⌜ Durations (now job) (now durations) × Named (now job) (now starts) ⌝ }
     ensures { λ r. ⌜ r ≡ any (busy (now (job .entry)) u a) (now (starts .entry)) ⌝ }
 {
     let mut i = 0;
@@ -100,23 +100,22 @@ fn some_clash(
     false
 }
 
-// Rows 9 and 10 of action `a` started at moment `u`, of a judged plan up to that moment.
-fn state_refusal(job: &[u32], plan: Plan, starts: &[u32], u: usize, a: usize) -> Refusal
-    requires { ⌜ Present (now job) (now starts) u plan × (a < actions (now job)) ⌝ }
-    ensures { λ r. ⌜ r ≡ stateRefusal (now (job .entry)) (now (starts .entry)) u a ⌝ }
+// Rows 8 and 9 of action `a` started at moment `u`: only starts in hand then can be of the same action in hand, or clash.
+fn held_refusal(job: &[u32], plan: Plan, starts: &[u32], u: usize, a: usize) -> Refusal
+    requires { ⌜ Present (now job) (now starts) u plan × (a < actions (now job)) × (length (now starts) ≤ 4096) ⌝ }
+    ensures { λ r. ⌜ r ≡ heldRefusal (now (job .entry)) (now (starts .entry)) u a ⌝ }
 {
     let durations = plan.durations;
     let effects = plan.effects;
-    if some_clash(job, &durations, &effects, starts, u, a) {
-        return refuse(9, 0);
+    let mut held = [0u32; 4096];
+    copy_words(starts, 0, &mut held);
+    let count = keep_unfinished(&durations, u, &mut held, starts.len());
+    if some_busy(job, &durations, &held[..count], u, a) {
+        return refuse(8, 0);
     }
-    let index = plan.index;
-    let actions = index.actions;
-    let places = actions.position;
-    let history = plan.history;
     row_of(
-        has_unmet(job[0], &history, u, laws_of(job, &places, a)),
-        10,
+        some_clash(job, &durations, &effects, &held[..count], u, a),
+        9,
         0,
     )
 }
@@ -134,8 +133,17 @@ pub fn start_refusal(job: &[u32], plan: Plan, starts: &[u32], u: usize, a: usize
     if last_of(head) < u + durations[a] {
         return refuse(7, 0);
     }
-    if some_busy(job, &durations, starts, u, a) {
-        return refuse(8, 0);
+    let held = held_refusal(job, plan, starts, u, a);
+    if held.number != 0 {
+        return held;
     }
-    state_refusal(job, plan, starts, u, a)
+    let index = plan.index;
+    let actions = index.actions;
+    let places = actions.position;
+    let history = plan.history;
+    row_of(
+        has_unmet(head, &history, u, laws_of(job, &places, a)),
+        10,
+        0,
+    )
 }

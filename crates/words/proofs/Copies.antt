@@ -28,6 +28,9 @@ sets-front buffer ws n h =
     rw (sets-eq ws buffer n h)
     (take-at (take n buffer ++ ws) (drop (n + length ws) buffer) (n + length ws) (rw (length-append, length-take-le n buffer (omega arith))))
 
+pub sets-first : (buffer ws : List ℕ) → length ws ≤ length buffer → take (length ws) (sets buffer 0 ws) ≡ ws
+sets-first buffer ws h = rw zero-add at (sets-front buffer ws 0 (rw zero-add h))
+
 pub sets-before : (buffer ws : List ℕ) (n : ℕ) → n + length ws ≤ length buffer → take n (sets buffer n ws) ≡ take n buffer
 sets-before buffer ws n h =
     let front = take n buffer in

@@ -1,6 +1,6 @@
 -- What the first word that passes a test gives, and its law along a list: at position i the test passes, fails, or the list is at its end.
 -- Assumes nothing.
-use mathlib.Core.Bool.{Bool, true, false, cond}
+use mathlib.Core.Bool.{Bool, true, false, cond, _||_}
 use mathlib.Core.List.{List, [], _∷_}
 use mathlib.Core.Logic.{by-cases}
 use mathlib.Core.Path.{_≡_, refl, ap, sym, _∙_}
@@ -37,6 +37,11 @@ module _ (ws : List ℕ) (i : ℕ) where
     pub any-end : length ws ≤ i → any test (drop i ws) ≡ false
     unfolding any
     any-end h = rw (drop-of-length-le ws h)
+
+-- a loop from the last word to the first
+pub any-back : (test : ℕ → Bool) (ws : List ℕ) (i : ℕ) → 0 < i → i ≤ length ws → any test (drop (i - 1) ws) ≡ (test (getD ws (i - 1) 0) || any test (drop i ws))
+unfolding any
+any-back test ws i p l = let same : i - 1 + 1 ≡ i = omega arith in rw (drop-next ws (i - 1) (omega arith), same)
 
 -- a loop at word i of a list: whether some word passes shows from there on
 pub record AnyFrom (test : ℕ → Bool) (ws : List ℕ) (i : ℕ) : Type 0 where

@@ -3,35 +3,21 @@ use mathlib.Core.Bool.{Bool}
 use mathlib.Core.List.{List}
 use mathlib.Core.Path.{_≡_}
 use Prim.Native.Nat.{ℕ, _+_, _<_, _≤_}
-use lib.Dec.{eqb, ltb}
+use lib.Dec.{ltb}
 use lib.ListN.{length, take}
-use Rattle.words.specs.Fields.{startMoment}
-use Rattle.words.specs.Lists.{Pairs}
 use Rattle.words.specs.Scan.{filter}
 use Rattle.job.specs.Parts.{fluents}
 use Rattle.history.specs.Held.{heldAt}
 use Rattle.history.specs.Code.Tables.{tabledFinish, Walkable, StateAt}
 
--- a start begins at moment t; the starts that do
-abbrev pub beginsAt : ℕ → ℕ → Bool
-beginsAt t s = eqb (startMoment s) t
-
-abbrev pub startingAt : List ℕ → ℕ → List ℕ
-startingAt starts t = filter (beginsAt t) starts
-
--- a start finishes after moment t, by a table of durations
-abbrev pub lastsPast : List ℕ → ℕ → ℕ → Bool
-lastsPast durations t s = ltb t (tabledFinish durations s)
+-- `unfinished`, by a table of durations
+abbrev pub unfinishedBy : List ℕ → ℕ → ℕ → Bool
+unfinishedBy durations t s = ltb t (tabledFinish durations s)
 
 -- the first n words of a list are those of its first `count` words that pass
 pub record Filtered (test : ℕ → Bool) (count : ℕ) (old : List ℕ) (n : ℕ) (new : List ℕ) : Type 0 where
   pub few : n ≤ count
   pub words : take n new ≡ filter test (take count old)
-
--- starts in the order of their moments, of which a held list has room for all
-pub record Ascending (starts : List ℕ) : Type 0 where
-  pub moments : Pairs (λ s s'. startMoment s ≤ startMoment s') starts
-  pub few : length starts ≤ 4096
 
 -- a walk at moment t: its state and its held list are those of that moment
 pub record Carried (job starts : List ℕ) (t : ℕ) (held : List ℕ) (count : ℕ) (bytes : List ℕ) : Type 0 where
@@ -43,5 +29,5 @@ pub record Carried (job starts : List ℕ) (t : ℕ) (held : List ℕ) (count : 
 pub record Steppable (job durations effects starting : List ℕ) (t : ℕ) (held : List ℕ) (count : ℕ) (bytes : List ℕ) : Type 0 where
   pub walk : Walkable job durations effects (take count held)
   pub soon : t < 64
-  pub room : count + length starting ≤ length held
-  pub state : fluents job ≤ length bytes
+  pub held-room : count + length starting ≤ length held
+  pub state-room : fluents job ≤ length bytes

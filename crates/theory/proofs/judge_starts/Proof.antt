@@ -8,7 +8,7 @@ use Rattle.job.specs.Refusal.{jobRefusal}
 use Rattle.job.proofs.WellFormed.{well-formed}
 use Rattle.starts.specs.Rows.{startsRefusal}
 use Rattle.starts.proofs.Rows.{starts-found, starts-next}
-use Rattle.starts.proofs.StartsFormed.{times-passed, named, right-word, ascending}
+use Rattle.starts.proofs.StartsFormed.{times-passed, named, right-word, few-words, ascending}
 use Rattle.theory.specs.Answers.{planRefusal}
 use Rattle.answers.proofs.Rows.{or-passed}
 use Rattle.theory.proofs.Passing.{actions-indexed}
@@ -71,13 +71,15 @@ returns c =
 history-requires : tie.Need-history-requires
 history-requires c κs =
     let passing = c .before .before in
-    let times = passing .before .before in (
+    let times = passing .before .before in
+    let starts = times-passed (times .check-times .ensures) (passing .if1 .left) in (
       record {
         well = well-formed _ (timed times .pre .good);
         tables = record { durations = tabled (made times) .durations .ensures; effects = made times .effects .ensures };
-        named = named (times-passed (times .check-times .ensures) (passing .if1 .left));
+        named = named starts;
       },
-      ascending (times-passed (times .check-times .ensures) (passing .if1 .left)) (words (tabled (made times) .before)),
+      ascending starts (words (tabled (made times) .before)),
+      few-words _ _ (words (tabled (made times) .before)) _ (starts .right),
       timed times .pre .soon,
     )
 

@@ -11,10 +11,10 @@ use Rattle.words.specs.Lists.{Each, insert}
 use Rattle.job.specs.Parts.{actions, lastMoment}
 use Rattle.answers.specs.declared.Refusal.{Refusal}
 use Rattle.answers.specs.Rows.{row, firstRow}
-use Rattle.starts.specs.Rows.{clashing, unmetAt}
+use Rattle.starts.specs.Rows.{clashing}
 use Rattle.starts.specs.Code.Given.{Tabled}
 use Rattle.job.specs.Refusal.{jobRefusal}
-use Rattle.moves.specs.Trials.{outside, startRefusal, trialRefusal}
+use Rattle.moves.specs.Trials.{outside, busy, startRefusal, trialRefusal}
 use Rattle.trial.specs.declared.Trial.{Trial}
 use Rattle.trial.specs.declared.Moved.{Moved}
 use Rattle.trial.specs.Stepped.{trialOf}
@@ -43,10 +43,10 @@ pub record Present (job starts : List ℕ) (u : ℕ) (plan : Plan) : Type 0 wher
   pub present : u ≤ lastMoment job
   pub past : Each (λ s. startMoment s ≤ u) starts
 
--- rows 9 and 10 of action a started at moment u
-abbrev pub stateRefusal : List ℕ → List ℕ → ℕ → ℕ → Refusal
-stateRefusal job starts u a =
-    firstRow (row (any (λ s. clashing job s (startWord u a)) starts) 9 0 ∷ row (unmetAt job starts u a) 10 0 ∷ [])
+-- rows 8 and 9 of action a started at moment u, which look at starts in hand
+abbrev pub heldRefusal : List ℕ → List ℕ → ℕ → ℕ → Refusal
+heldRefusal job starts u a =
+    firstRow (row (any (busy job u a) starts) 8 0 ∷ row (any (λ s. clashing job s (startWord u a)) starts) 9 0 ∷ [])
 
 -- its refusal by rows 6 to 10, and room for it where there is none
 pub record StartTested (job starts : List ℕ) (u a : ℕ) (r : Refusal) : Type 0 where

@@ -1,19 +1,19 @@
 -- `history::carry::keep_unfinished` meets its contract. The invariant: of the words before `i` those that pass are the first `n`, and from
 -- `i` on the list is as it was. Assumes nothing.
 use mathlib.Core.Logic.{⊎-elim}
-use mathlib.Core.Path.{_≡_, sym, _∙_}
+use mathlib.Core.Path.{_≡_}
 use Prim.Native.Nat.{_-_, _≤_, _<_}
 use native.Mathlib.Omega.{arith}
 use borrow.Author.Needs.{needs}
 use borrow.Author.Tests.{lt-ltb, le-ltb}
 use lib.ListN.{length}
-use Rattle.history.specs.Code.Held.{lastsPast}
+use Rattle.history.specs.Code.Held.{unfinishedBy}
 use Rattle.history.proofs.HeldList.{Kept, kept-none, kept-hit, kept-miss}
 use Rattle.history.proofs.carry.keep_unfinished.Statement.{statement}
 use Rattle.history.proofs.carry.keep_unfinished.Tie as tie
 
 abbrev Inv-loop : tie.InvT-loop
-Inv-loop durations t held₀ count n₀ i₀ held n i = (i ≤ count) × Kept (lastsPast durations t) held₀ i n held
+Inv-loop durations t held₀ count n₀ i₀ held n i = (i ≤ count) × Kept (unfinishedBy durations t) held₀ i n held
 
 abbrev μ-loop : tie.MeasureT-loop
 μ-loop durations t held₀ count n₀ i₀ held n i = count - i

@@ -1,11 +1,11 @@
 -- `history::carry::starting_at` meets its contract: the part is what leads. Assumes nothing.
-use mathlib.Core.Path.{_≡_, _∙_}
+use mathlib.Core.Path.{_∙_}
 use Prim.Native.Nat.{_+_, _≤_}
 use native.Mathlib.Omega.{arith}
 use borrow.Author.Needs.{needs}
 use lib.ListN.{length}
 use Rattle.words.proofs.Scan.{part-from, run-inside, run-part}
-use Rattle.history.specs.Code.Held.{beginsAt}
+use Rattle.history.specs.Held.{beginsAt}
 use Rattle.history.proofs.carry.starting_at.Statement.{statement}
 use Rattle.history.proofs.carry.starting_at.Tie as tie
 

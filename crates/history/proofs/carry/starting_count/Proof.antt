@@ -8,7 +8,7 @@ use borrow.Author.Tests.{eq-eqb, ne-eqb}
 use lib.ListN.{length, drop}
 use Rattle.words.specs.Scan.{takeWhile}
 use Rattle.words.proofs.Scan.{lead-hit, lead-miss, lead-end}
-use Rattle.history.specs.Code.Held.{beginsAt}
+use Rattle.history.specs.Held.{beginsAt}
 use Rattle.history.proofs.carry.starting_count.Statement.{statement}
 use Rattle.history.proofs.carry.starting_count.Tie as tie
 

@@ -58,7 +58,7 @@ stepped c = c .before .before .before .before
 
 -- the starts of moment 0 have room in the held list
 first-fits : (f : tie.After-starting-at Inv-loop μ-loop) → length (f .starting-at .result .now) ≤ 4096
-first-fits f = let p = start f .pre .1 in rw (f .starting-at .ensures) (omega (arith, begun-first (p .moments) .inside, p .few))
+first-fits f = let p = start f .pre in rw (f .starting-at .ensures) (omega (arith, begun-first (p .1) .inside, p .2))
 
 loop-holds : tie.Need-loop-holds Inv-loop μ-loop
 loop-holds c =
@@ -66,10 +66,10 @@ loop-holds c =
     let f = found copied in
     let s = start f in
     let state = initial (f .before) .initial-state .ensures in
-    let ascends = s .pre .1 .moments in
+    let ascends = s .pre .1 in
     record {
       bound = omega arith;
-      few = omega (arith, s .pre .2);
+      few = omega (arith, s .pre .3);
       size = copied .copy-words .kept .1 .1 .0;
       carried = rw (copied .copy-words .ensures) (carried-start (each-lasts (s .pre .0 .well) (s .pre .0 .named)) state _ (f .starting-at .ensures ∙ begun-starting ascends begun-none) (first-fits f));
       begun = rw (f .starting-at .ensures) (begun-first ascends);
@@ -84,9 +84,9 @@ step-requires c κs =
     record {
       walk = record { well = s .pre .0 .well; tables = s .pre .0 .tables; named = held-named (inv .carried) (s .pre .0 .named) };
       soon = omega (arith, inv .bound, inv .few);
-      room =
-          rw (j .starting-at2 .ensures, begun-starting (s .pre .1 .moments) (inv .begun), inv .size) (omega (arith, held-room (inv .carried), s .pre .1 .few));
-      state = inv .carried .state .room;
+      held-room =
+          rw (j .starting-at2 .ensures, begun-starting (s .pre .1) (inv .begun), inv .size) (omega (arith, held-room (inv .carried), s .pre .2));
+      state-room = inv .carried .state .room;
     }
 
 loop-again : tie.Need-loop-again Inv-loop μ-loop
@@ -95,7 +95,7 @@ loop-again c =
     let j = joined d in
     let s = begin (head j) in
     let inv = head j .loop .inv in
-    let ascends = s .pre .1 .moments in
+    let ascends = s .pre .1 in
     let new = d .step .ensures (s .args .starts .now) (s .pre .0 .named) (s .pre .1) (j .starting-at2 .ensures ∙ begun-starting ascends (inv .begun)) (inv .carried) in
     record {
       bound = omega (arith, j .before .loop-test .taken);

@@ -1,6 +1,6 @@
 -- `history::states::step` meets its contract: a pass over the starts in hand, the held list of the next moment, and a pass over those kept.
 -- Assumes nothing.
-use mathlib.Core.Path.{_≡_, sym, _∙_}
+use mathlib.Core.Path.{sym}
 use Prim.Native.Nat.{_+_, _≤_}
 use native.Mathlib.Omega.{arith}
 use borrow.Author.Needs.{needs}
@@ -29,21 +29,20 @@ start k = entry (given k)
 
 -- the held list has room for the words counted; after those kept, for the starts that begin
 counted : (s : tie.Start) → s .args .count ≤ length (s .args .held .now)
-counted s = omega (arith, s .pre .room)
+counted s = omega (arith, s .pre .held-room)
 
 room : (k : tie.After-keep-unfinished) → k .keep-unfinished .result + length (start k .args .starting .now) ≤ length (k .keep-unfinished .last .1 .1 .0)
-room k = rw (k .keep-unfinished .kept .1 .1 .0) (omega (arith, k .keep-unfinished .ensures .few, start k .pre .room))
+room k = rw (k .keep-unfinished .kept .1 .1 .0) (omega (arith, k .keep-unfinished .ensures .few, start k .pre .held-room))
 
--- writing the new ones leaves the list as long
-kept-inside : (w : tie.After-copy-words) → kept w .keep-unfinished .result ≤ length (w .copy-words .last .1 .1 .0)
-kept-inside w = rw (w .copy-words .kept .1 .1 .0) (omega (arith, room (kept w)))
+slice-aggregate-apply-starts-2 : tie.Need-slice-aggregate-apply-starts-2
+slice-aggregate-apply-starts-2 c = let w = written c in sym (length-take-le _ _ (omega (arith, room (kept w), w .copy-words .kept .1 .1 .0)))
 
 apply-starts-requires-2 : tie.Need-apply-starts-requires-2
 apply-starts-requires-2 c κs =
     let w = written (c .before) in
     let k = kept w in (
       rw (w .copy-words .ensures) (walkable-kept (start k .args .starting .now) (start k .pre .walk) (k .keep-unfinished .ensures) (room k)),
-      rw (given k .apply-starts .ensures .size) (start k .pre .state),
+      rw (given k .apply-starts .ensures .size) (start k .pre .state-room),
     )
 
 returns : tie.Need-returns
@@ -61,5 +60,5 @@ step-spec =
     tie.close
     (tie.spec (λ c. search needs) (λ c. sym (length-take-le _ _ (counted (c .before .before .before .before)))) (λ c. search needs) (λ c κs. search needs)
     (λ c. search needs) (λ c κs. search needs) (λ c κs. search (needs, room (c .before .before .before)))
-    (λ c. let k = kept (c .before .before) in omega (arith, room k, start k .good)) (λ c. search needs) (λ c. sym (length-take-le _ _ (kept-inside (written c)))) (λ c. search needs) apply-starts-requires-2
+    (λ c. let k = kept (c .before .before) in omega (arith, room k, start k .good)) (λ c. search needs) slice-aggregate-apply-starts-2 (λ c. search needs) apply-starts-requires-2
     (λ c. search needs) returns)

@@ -5,7 +5,6 @@ use native.Mathlib.Omega.{arith}
 use borrow.Author.Needs.{needs}
 use lib.ListN.{length}
 use Rattle.words.proofs.Scan.{AnyFrom, from-start, from-more, from-found, from-end}
-use Rattle.starts.proofs.StartsFormed.{right-word}
 use Rattle.moves.specs.Trials.{busy}
 use Rattle.trial.proofs.rows.some_busy.Statement.{statement}
 use Rattle.trial.proofs.rows.some_busy.Tie as tie
@@ -22,7 +21,7 @@ entry c = c .before .before .before .before
 is-busy-requires : tie.Need-is-busy-requires Inv-loop μ-loop
 is-busy-requires c κs =
     let given = entry (c .before) .pre in
-    (given .lasts, right-word (given .words) _ (c .before .loop-test .taken) .action)
+    (given .0, given .1 .action _ (c .before .loop-test .taken))
 
 returns : tie.Need-returns Inv-loop μ-loop
 returns c =

@@ -1,6 +1,6 @@
--- `trial::rows::start_refusal` meets its contract: one of rows 6 to 8 fits, or rows 9 and 10 decide. Assumes nothing.
+-- `trial::rows::start_refusal` meets its contract: one of rows 6 to 9 fits, or row 10 decides. Assumes nothing.
 use mathlib.Core.Bool.{false}
-use mathlib.Core.Path.{_≡_, sym, _∙_}
+use mathlib.Core.Path.{_≡_, sym, ap, _∙_}
 use Prim.Native.Nat.{_^_, _+_, _<_, _≤_}
 use native.Mathlib.Omega.{arith}
 use borrow.Author.Needs.{needs}
@@ -9,8 +9,9 @@ use lib.Dec.{leb, ltb}
 use lib.ListN.{getD}
 use Rattle.words.specs.Lists.{Each}
 use Rattle.words.proofs.Lists.{each-of}
+use Rattle.answers.specs.declared.Refusal.{Refusal}
 use Rattle.job.specs.Parts.{actions, lastMoment, duration}
-use Rattle.trial.proofs.NewStart.{present-formed, present-timed, tested, row-6, row-7, row-8, rows-9-10}
+use Rattle.trial.proofs.NewStart.{present-formed, present-few, present-indexed, present-unmet, tested, row-6, row-7, rows-8-9, row-10}
 use Rattle.trial.proofs.rows.start_refusal.Statement.{statement}
 use Rattle.trial.proofs.rows.start_refusal.Tie as tie
 
@@ -20,8 +21,8 @@ entry c = c .before .before .before .before
 abbrev first : tie.After-last-of → tie.After-actions-of
 first c = c .before .before .before
 
-abbrev second : tie.After-some-busy → tie.After-last-of
-second c = c .before .before .before
+abbrev second : tie.After-held-refusal → tie.After-last-of
+second c = c .before .before
 
 -- words are of 32 bits
 small : (c : tie.After-actions-of) → Each (λ s. s < 2 ^ 32) (entry c .args .starts .now)
@@ -51,27 +52,52 @@ returns-2 c =
     let late : lastMoment (a .job .now) < a .u + duration (a .job .now) (a .a) = omega (arith, lasts l, l .last-of .ensures .0, c .before .if2 .taken) in
     tested (entry f .pre) (small f) (c .refuse2 .ensures ∙ row-7 _ _ _ _ (not-6 l) (lt-ltb _ _ late))
 
-not-7 : (c : tie.After-some-busy)
-    → let args = entry (first (second c)) .args in ltb (lastMoment (args .job .now)) (args .u + duration (args .job .now) (args .a)) ≡ false
+not-7 : (c : tie.Else2)
+    → let args = entry (first (c .before)) .args in ltb (lastMoment (args .job .now)) (args .u + duration (args .job .now) (args .a)) ≡ false
 not-7 c =
-    let l = second c in
+    let l = c .before in
     let a = entry (first l) .args in
-    let inside : a .u + duration (a .job .now) (a .a) ≤ lastMoment (a .job .now) = omega (arith, lasts l, l .last-of .ensures .0, c .before .before .if2 .left) in
+    let inside : a .u + duration (a .job .now) (a .a) ≤ lastMoment (a .job .now) = omega (arith, lasts l, l .last-of .ensures .0, c .if2 .left) in
     le-ltb _ _ inside
+
+held-refusal-requires : tie.Need-held-refusal-requires
+held-refusal-requires c κs =
+    let f = first (c .before) in
+    (entry f .pre, below (c .before), present-few (entry f .pre) (small f))
 
 returns-3 : tie.Need-returns-3
 returns-3 c =
-    let b = c .before .before in
-    let f = first (second b) in
+    let h = c .before .before in
+    let f = first (second h) in
     tested (entry f .pre) (small f)
-    (c .refuse3 .ensures ∙ row-8 _ _ _ _ (not-6 (second b)) (not-7 b) (sym (b .some-busy .ensures) ∙ c .before .if3 .taken))
+    (h .held-refusal .ensures ∙ rows-8-9 _ _ _ _ (not-6 (second h)) (not-7 (h .before)) (λ z. c .if3 .taken (ap (λ (r : Refusal). r .number) (h .held-refusal .ensures) ∙ z)))
+
+-- past rows 8 and 9, from the laws of the action
+abbrev past : tie.After-places2 → tie.Else3
+past c = c .before .before .before .before .before .before
+
+abbrev held : tie.Else3 → tie.After-held-refusal
+held c = c .before .before
+
+laws-of-requires : tie.Need-laws-of-requires
+laws-of-requires c κs =
+    let l = second (held (past c)) in
+    let s = entry (first l) in
+    (present-formed (s .pre), present-indexed (s .pre), below l)
+
+has-unmet-requires : tie.Need-has-unmet-requires
+has-unmet-requires c κs = let g = entry (first (second (held (past (c .before))))) .pre in omega (arith, g .present, present-formed g .few-moments)
 
 returns-4 : tie.Need-returns-4
 returns-4 c =
-    let b = c .before .before in
-    let f = first (second b) in
+    let laws = c .before .before in
+    let e = past (laws .before) in
+    let h = held e in
+    let l = second h in
+    let f = first l in
+    let unmet = present-unmet (entry f .pre) (below l) (laws .laws-of .ensures) (c .before .has-unmet .ensures) in
     tested (entry f .pre) (small f)
-    (c .state-refusal .ensures ∙ rows-9-10 _ _ _ _ (not-6 (second b)) (not-7 b) (sym (b .some-busy .ensures) ∙ c .before .if3 .left))
+    (c .row-of .ensures ∙ rw unmet (row-10 _ _ _ _ (not-6 l) (not-7 (h .before)) (sym (ap (λ (r : Refusal). r .number) (h .held-refusal .ensures)) ∙ e .if3 .left)))
 
 array-read-if2 : tie.Need-array-read-if2
 array-read-if2 c = omega (arith, below c, present-formed (entry (first c) .pre) .few-actions)
@@ -86,5 +112,4 @@ start-refusal-spec =
     tie.close
     (tie.spec (λ c. present-formed (c .before .before .before .pre) .some) (λ c κs. search needs) (λ c κs. search needs) returns
     (λ c κs. search needs) (λ c. search needs) array-read-if2 add-if2 (λ c κs. search needs) returns-2
-    (λ c κs. present-timed (entry (first (c .before .before)) .pre)) (λ c κs. search needs) returns-3
-    (λ c κs. let l = second (c .before) in (entry (first l) .pre, below l)) returns-4)
+    held-refusal-requires returns-3 laws-of-requires has-unmet-requires (λ c κs. search needs) returns-4)
