@@ -9,14 +9,13 @@ use borrow.Author.Tests.{ne-eqb}
 use lib.ListN.{length, take}
 use lib.Seq.{sets, length-sets, length-take-le}
 use Rattle.words.specs.Fields.{startMoment, startAction}
-use Rattle.words.specs.Lists.{Each}
 use Rattle.words.specs.Scan.{filter}
 use Rattle.words.proofs.Copies.{sets-front, sets-first, sets-before}
 use Rattle.words.proofs.Filter.{filter-agree, each-filter, filter-apart}
 use Rattle.words.proofs.Lists.{each-of, each-at}
 use Rattle.job.specs.Code.WellFormed.{WellFormed}
-use Rattle.job.specs.Parts.{actions, duration}
-use Rattle.history.specs.Actions.{finish, inHand}
+use Rattle.job.specs.Parts.{actions}
+use Rattle.history.specs.Actions.{inHand}
 use Rattle.history.specs.Held.{heldAt, beginsAt, startingAt, unfinished, Lasting, Ascending}
 use Rattle.history.specs.Code.Tables.{Durations, Named, Walkable, StateAt}
 use Rattle.history.specs.Code.Held.{unfinishedBy, Filtered, Carried}

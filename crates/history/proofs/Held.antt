@@ -1,16 +1,16 @@
 -- The starts in hand, carried from one moment to the next: a step of the state sees them alone, and with the starts of the new moment they
 -- give the next such set. Assumes nothing.
 use mathlib.Core.Bool.{Bool, true, false, cond, _&&_}
-use mathlib.Core.List.{List, [], _∷_, _++_}
+use mathlib.Core.List.{List, _∷_, _++_}
 use mathlib.Core.Logic.{by-cases}
-use mathlib.Core.Path.{_≡_, refl, ap}
+use mathlib.Core.Path.{_≡_, refl}
 use Prim.Native.Nat.{ℕ, suc, _+_, _<_, _≤_}
 use native.Mathlib.Decide.{decLt, ℕ-discrete}
 use native.Mathlib.Omega.{arith}
-use borrow.Author.Tests.{eqb-true, ltb-true, ltb-false, leb-true, le-leb, lt-leb, lt-ltb, le-ltb, eq-eqb, ne-eqb}
-use lib.Dec.{leb, ltb, eqb}
+use borrow.Author.Tests.{eqb-true, ltb-true, leb-true, le-leb, lt-leb, lt-ltb, le-ltb, eq-eqb, ne-eqb}
+use lib.Dec.{leb, ltb}
 use Rattle.words.specs.Fields.{unknown, startMoment, startAction}
-use Rattle.words.specs.Lists.{Each, each-none, each-more, Pairs, pairs-none, pairs-more}
+use Rattle.words.specs.Lists.{each-none, each-more, pairs-none, pairs-more}
 use Rattle.words.specs.Scan.{any, findOr, filter}
 use Rattle.words.proofs.Choices.{both-true, same-test}
 use Rattle.words.proofs.Lists.{each-map}

@@ -1,16 +1,14 @@
 -- The state at the next moment: what starts that finish make, and over that what starts that hide leave open. Assumes nothing.
-use mathlib.Core.Bool.{Bool, true, false, _||_}
+use mathlib.Core.Bool.{Bool, true, false}
 use mathlib.Core.List.{List, [], _∷_}
 use mathlib.Core.Path.{_≡_, _∙_}
 use Prim.Native.Nat.{ℕ, zero, suc, _+_, _<_}
 use native.Mathlib.Numerals.{add-one}
 use native.Mathlib.Omega.{arith}
-use lib.Dec.{eqb}
 use lib.ListN.{length, getD, replicate}
 use Rattle.words.specs.Fields.{unknown, startAction}
-use Rattle.words.specs.Lists.{Each}
 use Rattle.words.specs.Scan.{filter}
-use Rattle.job.specs.Parts.{headWord, fluents, actions, duration, lawsOf}
+use Rattle.job.specs.Parts.{headWord, fluents, actions, lawsOf}
 use Rattle.history.specs.Actions.{makesFluent, lawValue, effect, finish, affects}
 use Rattle.history.specs.Values.{valueAt}
 use Rattle.history.specs.Held.{heldAt, unfinished, Lasting}

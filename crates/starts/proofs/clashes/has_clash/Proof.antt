@@ -1,5 +1,5 @@
 -- `starts::clashes::has_clash` meets its contract. The invariant: whether the actions are opposed on a fluent below `f` is found. Assumes nothing.
-use mathlib.Core.Path.{_≡_, refl, sym, _∙_}
+use mathlib.Core.Path.{_≡_, refl}
 use Prim.Native.Nat.{_-_, _<_, _≤_}
 use native.Mathlib.Numerals.{add-one}
 use Rattle.words.specs.Scan.{anyBelow}
