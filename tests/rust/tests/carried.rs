@@ -26,7 +26,7 @@ fn the_largest_plans_get_the_checker_s_outcomes() {
 }
 
 #[test]
-fn the_largest_plans_of_another_seed_do_so() {
+fn more_of_the_largest_plans_get_the_checker_s_outcomes() {
     largest(SECOND_LARGEST_SEED);
 }
 

@@ -23,7 +23,7 @@ pub struct Calls<'a> {
     pub find: &'a Find,
 }
 
-pub const COLUMNS: [&str; 10] = ["0", "6", "7", "8", "9", "10", "11", "12", "13", "14"];
+pub const COLUMNS: [&str; 9] = ["0", "6", "7", "8", "9", "10", "11", "13", "14"];
 
 /// Plans as they are drawn, with one damage each; find and the calls on trials on one in so many.
 pub fn run(seed: u64, plans: usize, calls: &Calls) -> Report {
@@ -35,7 +35,7 @@ pub fn run(seed: u64, plans: usize, calls: &Calls) -> Report {
         let place = run.random.below(plan.starts.len().max(1));
         run.damaged(&plan, damage, place);
         if number % 500 == 0 {
-            run.too_long(&plan, *[4_097, 4_098, 100_000].get(number / 500 % 3).expect("one of three"));
+            run.too_long(&plan, [4_097, 4_098, 100_000][number / 500 % 3]);
         }
     }
     run.report
@@ -167,8 +167,8 @@ impl Run<'_> {
         find::judge(&case, facts, noise, usize::MAX, self.calls.find, &mut self.report);
     }
 
-    /// The plan's first starts as a trial, at the moment of the next one: shown, and with that one or another action
-    /// started.
+    /// The plan's first starts as a trial, at the moment of the next one: shown, with that one or another action
+    /// started, and gone on from.
     fn trials(&mut self, plan: &LawfulPlan, job: &[u32]) {
         let kept = self.random.below(plan.starts.len() + 1);
         let any = self.random.below(plan.draft.actions.len()) as u32;
@@ -179,7 +179,7 @@ impl Run<'_> {
         };
         let slice = Trial::new(moment, &plan.starts[..kept]).slice(&mut self.random);
         let buffer = Lent::new(&self.noise[..calls::LEAST_BUFFER]);
-        for call in [Call::Show(calls::LEAST_BUFFER), Call::Start(action)] {
+        for call in [Call::Show(calls::LEAST_BUFFER), Call::Start(action), Call::On] {
             let right =
                 trial::case(call, job, &mut Lent::new(&slice), &buffer, &self.calls.of_trials, &mut self.report);
             self.count(call.name(), right);

@@ -258,6 +258,7 @@ pub fn needed(plans: usize) -> Vec<Needed> {
     need("find", &["0", "13"], plans / 100);
     need("show", &["0"], plans / 50);
     need("start", &["0", "7", "8", "9", "10"], plans / 1_000);
+    need("on", &["0", "14"], plans / 50);
     need("check, at words 1 to 999", &["6", "7", "8", "9", "10", "11"], plans / 200);
     need("damage Word", &["6"], plans / 20);
     need("damage Exchanged", &["6"], plans / 20);
@@ -288,6 +289,7 @@ pub fn needed_of_largest(plans: usize) -> Vec<Needed> {
     need("fill, at word 1,000 or later", &["6", "7", "8", "9", "10"], plans / 40);
     need("start, 1,000 starts or more", &["0"], plans / 40);
     need("show, 1,000 starts or more", &["0"], plans / 40);
+    need("on, 1,000 starts or more", &["0"], plans / 40);
     need("find", &["0", "13"], plans / 40);
     need("refused at start word 4,096", &["6"], plans / 10);
     let crowds = [
