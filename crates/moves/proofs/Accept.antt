@@ -15,6 +15,7 @@ use Rattle.answers.proofs.Rows.{or-none, row-none}
 use Rattle.job.specs.Parts.{actions, lastMoment, duration}
 use Rattle.job.specs.Code.WellFormed.{WellFormed}
 use Rattle.history.specs.Actions.{finish}
+use Rattle.history.proofs.Held.{true-in-hand}
 use Rattle.starts.specs.Rows.{isStart, restarts, clashing, unmetAt}
 use Rattle.starts.specs.Lawful.{Lawful}
 use Rattle.starts.proofs.Needs.{unmet-before}
@@ -98,11 +99,8 @@ module _ (job : List ℕ) (formed : WellFormed job) (T : Trial) (a : ℕ) (now :
     other e =
         let act : startAction s ≡ a = ap startAction e ∙ of-a in
         let at : startMoment s ≡ u = ap startMoment e ∙ at-u in
-        let z : busy job (T .moment) a s ≡ true = rw (
-          eq-eqb _ _ act,
-          le-leb (startMoment s) u (omega arith),
-          lt-ltb u (finish job s) (omega (arith, formed .lasting a (ok .named), ap (duration job) act)),
-        ) in
+        let z : busy job (T .moment) a s ≡ true =
+        rw (eq-eqb _ _ act, true-in-hand job u s (omega arith) (omega (arith, formed .lasting a (ok .named), ap (duration job) act))) in
         true≢false (sym z ∙ idle)
 
     not-again : restarts job s w ≡ false
@@ -112,8 +110,8 @@ module _ (job : List ℕ) (formed : WellFormed job) (T : Trial) (a : ℕ) (now :
         let act : startAction s ≡ a = eqb-true _ _ (p .0) ∙ of-a in
         let z : busy job (T .moment) a s ≡ true = rw (
           eq-eqb _ _ act,
-          le-leb (startMoment s) u (omega (arith, ltb-true (startMoment s) (startMoment w) (q .0), at-u)),
-          lt-ltb u (finish job s) (omega (arith, ltb-true (startMoment w) (finish job s) (q .1), at-u)),
+          true-in-hand job u s (omega (arith, ltb-true (startMoment s) (startMoment w) (q .0), at-u))
+              (omega (arith, ltb-true (startMoment w) (finish job s) (q .1), at-u)),
         ) in
         true≢false (sym z ∙ idle))
 

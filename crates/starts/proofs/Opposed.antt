@@ -4,14 +4,15 @@ use mathlib.Core.List.{List}
 use mathlib.Core.Path.{_≡_, refl}
 use Prim.Native.Nat.{ℕ, _+_, _≤_, _<_}
 use native.Mathlib.Omega.{arith}
-use borrow.Author.Tests.{ltb-true, ltb-false, leb-true, lt-ltb, le-leb}
-use lib.Dec.{eqb, leb, ltb}
+use borrow.Author.Tests.{ltb-true, ltb-false}
+use lib.Dec.{eqb, ltb}
 use Rattle.words.specs.Fields.{holds, fails, startMoment, startAction}
 use Rattle.words.specs.Scan.{anyBelow}
 use Rattle.words.proofs.Choices.{both-true, is-false}
 use Rattle.words.proofs.AnyBelow.{some-hit, some-none, some-cong}
 use Rattle.job.specs.Parts.{fluents, lastMoment}
 use Rattle.history.specs.Actions.{effect, finish, inHand}
+use Rattle.history.proofs.Held.{in-hand-true, true-in-hand}
 use Rattle.starts.specs.Rows.{opposed, clash, together, clashing}
 
 module _ (job : List ℕ) where
@@ -40,12 +41,10 @@ module _ (job : List ℕ) where
       cases : (t : Bool) → ltb (startMoment s') (finish job s) ≡ t → anyBelow (λ t. inHand job t s && inHand job t s') (lastMoment job + 1) ≡ t
       cases true e =
           some-hit (λ t. inHand job t s && inHand job t s') (lastMoment job + 1) (startMoment s') (omega arith)
-          (rw (le-leb (startMoment s) (startMoment s') l, e, le-leb (startMoment s') (startMoment s') (omega arith), lt-ltb (startMoment s') (finish job s') d))
+          (rw (true-in-hand job (startMoment s') s l (ltb-true _ _ e), true-in-hand job (startMoment s') s' (omega arith) d))
       cases false e = some-none (λ t. inHand job t s && inHand job t s') (lastMoment job + 1) (λ t k. is-false _ (λ z. apart t e z))
         where
           apart : (t : ℕ) → ltb (startMoment s') (finish job s) ≡ false → (inHand job t s && inHand job t s') ≡ true → ⊥
           apart t e z =
               let both = both-true (inHand job t s) (inHand job t s') z in
-              let first = both-true (leb (startMoment s) t) (ltb t (finish job s)) (both .0) in
-              let second = both-true (leb (startMoment s') t) (ltb t (finish job s')) (both .1) in
-              omega (arith, ltb-true t (finish job s) (first .1), leb-true (startMoment s') t (second .0), ltb-false (startMoment s') (finish job s) e)
+              omega (arith, in-hand-true job t s (both .0) .1, in-hand-true job t s' (both .1) .0, ltb-false (startMoment s') (finish job s) e)

@@ -1,7 +1,8 @@
 // A trial by value: a plan stepped by hand. A move takes the trial and hands it back, with its refusal beside it.
 ghost use mathlib.Core.Path.{_≡_};
 ghost use Prim.Native.Nat.{_<_};
-ghost use lib.ListN.{length};
+ghost use lib.ListN.{length, take};
+ghost use Rattle.words.specs.Lists.{Pairs};
 ghost use Rattle.answers.specs.Rows.{refusalAt};
 ghost use Rattle.job.specs.Refusal.{jobRefusal};
 ghost use Rattle.theory.specs.Answers.{written};
@@ -123,7 +124,7 @@ impl Trial {
 
     // The trial with one more start, at its place.
     fn with_word(self, w: u32) -> Trial
-        requires { ⌜ Sized self × (self .length < 4096) ⌝ }
+        requires { ⌜ Sized self × (self .length < 4096) × Pairs (λ s s'. s < s') (take (self .length) (self .starts)) ⌝ }
         ensures { λ r. ⌜ WithWord self w r ⌝ }
     {
         let moment = self.moment;

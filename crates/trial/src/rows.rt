@@ -26,10 +26,10 @@ pub fn some_later(starts: &[u32], u: usize) -> bool
     ensures { λ r. ⌜ r ≡ any (λ s. ltb u (startMoment s)) (now (starts .entry)) ⌝ }
 {
     let mut found = false;
-    let mut i = starts.len();
-    while 0 < i {
-        i -= 1;
-        found = (u < start_moment(starts[i])) | found;
+    let mut i = 0;
+    while i < starts.len() {
+        found |= u < start_moment(starts[i]);
+        i += 1;
     }
     found
 }

@@ -1,6 +1,6 @@
 -- What the first word that passes a test gives, and its law along a list: at position i the test passes, fails, or the list is at its end.
 -- Assumes nothing.
-use mathlib.Core.Bool.{Bool, true, false, cond, _||_}
+use mathlib.Core.Bool.{Bool, true, false, cond, _||_, or-false}
 use mathlib.Core.List.{List, [], _∷_}
 use mathlib.Core.Logic.{by-cases}
 use mathlib.Core.Path.{_≡_, refl, ap, sym, _∙_}
@@ -38,10 +38,17 @@ module _ (ws : List ℕ) (i : ℕ) where
     unfolding any
     any-end h = rw (drop-of-length-le ws h)
 
--- a loop from the last word to the first
-pub any-back : (test : ℕ → Bool) (ws : List ℕ) (i : ℕ) → 0 < i → i ≤ length ws → any test (drop (i - 1) ws) ≡ (test (getD ws (i - 1) 0) || any test (drop i ws))
+-- one word more
+pub any-more : (test : ℕ → Bool) (ws : List ℕ) (i : ℕ) → i < length ws → any test (take (suc i) ws) ≡ (any test (take i ws) || test (getD ws i 0))
 unfolding any
-any-back test ws i p l = let same : i - 1 + 1 ≡ i = omega arith in rw (drop-next ws (i - 1) (omega arith), same)
+any-more test [] i l = absurd (omega arith)
+any-more test (w ∷ ws) zero l = or-false (test w)
+any-more test (w ∷ ws) (suc i) l = cases (test w) (any-more test ws i (omega arith))
+  where
+    cases : (t : Bool) → any test (take (suc i) ws) ≡ (any test (take i ws) || test (getD ws i 0))
+        → (t || any test (take (suc i) ws)) ≡ ((t || any test (take i ws)) || test (getD ws i 0))
+    cases true e = refl
+    cases false e = e
 
 -- a loop at word i of a list: whether some word passes shows from there on
 pub record AnyFrom (test : ℕ → Bool) (ws : List ℕ) (i : ℕ) : Type 0 where
@@ -90,6 +97,16 @@ module _ (test : ℕ → Bool) where
           → test (getD (w ∷ ws) (length (cond t (w ∷ takeWhile test ws) [])) 0) ≡ false
       cases false e l ih = e
       cases true e l ih = ih (omega arith)
+
+  -- so many lead as pass up to the first that fails
+  pub lead-count : (ws : List ℕ) (i : ℕ) → i ≤ length ws → ((k : ℕ) → k < i → test (getD ws k 0) ≡ true) → (i < length ws → test (getD ws i 0) ≡ false)
+      → i ≡ length (takeWhile test ws)
+  unfolding takeWhile
+  lead-count [] zero l h stop = refl
+  lead-count [] (suc i) l h stop = absurd (omega arith)
+  lead-count (w ∷ ws) zero l h stop = rw (stop (omega arith))
+  lead-count (w ∷ ws) (suc i) l h stop =
+      rw (h 0 (omega arith)) (ap suc (lead-count ws i (omega arith) (λ k m. h (suc k) (omega arith)) (λ m. stop (omega arith))))
 
   -- the words beyond them
   pub dropWhile-drop : (ws : List ℕ) → dropWhile test ws ≡ drop (length (takeWhile test ws)) ws

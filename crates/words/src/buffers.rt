@@ -4,19 +4,20 @@ ghost use Prim.Native.Nat.{_+_, _<_, _≤_};
 ghost use lib.ListN.{length};
 ghost use lib.Seq.{sets};
 ghost use Rattle.words.specs.Scan.{takeWhile};
-ghost use Rattle.words.specs.Lists.{insert};
+ghost use Rattle.words.specs.Lists.{Pairs, insert};
 ghost use Rattle.words.specs.Code.Place.{notAbove};
 
-// How many words lead that are not above `w`.
+// How many words of an ascending list are not above `w`; few that are put in are far from its end.
 fn place_of(list: &[u32], w: u32) -> usize
+    requires { ⌜ Pairs (λ s s'. s < s') (now list) ⌝ }
     ensures { λ r. ⌜ (r ≡ length (takeWhile (notAbove w) (now (list .entry)))) × (r ≤ length (now (list .entry))) ⌝ }
 {
-    let mut i = 0;
-    while i < list.len() {
-        if w < list[i] {
+    let mut i = list.len();
+    while 0 < i {
+        if list[i - 1] <= w {
             return i;
         }
-        i += 1;
+        i -= 1;
     }
     i
 }
@@ -33,9 +34,9 @@ pub fn copy_words(list: &[u32], at: usize, buffer: &mut [u32])
     }
 }
 
-// Writes the list with `w` put in to the front of the buffer.
+// Writes the ascending list with `w` put in to the front of the buffer.
 pub fn insert_word(list: &[u32], w: u32, buffer: &mut [u32])
-    requires { ⌜ length (now list) < length (now buffer) ⌝ }
+    requires { ⌜ Pairs (λ s s'. s < s') (now list) × (length (now list) < length (now buffer)) ⌝ }
     ensures { λ _. ⌜ now (buffer .exit) ≡ sets (now (buffer .entry)) 0 (insert w (now (list .entry))) ⌝ }
 {
     let i = place_of(list, w);

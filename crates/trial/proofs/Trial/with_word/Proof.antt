@@ -25,4 +25,4 @@ with-word-spec =
     tie.close
     (tie.spec (λ c. let p = c .before .pre in omega (arith, p .0 .size, p .1))
     (λ c. let p = c .before .before .pre in sym (length-take-le _ _ (omega (arith, p .0 .size, p .1)))) (λ c. sym (c .before .before .before .pre .0 .size))
-    (λ c κs. let p = c .before .before .before .pre in simp length-take (omega (arith, p .0 .size, p .1))) (λ c. search needs) returns)
+    (λ c κs. let p = c .before .before .before .pre in (p .2, simp length-take (omega (arith, p .0 .size, p .1)))) (λ c. search needs) returns)

@@ -15,7 +15,7 @@ slice-aggregate-copy-words : tie.Need-slice-aggregate-copy-words
 slice-aggregate-copy-words c = sym (length-take-le _ _ (c .before .place-of .ensures .1))
 
 copy-words-requires : tie.Need-copy-words-requires
-copy-words-requires c κs = simp length-take (omega (arith, c .before .before .place-of .ensures .1, entry (c .before .before) .pre))
+copy-words-requires c κs = simp length-take (omega (arith, c .before .before .place-of .ensures .1, entry (c .before .before) .pre .1))
 
 abbrev front : tie.After-copy-words-arg4 → tie.After-copy-words
 front c = c .before .before .before .before
@@ -28,7 +28,7 @@ copy-words-requires-2 c κs =
     let f = front c in
     let a = entry (found f) .args in
     let size = front-size (a .buffer .now) (a .list .now) (a .w) (found f .place-of .result) (f .copy-words .ensures) in
-    simp (length-set, length-take, length-drop) (omega (arith, found f .place-of .ensures .1, size, entry (found f) .pre))
+    simp (length-set, length-take, length-drop) (omega (arith, found f .place-of .ensures .1, size, entry (found f) .pre .1))
 
 same-length : tie.Need-same-length
 same-length c =
