@@ -21,17 +21,18 @@ use starts::has_unmet;
 use theory::Plan;
 use words::*;
 
-// Whether a word of the starts has a moment after `u`: without a way out of the loop, so that many are compared at once.
+// Whether a word of the starts has a moment after `u`.
 pub fn some_later(starts: &[u32], u: usize) -> bool
     ensures { λ r. ⌜ r ≡ any (λ s. ltb u (startMoment s)) (now (starts .entry)) ⌝ }
 {
-    let mut found = false;
     let mut i = 0;
     while i < starts.len() {
-        found |= u < start_moment(starts[i]);
+        if u < start_moment(starts[i]) {
+            return true;
+        }
         i += 1;
     }
-    found
+    false
 }
 
 // Whether the start `s` is one of action `a` that is in hand at moment `u`.

@@ -1,6 +1,6 @@
 -- What the first word that passes a test gives, and its law along a list: at position i the test passes, fails, or the list is at its end.
 -- Assumes nothing.
-use mathlib.Core.Bool.{Bool, true, false, cond, _||_, or-false}
+use mathlib.Core.Bool.{Bool, true, false, cond}
 use mathlib.Core.List.{List, [], _∷_}
 use mathlib.Core.Logic.{by-cases}
 use mathlib.Core.Path.{_≡_, refl, ap, sym, _∙_}
@@ -37,18 +37,6 @@ module _ (ws : List ℕ) (i : ℕ) where
     pub any-end : length ws ≤ i → any test (drop i ws) ≡ false
     unfolding any
     any-end h = rw (drop-of-length-le ws h)
-
--- one word more
-pub any-more : (test : ℕ → Bool) (ws : List ℕ) (i : ℕ) → i < length ws → any test (take (suc i) ws) ≡ (any test (take i ws) || test (getD ws i 0))
-unfolding any
-any-more test [] i l = absurd (omega arith)
-any-more test (w ∷ ws) zero l = or-false (test w)
-any-more test (w ∷ ws) (suc i) l = cases (test w) (any-more test ws i (omega arith))
-  where
-    cases : (t : Bool) → any test (take (suc i) ws) ≡ (any test (take i ws) || test (getD ws i 0))
-        → (t || any test (take (suc i) ws)) ≡ ((t || any test (take i ws)) || test (getD ws i 0))
-    cases true e = refl
-    cases false e = e
 
 -- a loop at word i of a list: whether some word passes shows from there on
 pub record AnyFrom (test : ℕ → Bool) (ws : List ℕ) (i : ℕ) : Type 0 where

@@ -7,7 +7,7 @@ ghost use Rattle.words.specs.Scan.{takeWhile};
 ghost use Rattle.words.specs.Lists.{Pairs, insert};
 ghost use Rattle.words.specs.Code.Place.{notAbove};
 
-// How many words of an ascending list are not above `w`; few that are put in are far from its end.
+// How many words of an ascending list are not above `w`: from its end, near which a new start stands.
 fn place_of(list: &[u32], w: u32) -> usize
     requires { ⌜ Pairs (λ s s'. s < s') (now list) ⌝ }
     ensures { λ r. ⌜ (r ≡ length (takeWhile (notAbove w) (now (list .entry)))) × (r ≤ length (now (list .entry))) ⌝ }
