@@ -9,7 +9,7 @@ pub const COUNTED: &str = "fill";
 
 /// How many instructions fill may take without starts, and beyond that for each start (rows 6 to 10 look at it) and for each moment at
 /// which one is in hand. When these were set, it took 606,440, about 522 and about 101.
-const WITHOUT_STARTS: u64 = 650_000;
+const WITHOUT_STARTS: u64 = 500_000;
 const START: u64 = 600;
 const IN_HAND: u64 = 110;
 
