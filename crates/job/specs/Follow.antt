@@ -29,10 +29,11 @@ predecessors v =
     ∷ (2, within 1 2 v)
     ∷ (3, within 1 4 v)
     ∷ (4, within 3 4 v)
-    ∷ (5, within 1 5 v)
-    ∷ (6, within 1 8 v)
+    ∷ (5, within 1 5 v || eqb v 12)
+    ∷ (6, within 1 8 v || eqb v 12)
     ∷ (7, eqb v setNode || eqb v 7)
     ∷ (8, within 7 8 v)
+    ∷ (12, within 3 4 v || eqb v 12)
     ∷ []
 
 abbrev pub mayFollow : ℕ → ℕ → Bool

@@ -29,6 +29,8 @@ pub const MEMBER: u32 = words::MEMBER;
 
 pub const CONDITION: u32 = words::CONDITION;
 
+pub const SHIFT: u32 = words::SHIFT;
+
 pub const TASK_SET: u32 = 16;
 
 pub const NOTHING: u32 = 17;

@@ -7,7 +7,7 @@ ghost use Rattle.words.specs.Tests.{indicator};
 ghost use Rattle.words.specs.Scan.{count};
 ghost use Rattle.job.specs.Children.{wordChildren};
 ghost use Rattle.job.specs.Follow.{mayFollow};
-ghost use Rattle.job.specs.Rules.{wordRefusalOf, limited, headRefusal, knownRefusal, actionRefusal, lawRefusal, sameFluent, formulaShape, formulaRange, formulaRefusal, nodeShape, nodeRange, nodeRefusal, memberRefusal, conditionShape, conditionRange, conditionRefusal};
+ghost use Rattle.job.specs.Rules.{wordRefusalOf, limited, headRefusal, knownRefusal, actionRefusal, lawRefusal, sameFluent, formulaShape, formulaRange, formulaRefusal, nodeShape, nodeRange, nodeRefusal, memberRefusal, conditionShape, conditionRange, conditionRefusal, shiftRefusal};
 use crate::ACTION;
 use crate::CONDITION;
 use crate::FORMULA;
@@ -24,6 +24,7 @@ use crate::MAX_NODES;
 use crate::MEMBER;
 use crate::NODE;
 use crate::NOTHING;
+use crate::SHIFT;
 use crate::TASK_SET;
 
 pub fn word_refusal_of(shape: bool, range: bool, fresh: bool) -> u32
@@ -63,10 +64,11 @@ pub fn may_follow(k: u32, v: u32) -> bool
         KNOWN => (HEAD <= v) & (v <= KNOWN),
         ACTION => (HEAD <= v) & (v <= LAW),
         LAW => (ACTION <= v) & (v <= LAW),
-        FORMULA => (HEAD <= v) & (v <= FORMULA),
-        NODE => (HEAD <= v) & (v <= CONDITION),
+        FORMULA => ((HEAD <= v) & (v <= FORMULA)) | (v == SHIFT),
+        NODE => ((HEAD <= v) & (v <= CONDITION)) | (v == SHIFT),
         MEMBER => (v == TASK_SET) | (v == MEMBER),
         CONDITION => (MEMBER <= v) & (v <= CONDITION),
+        SHIFT => ((ACTION <= v) & (v <= LAW)) | (v == SHIFT),
         _ => false,
     }
 }
@@ -241,6 +243,14 @@ pub fn condition(formulas: usize, members: usize, conditions: usize, w: u32) -> 
         condition_shape(w),
         condition_range(formulas, members, w),
     )
+}
+
+pub fn shift(actions: usize, w: u32) -> u32
+    ensures { λ r. ⌜ r ≡ shiftRefusal actions w ⌝ }
+{
+    let spare = words::shift_spare(w);
+    let range = (words::shift_action(w) < actions) & (words::shift_from(w) <= words::shift_to(w));
+    word_refusal_of(spare, range, true)
 }
 
 // How often a word names node `v` as a child.

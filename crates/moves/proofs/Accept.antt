@@ -4,7 +4,7 @@ use mathlib.Core.List.{List}
 use mathlib.Core.Path.{_≡_, ap, sym, _∙_}
 use Prim.Native.Nat.{ℕ, _+_, _<_, _≤_}
 use native.Mathlib.Omega.{arith}
-use borrow.Author.Tests.{leb-false, ltb-true, ltb-false, lt-ltb, le-leb, eqb-true, eq-eqb}
+use borrow.Author.Tests.{not-false, leb-false, ltb-true, ltb-false, lt-ltb, le-leb, eqb-true, eq-eqb}
 use lib.Dec.{eqb, ltb}
 use Rattle.words.specs.Fields.{field, kind, startMoment, startAction, startWord}
 use Rattle.words.specs.Lists.{Each, insert}
@@ -16,7 +16,7 @@ use Rattle.job.specs.Parts.{actions, lastMoment, duration}
 use Rattle.job.specs.Code.WellFormed.{WellFormed}
 use Rattle.history.specs.Actions.{finish}
 use Rattle.history.proofs.Held.{true-in-hand}
-use Rattle.starts.specs.Rows.{isStart, restarts, clashing, unmetAt}
+use Rattle.starts.specs.Rows.{isStart, restarts, clashing, mayStart, unmetAt}
 use Rattle.starts.specs.Lawful.{Lawful}
 use Rattle.starts.proofs.Needs.{unmet-before}
 use Rattle.starts.proofs.Opposed.{clashing-swap}
@@ -42,6 +42,7 @@ pub record Startable (job : List ℕ) (T : Trial) (a : ℕ) : Type 0 where
   pub ends : T .moment + duration job a ≤ lastMoment job
   pub idle : Each (λ s. busy job (T .moment) a s ≡ false) (T .starts)
   pub agree : Each (λ s. clashing job s (startWord (T .moment) a) ≡ false) (T .starts)
+  pub inside : mayStart job (T .moment) a ≡ true
   pub met : unmetAt job (T .starts) (T .moment) a ≡ false
 
 pub startable : (job : List ℕ) (T : Trial) (a : ℕ) → startRefusal job T a .number ≡ 0 → Startable job T a
@@ -51,12 +52,14 @@ startable job T a e =
     let r7 = or-none _ _ (r6 .1) in
     let r8 = or-none _ _ (r7 .1) in
     let r9 = or-none _ _ (r8 .1) in
+    let r15 = or-none _ _ (r9 .1) in
     record {
       named = leb-false _ _ (row-none _ 6 0 (omega arith) (r6 .0));
       ends = ltb-false _ _ (row-none _ 7 0 (omega arith) (r7 .0));
       idle = none-any _ (T .starts) (row-none _ 8 0 (omega arith) (r8 .0));
       agree = none-any _ (T .starts) (row-none _ 9 0 (omega arith) (r9 .0));
-      met = row-none _ 10 0 (omega arith) (r9 .1);
+      inside = not-false _ (row-none _ 15 0 (omega arith) (r15 .0));
+      met = row-none _ 10 0 (omega arith) (r15 .1);
     }
 
 module _ (job : List ℕ) (formed : WellFormed job) (T : Trial) (a : ℕ) (now : T .moment ≤ lastMoment job)
@@ -129,6 +132,7 @@ module _ (job : List ℕ) (formed : WellFormed job) (T : Trial) (a : ℕ) (now :
     ends = each-insert w (rw (at-u, of-a) (ok .ends)) (h .ends);
     apart = pairs-insert w (each-map not-again (ok .idle)) (each-map not-later past) (h .apart);
     agree = pairs-insert w (ok .agree) (each-map (λ s e. clashing-swap job w s ∙ e) (ok .agree)) (h .agree);
+    inside = each-insert w (rw (at-u, of-a) (ok .inside)) (h .inside);
     met = each-insert w (before (startMoment w) (startAction w) (omega arith) ∙ rw (at-u, of-a) (ok .met)) (each-before past (h .met));
   }
     where

@@ -100,7 +100,7 @@ module _ (job : List ℕ) where
       present = omega arith;
       past = each-none;
       small = each-none;
-      lawful = record { words = each-none; order = pairs-none; ends = each-none; apart = pairs-none; agree = pairs-none; met = each-none };
+      lawful = record { words = each-none; order = pairs-none; ends = each-none; apart = pairs-none; agree = pairs-none; inside = each-none; met = each-none };
     }
 
     move-passes : (T : Trial) (m : Move) → Passing job T → ownRefusal job T m .number ≡ 0 → Passing job (moved T m)

@@ -19,7 +19,7 @@ use Rattle.job.specs.Refusal.{jobRefusal}
 use Rattle.job.specs.Code.WellFormed.{WellFormed}
 use Rattle.job.proofs.WellFormed.{well-formed}
 use Rattle.history.specs.Actions.{finish}
-use Rattle.starts.specs.Rows.{isStart, restarts, clashing, unmetAt}
+use Rattle.starts.specs.Rows.{isStart, restarts, clashing, mayStart, unmetAt}
 use Rattle.starts.specs.Lawful.{Lawful}
 use Rattle.starts.proofs.Needs.{unmet-before}
 use Rattle.starts.proofs.StartsFormed.{Right, right-of, word-is, ordered}
@@ -93,6 +93,9 @@ module _ (job : List ℕ) (good : jobRefusal job .number ≡ 0) where
     ends : Each (λ s. finish job s ≤ lastMoment job) S × (finish job w ≤ lastMoment job)
     ends = each-init S w (law .ends)
 
+    inside : Each (λ s. mayStart job (startMoment s) (startAction s) ≡ true) S × (mayStart job (startMoment w) (startAction w) ≡ true)
+    inside = each-init S w (law .inside)
+
     past : Each (λ s. startMoment s ≤ startMoment w) S × (startMoment w ≤ startMoment w)
     past = each-init S w (h .past)
 
@@ -117,6 +120,7 @@ module _ (job : List ℕ) (good : jobRefusal job .number ≡ 0) where
         ends = ends .0;
         apart = apart .0;
         agree = agree .0;
+        inside = inside .0;
         met = each-with (λ s l e. unmet-same (startMoment s) (startAction s) l ∙ e) (past .0) (met .0);
       };
     }
@@ -142,6 +146,7 @@ module _ (job : List ℕ) (good : jobRefusal job .number ≡ 0) where
           any-none (busy job (startMoment w) (startAction w)) (each-with idle strict (apart .1)),
           ← whole,
           any-none (λ s. clashing job s w) (agree .1),
+          inside .1,
           unmet-same (startMoment w) (startAction w) (omega arith),
           met .1,
         )

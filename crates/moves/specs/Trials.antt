@@ -1,5 +1,5 @@
 -- A trial (a partial plan): its moment and its starts, ascending; the two moves; the refusal of each; the trial after moves.
-use mathlib.Core.Bool.{Bool, cond, _&&_, _||_}
+use mathlib.Core.Bool.{Bool, not, cond, _&&_, _||_}
 use mathlib.Core.List.{List, [], _∷_}
 use Prim.Native.Nat.{ℕ, _+_}
 use lib.Dec.{eqb, leb, ltb}
@@ -12,7 +12,7 @@ use Rattle.answers.specs.Rows.{row, firstRow, refusalAt}
 use Rattle.job.specs.Parts.{actions, lastMoment, duration}
 use Rattle.job.specs.Refusal.{jobRefusal}
 use Rattle.history.specs.Actions.{inHand}
-use Rattle.starts.specs.Rows.{clashing, unmetAt, startsRefusal}
+use Rattle.starts.specs.Rows.{clashing, mayStart, unmetAt, startsRefusal}
 
 pub record Trial : Type 0 where
   pub moment : ℕ
@@ -41,8 +41,8 @@ abbrev pub busy : List ℕ → ℕ → ℕ → ℕ → Bool
 busy job u a s = eqb (startAction s) a && inHand job u s
 
 -- starting action a now: 6, no such action; 7, it would end after n; 8, it is in hand, also where it was started at this moment; 9, it clashes
--- with a start of the trial, both in hand at some moment, also with one of this moment that has a higher action number; 10, its needs are not
--- known now
+-- with a start of the trial, both in hand at some moment, also with one of this moment that has a higher action number; 15, it is outside its
+-- shift windows; 10, its needs are not known now
 unfoldable pub startRefusal : List ℕ → Trial → ℕ → Refusal
 startRefusal job T a =
     firstRow (
@@ -50,6 +50,7 @@ startRefusal job T a =
     ∷ row (ltb (lastMoment job) (T .moment + duration job a)) 7 0
     ∷ row (any (busy job (T .moment) a) (T .starts)) 8 0
     ∷ row (any (λ s. clashing job s (startWord (T .moment) a)) (T .starts)) 9 0
+    ∷ row (not (mayStart job (T .moment) a)) 15 0
     ∷ row (unmetAt job (T .starts) (T .moment) a) 10 0
     ∷ [])
 

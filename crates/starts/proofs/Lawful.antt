@@ -1,12 +1,12 @@
 -- No row fits exactly lawful starts. Assumes nothing.
-use mathlib.Core.Bool.{true}
+use mathlib.Core.Bool.{true, not}
 use mathlib.Core.List.{List}
-use mathlib.Core.Path.{_≡_, refl}
+use mathlib.Core.Path.{_≡_, refl, ap}
 use Prim.Native.Nat.{ℕ, zero, suc, _-_, _<_}
 use native.Mathlib.Omega.{arith}
-use borrow.Author.Tests.{ltb-false, le-ltb, lt-ltb, ne-eqb}
+use borrow.Author.Tests.{not-false, ltb-false, le-ltb, lt-ltb, ne-eqb}
 use lib.ListN.{length}
-use Rattle.starts.specs.Rows.{ascends, wrongWord, endsLate, inHandAlready, clashes, needsUnmet, startRows, startsRefusal}
+use Rattle.starts.specs.Rows.{ascends, wrongWord, endsLate, inHandAlready, clashes, outsideShifts, needsUnmet, startRows, startsRefusal}
 use Rattle.starts.specs.Code.Given.{StartsFormed}
 use Rattle.starts.specs.Lawful.{Lawful, LawfulExactly}
 use Rattle.words.proofs.AnyBelow.{some-none, none-below}
@@ -26,25 +26,27 @@ module _ (job starts : List ℕ) where
           rw (ne-eqb (suc i) 0 (λ z. omega arith), same) (lt-ltb _ _ (pairs-at (h .order) (suc i) i (omega arith) l))
 
   from : NoneFits (length starts) (startRows job starts) → Lawful job starts
-  unfolding endsLate inHandAlready clashes needsUnmet
-  from (and-row row6 (and-row row7 (and-row row8 (and-row row9 (and-row row10 no-row))))) = record {
+  unfolding endsLate inHandAlready clashes outsideShifts needsUnmet
+  from (and-row row6 (and-row row7 (and-row row8 (and-row row9 (and-row row15 (and-row row10 no-row)))))) = record {
     words = each-of starts (λ i l. is-start-at job starts i (row6 i l));
     order = pairs-of starts (words-ascend (record { right = row6 }));
     ends = each-of starts (λ i l. ltb-false _ _ (row7 i l));
     apart = pairs-of starts (λ i j l m. none-below _ i (row8 i m) j l);
     agree = pairs-of starts (λ i j l m. none-below _ i (row9 i m) j l);
+    inside = each-of starts (λ i l. not-false _ (row15 i l));
     met = each-of starts row10;
   }
 
   to : Lawful job starts → NoneFits (length starts) (startRows job starts)
-  unfolding endsLate inHandAlready clashes needsUnmet
+  unfolding endsLate inHandAlready clashes outsideShifts needsUnmet
   to h =
       and-row (lawful-formed h .right)
       (and-row (λ i l. le-ltb _ _ (each-at (h .ends) i l))
       (and-row (λ i l. some-none _ i (λ j m. pairs-at (h .apart) i j m l))
       (and-row (λ i l. some-none _ i (λ j m. pairs-at (h .agree) i j m l))
+      (and-row (λ i l. ap not (each-at (h .inside) i l))
       (and-row (each-at (h .met))
-      no-row))))
+      no-row)))))
 
 pub lawful : LawfulExactly
 unfolding startsRefusal

@@ -108,14 +108,14 @@ rows-split (suc k) (row ∷ rest) n =
     let first = firstOf (numbered (row .0) (row .1)) n in
     ap (firstRefusal first) (rows-split k rest n) ∙ or-assoc first (rowsRefusal (take k rest) n) (rowsRefusal (drop k rest) n)
 
--- rows 6 to 9, and then row 10
+-- the rows that read no state, and then row 10
 module _ (job starts : List ℕ) where
   pub starts-by-rows : startsRefusal job starts
       ≡ firstRefusal (rowsRefusal (timeRows job starts) (length starts)) (firstOf (numbered 10 (needsUnmet job starts)) (length starts))
   unfolding startsRefusal
-  starts-by-rows = rw (rows-last 10 (needsUnmet job starts) (length starts)) (rows-split 4 (startRows job starts) (length starts))
+  starts-by-rows = rw (rows-last 10 (needsUnmet job starts) (length starts)) (rows-split 5 (startRows job starts) (length starts))
 
-  -- rows 6 to 9, whose answer is r, fit a word; they fit none
+  -- the first of them, whose answer is r, fits a word; none does
   module _ {r : Refusal} (is : r ≡ rowsRefusal (timeRows job starts) (length starts)) where
     pub starts-found : (r .number ≡ 0 → ⊥) → r ≡ startsRefusal job starts
     starts-found h = rw (starts-by-rows, ← is, ne-eqb (r .number) 0 h)

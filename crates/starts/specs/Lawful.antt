@@ -9,7 +9,7 @@ use Rattle.words.specs.Fields.{startMoment, startAction}
 use Rattle.job.specs.Parts.{lastMoment}
 use Rattle.history.specs.Actions.{finish}
 use Rattle.words.specs.Lists.{Each, Pairs}
-use Rattle.starts.specs.Rows.{isStart, restarts, clashing, unmetAt, startsRefusal}
+use Rattle.starts.specs.Rows.{isStart, restarts, clashing, mayStart, unmetAt, startsRefusal}
 
 pub record Lawful (job starts : List ℕ) : Type 0 where
   pub words : Each (λ s. isStart job s ≡ true) starts
@@ -17,6 +17,7 @@ pub record Lawful (job starts : List ℕ) : Type 0 where
   pub ends : Each (λ s. finish job s ≤ lastMoment job) starts
   pub apart : Pairs (λ s s'. restarts job s s' ≡ false) starts
   pub agree : Pairs (λ s s'. clashing job s s' ≡ false) starts
+  pub inside : Each (λ s. mayStart job (startMoment s) (startAction s) ≡ true) starts
   pub met : Each (λ s. unmetAt job starts (startMoment s) (startAction s) ≡ false) starts
 
 -- no row fits exactly where the starts are lawful

@@ -1,4 +1,4 @@
-// The rows on starts, 6 to 10, of a well-formed job. Each row's function answers its number at the first word that it fits.
+// The rows on starts, 6 to 10 and 15, of a well-formed job. Each row's function answers its number at the first word that it fits.
 ghost use mathlib.Core.Path.{_≡_};
 ghost use lib.ListN.{length};
 ghost use Rattle.starts.specs.Rows.{rowsRefusal};
@@ -6,6 +6,7 @@ ghost use Rattle.starts.specs.Code.Given.{timeRows, Tabled};
 
 mod clashes;
 mod order;
+mod shifts;
 mod times;
 mod unmet;
 
@@ -13,12 +14,15 @@ use answers::Refusal;
 pub use clashes::first_clash;
 pub use clashes::has_clash;
 pub use order::wrong_word;
+pub use shifts::may_start;
+pub use shifts::outside_shifts;
+pub use shifts::shifts_of;
 pub use times::late_end;
 pub use times::restart;
 pub use unmet::check_needs;
 pub use unmet::has_unmet;
 
-// The first of rows 6 to 9 that fits, at the first word that it fits. Row 10, `check_needs`, comes after them.
+// The first of rows 6 to 9 and 15 that fits, at the first word that it fits. Row 10, `check_needs`, comes after them.
 pub fn check_times(
     job: &[u32],
     durations: &[usize; 64],
@@ -40,5 +44,9 @@ pub fn check_times(
     if again.number != 0 {
         return again;
     }
-    first_clash(job, durations, effects, starts)
+    let clash = first_clash(job, durations, effects, starts);
+    if clash.number != 0 {
+        return clash;
+    }
+    outside_shifts(job, durations, starts)
 }

@@ -24,7 +24,7 @@ pub checked-refusal : (job : List ℕ) (r : Checked) → r ≡ checkedOf job →
 unfolding checkedOf
 checked-refusal job r is = rw is
 
--- a plan that rows 1 to 10 pass: its job passes rows 1 to 5, and so is well formed
+-- a plan that passes the rows of its job and its starts: the job is well formed
 pub job-clear : (job starts : List ℕ) → planRefusal job starts .number ≡ 0 → jobRefusal job .number ≡ 0
 unfolding planRefusal
 job-clear job starts clear = or-none (jobRefusal job) (startsRefusal job starts) clear .0

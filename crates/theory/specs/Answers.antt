@@ -25,7 +25,7 @@ factsRefusal [] (b ∷ ys) i = refusal 11 i
 factsRefusal (a ∷ xs) [] i = refusal 11 i
 factsRefusal (a ∷ xs) (b ∷ ys) i = cond (eqb a b) (factsRefusal xs ys (suc i)) (refusal 11 i)
 
--- the rows of a plan, 1 to 10, each group of them one after the other; check adds row 11, and fill begins with row 12
+-- the rows of a plan: those of its job, then those of its starts; check adds row 11, and fill begins with row 12
 abbrev pub planRows : List ℕ → List ℕ → List Refusal
 planRows job starts = jobRefusal job ∷ startsRefusal job starts ∷ []
 

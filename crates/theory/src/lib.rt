@@ -50,7 +50,7 @@ pub fn refused(refusal: Refusal, index: Index) -> Plan
     }
 }
 
-// Rows 6 to 10 of a job that passes rows 1 to 5, and the history up to moment `last`.
+// The rows of the starts, of a job that passes its own, and the history up to moment `last`.
 pub fn judge_starts(job: &[u32], index: Index, starts: &[u32], last: usize) -> Plan
     requires { ⌜ Judgeable (now job) (now starts) index last ⌝ }
     ensures { λ r. ⌜ JudgedUpto (planRefusal (now (job .entry)) (now (starts .entry))) (now (job .entry)) (now (starts .entry)) last r ⌝ }
@@ -74,7 +74,7 @@ pub fn judge_starts(job: &[u32], index: Index, starts: &[u32], last: usize) -> P
     }
 }
 
-// Rows 1 to 10.
+// The rows of the job, then those of the starts.
 pub fn judge(job: &[u32], starts: &[u32]) -> Plan
     ensures { λ r. ⌜ Judged (planRefusal (now (job .entry)) (now (starts .entry))) (now (job .entry)) (now (starts .entry)) r ⌝ }
 {
@@ -107,7 +107,7 @@ pub fn compare_facts(given: &[u32], wanted: &[u32]) -> Refusal
     none()
 }
 
-// Rows 1 to 11.
+// These, then row 11.
 pub fn judge_facts(job: &[u32], starts: &[u32], facts: &[u32]) -> Plan
     ensures { λ r. ⌜ Judged (checkRefusal (now (job .entry)) (now (starts .entry)) (now (facts .entry))) (now (job .entry)) (now (starts .entry)) r ⌝ }
 {
@@ -149,7 +149,7 @@ pub fn buffer_refusal(room: usize) -> Refusal
     row_of(room < BUFFER_WORDS, 12, 0)
 }
 
-// Rows 12 and 1 to 10; then the facts are written to the front of the buffer.
+// Row 12, then those of the job and the starts; then the facts are written to the front of the buffer.
 pub fn fill_plan(job: &[u32], starts: &[u32], buffer: &mut [u32]) -> Answer
     ensures { λ r. ⌜ r ≡ fillAnswer (length (now (buffer .entry))) (now (job .entry)) (now (starts .entry)) ⌝ }
     ensures { λ r. ⌜ now (buffer .exit) ≡ written r (factsOf (now (job .entry)) (now (starts .entry))) (now (buffer .entry)) ⌝ }

@@ -1,11 +1,12 @@
--- Rows 6 to 10 of a new start, one after the other, and the room that an accepted one has. Assumes nothing.
-use mathlib.Core.Bool.{Bool, true, false}
+-- Rows 6 to 10 and 15 of a new start, one after the other, and the room that an accepted one has. Assumes nothing.
+use mathlib.Core.Bool.{Bool, true, false, not, _||_}
 use mathlib.Core.List.{List}
-use mathlib.Core.Path.{_≡_, ap, sym, _∙_}
+use mathlib.Core.Path.{_≡_, refl, ap, sym, _∙_}
 use Prim.Native.Nat.{ℕ, _+_, _*_, _^_, _<_, _≤_}
 use native.Mathlib.Omega.{arith}
 use lib.Dec.{leb, ltb}
 use lib.ListN.{length, getD}
+use Rattle.bitset.specs.Code.Members.{has}
 use Rattle.words.specs.Fields.{startWord}
 use Rattle.words.specs.Scan.{any}
 use Rattle.words.specs.Lists.{Each, insert}
@@ -17,10 +18,12 @@ use Rattle.job.specs.Parts.{headWord, actions, lastMoment, duration, lawsOf}
 use Rattle.job.specs.Refusal.{jobRefusal}
 use Rattle.job.specs.Code.WellFormed.{WellFormed, Indexed}
 use Rattle.answers.proofs.Rows.{or-none, or-refused, or-passed, or-assoc}
-use Rattle.starts.specs.Rows.{clashing, unmet, unmetAt, startsRefusal}
+use Rattle.starts.specs.Rows.{clashing, mayStart, unmet, unmetAt, startsRefusal}
 use Rattle.starts.specs.Lawful.{Lawful}
 use Rattle.starts.specs.Code.Given.{StartsFormed, Recorded}
+use Rattle.starts.specs.Code.ShiftSets.{ShiftsIn}
 use Rattle.starts.proofs.Needs.{needs-read}
+use Rattle.starts.proofs.ShiftSets.{may-start-read}
 use Rattle.starts.proofs.StartsFormed.{right-of}
 use Rattle.starts.proofs.Lawful.{lawful, lawful-formed}
 use Rattle.theory.specs.Answers.{planRefusal}
@@ -31,7 +34,7 @@ use Rattle.moves.proofs.Accept.{startable, accept}
 use Rattle.moves.proofs.Passing.{lawful-few}
 use Rattle.trial.specs.Code.Given.{FacingAll, Present, heldRefusal, StartTested}
 
--- a plan that rows 1 to 10 pass has lawful starts
+-- a plan that passes has lawful starts
 pub plan-lawful : {job starts : List ℕ} → planRefusal job starts .number ≡ 0 → Lawful job starts
 unfolding planRefusal
 plan-lawful {job} {starts} clear = lawful job starts .0 (or-none (jobRefusal job) (startsRefusal job starts) clear .1)
@@ -73,6 +76,11 @@ module _ {job starts : List ℕ} {u : ℕ} {plan : Plan} (given : Present job st
       } in
       er ∙ rw el (needs-read recorded a k u (omega arith))
 
+  -- whether an action may start by its shift windows
+  pub present-shifts : {a : ℕ} → a < actions job → {inside : List ℕ} {windowed : ℕ} → ShiftsIn (plan .durations) job windowed inside
+      → {r : Bool} → r ≡ (not (has windowed a) || has (getD inside a 0) u) → r ≡ mayStart job u a
+  present-shifts {a} k h er = may-start-read (given .passed .durations) h u a er refl refl k
+
   -- a start that is accepted is one more lawful start, of which there are 4,096 at most
   new-room : (a : ℕ) → Each (λ s. s < 2 ^ 32) starts → startRefusal job (record { moment = u; starts = starts }) a .number ≡ 0 → length starts < 4096
   new-room a small e =
@@ -101,14 +109,17 @@ module _ (job starts : List ℕ) (u a : ℕ) where
     row-7 e = rw (n6, e)
 
     module _ (n7 : ltb (lastMoment job) (u + duration job a) ≡ false) where
-      all-rows : firstRefusal (heldRefusal job starts u a) (row (unmetAt job starts u a) 10 0) ≡ startRefusal job (record { moment = u; starts = starts }) a
+      all-rows : firstRefusal (heldRefusal job starts u a) (firstRefusal (row (not (mayStart job u a)) 15 0) (row (unmetAt job starts u a) 10 0)) ≡ startRefusal job (record { moment = u; starts = starts }) a
       unfolding startRefusal
       all-rows =
           rw (n6, n7)
-          (sym (or-assoc (row (any (busy job u a) starts) 8 0) (row (any (λ s. clashing job s (startWord u a)) starts) 9 0) (row (unmetAt job starts u a) 10 0)))
+          (sym (or-assoc (row (any (busy job u a) starts) 8 0) (row (any (λ s. clashing job s (startWord u a)) starts) 9 0) (firstRefusal (row (not (mayStart job u a)) 15 0) (row (unmetAt job starts u a) 10 0))))
 
       pub rows-8-9 : (heldRefusal job starts u a .number ≡ 0 → ⊥) → heldRefusal job starts u a ≡ startRefusal job (record { moment = u; starts = starts }) a
       rows-8-9 never = or-refused (heldRefusal job starts u a) _ never ∙ all-rows
 
-      pub row-10 : heldRefusal job starts u a .number ≡ 0 → row (unmetAt job starts u a) 10 0 ≡ startRefusal job (record { moment = u; starts = starts }) a
-      row-10 clear = or-passed (heldRefusal job starts u a) _ clear ∙ all-rows
+      -- of the two answers that the code has read
+      pub rows-15-10 : heldRefusal job starts u a .number ≡ 0 → {outside needs r : Refusal} {may unmet : Bool} → r ≡ firstRefusal outside needs
+          → outside ≡ row (not may) 15 0 → may ≡ mayStart job u a → needs ≡ row unmet 10 0 → unmet ≡ unmetAt job starts u a
+          → r ≡ startRefusal job (record { moment = u; starts = starts }) a
+      rows-15-10 clear e eo em en eu = e ∙ rw (eo, em, en, eu) (or-passed (heldRefusal job starts u a) _ clear ∙ all-rows)

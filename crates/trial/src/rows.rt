@@ -11,6 +11,7 @@ ghost use Rattle.job.specs.Parts.{actions};
 ghost use Rattle.moves.specs.Trials.{busy};
 ghost use Rattle.trial.specs.Code.Given.{Facing, FacingAll, Present, heldRefusal, StartTested};
 use answers::Refusal;
+use answers::first_refusal;
 use answers::refuse;
 use answers::row_of;
 use history::finish_of;
@@ -18,6 +19,8 @@ use history::keep_unfinished;
 use history::laws_of;
 use starts::has_clash;
 use starts::has_unmet;
+use starts::may_start;
+use starts::shifts_of;
 use theory::Plan;
 use words::*;
 
@@ -121,7 +124,7 @@ fn held_refusal(job: &[u32], plan: Plan, starts: &[u32], u: usize, a: usize) -> 
     )
 }
 
-// Rows 6 to 10. Starts to which another can be added leave room for it.
+// Rows 6 to 10 and 15. Starts to which another can be added leave room for it.
 pub fn start_refusal(job: &[u32], plan: Plan, starts: &[u32], u: usize, a: usize) -> Refusal
     requires { ⌜ Present (now job) (now starts) u plan ⌝ }
     ensures { λ r. ⌜ StartTested (now (job .entry)) (now (starts .entry)) u a r ⌝ }
@@ -138,13 +141,14 @@ pub fn start_refusal(job: &[u32], plan: Plan, starts: &[u32], u: usize, a: usize
     if held.number != 0 {
         return held;
     }
+    let shifts = shifts_of(job, &durations);
+    let inside = shifts.inside;
+    let outside = row_of(!may_start(shifts.windowed, &inside, u, a), 15, 0);
     let index = plan.index;
     let actions = index.actions;
     let places = actions.position;
     let history = plan.history;
-    row_of(
-        has_unmet(head, &history, u, laws_of(job, &places, a)),
-        10,
-        0,
-    )
+    let laws = laws_of(job, &places, a);
+    let unmet = row_of(has_unmet(head, &history, u, laws), 10, 0);
+    first_refusal(outside, unmet)
 }

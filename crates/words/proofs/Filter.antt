@@ -1,11 +1,13 @@
 -- The words of a list that pass a test. Assumes nothing.
-use mathlib.Core.Bool.{Bool, true, false, cond, _&&_, _||_, true≢false}
+use mathlib.Core.Bool.{Bool, true, false, not, cond, _&&_, _||_, true≢false}
 use mathlib.Core.List.{List, [], _∷_, _++_, append-nil, List·Memᴰ, List·Memᴰ·head, List·Memᴰ·tail, List·Memᴰ·not-nil, List·Memᴰ·cases-cons}
 use mathlib.Core.Logic.{_↔_, ⊎-elim}
 use mathlib.Core.Path.{_≡_, refl, ap, sym, _∙_}
 use Prim.Native.Nat.{ℕ, zero, suc, _+_, _≤_, _<_}
 use native.Mathlib.Numerals.{add-one}
 use native.Mathlib.Omega.{arith}
+use borrow.Author.Tests.{ne-eqb}
+use lib.Dec.{eqb}
 use lib.ListN.{length, getD, take, drop}
 use lib.Seq.{take-suc}
 use Rattle.words.specs.Scan.{any, findOr, filter}
@@ -41,6 +43,17 @@ module _ (test : ℕ → Bool) where
       cases : (b : Bool) → Each P (filter test S) → Each P (cond b (s ∷ filter test S) (filter test S))
       cases true f = each-more p f
       cases false f = f
+
+  -- none passes where no word is kept
+  pub none-kept : (S : List ℕ) → eqb (length (filter test S)) 0 ≡ not (any test S)
+  unfolding filter any
+  none-kept [] = refl
+  none-kept (s ∷ S) = cases (test s) (none-kept S)
+    where
+      cases : (b : Bool) → eqb (length (filter test S)) 0 ≡ not (any test S)
+          → eqb (length (cond b (s ∷ filter test S) (filter test S))) 0 ≡ not (b || any test S)
+      cases true e = ne-eqb (suc (length (filter test S))) 0 (λ z. omega arith)
+      cases false e = e
 
   pub filter-none : {S : List ℕ} → Each (λ s. test s ≡ false) S → filter test S ≡ []
   unfolding filter

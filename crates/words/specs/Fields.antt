@@ -154,3 +154,17 @@ factWord head t f value = 10 * 2 ^ 28 + t * 2 ^ 7 + f * 2 + cond (eqb value hold
 -- kind 11, a word of a reading: node p from b to e
 abbrev pub readingWord : ℕ → ℕ → ℕ → ℕ
 readingWord p b e = 11 * 2 ^ 28 + p * 2 ^ 12 + b * 2 ^ 6 + e
+
+-- kind 12, shift window (a time window of an action): its action, the first moment at which it may start, the last at which it may finish,
+-- and the bits that it leaves spare
+abbrev pub shiftSpare : ℕ → Bool
+shiftSpare w = spare w 27 18
+
+abbrev pub shiftAction : ℕ → ℕ
+shiftAction w = field w 17 12
+
+abbrev pub shiftFrom : ℕ → ℕ
+shiftFrom w = field w 11 6
+
+abbrev pub shiftTo : ℕ → ℕ
+shiftTo w = field w 5 0

@@ -11,21 +11,21 @@ use Rattle.history.specs.Code.Tables.{Durations, Effects, HistoryUpto}
 use Rattle.starts.specs.Rows.{wrongWord, startRows}
 use Rattle.starts.specs.Code.Latest.{Clashes}
 
--- the rows that read no state: 6 to 9
+-- the rows that read no state: 6 to 9, and 15
 abbrev pub timeRows : List ℕ → List ℕ → List (ℕ × (ℕ → Bool))
-timeRows job starts = take 4 (startRows job starts)
+timeRows job starts = take 5 (startRows job starts)
 
 -- row 6 fits no word
 pub record StartsFormed (job starts : List ℕ) : Type 0 where
   pub right : (i : ℕ) → i < length starts → wrongWord job starts i ≡ false
 
--- rows 6 to 9: a well-formed job with the tables of its actions
+-- those: a well-formed job with the tables of its actions
 pub record Tabled (job durations effects : List ℕ) : Type 0 where
   pub formed : WellFormed job
   pub lasts : Durations job durations
   pub makes : Effects job effects
 
--- rows 7 to 9: the starts of such a job, once row 6 fits none
+-- rows 7 to 9 and 15: the starts of such a job, once row 6 fits none
 pub record Timed (job durations starts : List ℕ) : Type 0 where
   pub formed : WellFormed job
   pub lasts : Durations job durations

@@ -33,7 +33,7 @@ ahead c = passed (c .before)
 abbrev wanted : tie.After-fill-facts → List ℕ
 wanted c = let (job, (history, (list, rest))) = c .fill-facts .last in list
 
--- of a plan that rows 1 to 10 pass
+-- of a plan that passes the rows of its job and its starts
 clear : (c : tie.Else1) → planRefusal (entry (judged c) .args .job .now) (entry (judged c) .args .starts .now) .number ≡ 0
 clear c = sym (ap (λ (r : Refusal). r .number) (judged c .judge .ensures .refusal)) ∙ c .if1 .left
 

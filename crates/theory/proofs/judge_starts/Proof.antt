@@ -1,4 +1,4 @@
--- `theory::judge_starts` meets its contract: rows 6 to 9 refuse, or they pass and row 10 says the rest. Assumes nothing.
+-- `theory::judge_starts` meets its contract: the rows that read no state refuse, or they pass and row 10 says the rest. Assumes nothing.
 use mathlib.Core.Path.{_≡_, _∙_, ap}
 use Prim.Native.Nat.{ℕ, _<_, _^_}
 use native.Mathlib.Omega.{arith}

@@ -13,7 +13,7 @@ use Rattle.history.specs.Code.Tables.{Durations, Effects, HistoryUpto}
 use Rattle.theory.specs.Answers.{planRefusal}
 use Rattle.theory.specs.declared.Plan.{Plan}
 
--- of a plan that rows 1 to 10 pass: the index of its job's words, the durations and effects of its actions, its history up to moment k; the same with
+-- of a plan that passes the rows of its job and its starts: the index of its job's words, the durations and effects of its actions, its history up to moment k; the same with
 -- the whole history
 pub record PassedUpto (job starts : List ℕ) (k : ℕ) (plan : Plan) : Type 0 where
   pub clear : planRefusal job starts .number ≡ 0

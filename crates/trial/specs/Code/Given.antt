@@ -37,7 +37,7 @@ pub record FacingAll (job durations effects starts : List ℕ) (u a : ℕ) : Typ
   pub present : u ≤ lastMoment job
   pub new : a < actions job
 
--- a plan that rows 1 to 10 pass, with its history up to its present moment u
+-- a plan that passes the rows of its job and its starts, with its history up to its present moment u
 pub record Present (job starts : List ℕ) (u : ℕ) (plan : Plan) : Type 0 where
   pub passed : PassedUpto job starts u plan
   pub present : u ≤ lastMoment job
@@ -48,7 +48,7 @@ abbrev pub heldRefusal : List ℕ → List ℕ → ℕ → ℕ → Refusal
 heldRefusal job starts u a =
     firstRow (row (any (busy job u a) starts) 8 0 ∷ row (any (λ s. clashing job s (startWord u a)) starts) 9 0 ∷ [])
 
--- its refusal by rows 6 to 10, and room for it where there is none
+-- its refusal by rows 6 to 10 and 15, and room for it where there is none
 pub record StartTested (job starts : List ℕ) (u a : ℕ) (r : Refusal) : Type 0 where
   pub refusal : r ≡ startRefusal job (record { moment = u; starts = starts }) a
   pub room : r .number ≡ 0 → length starts < 4096

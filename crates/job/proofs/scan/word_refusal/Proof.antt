@@ -31,19 +31,29 @@ returns c =
     (may-not (s .args .job .now) (s .args .i) _ (sym (c .before .before .before .kind-of .ensures .0))
     (rw (← (c .before .before .predecessor .ensures)) (sym (c .before .may-follow .ensures) ∙ not-true _ (c .if1 .taken))))
 
-returns-10 : tie.Need-returns-10
-returns-10 c =
-    let ((((((((rest, not-1), not-2), not-3), not-4), not-5), not-6), not-7), not-8) = c .match .rest in
+returns-11 : tie.Need-returns-11
+returns-11 c =
+    let (((((((((rest, not-1), not-2), not-3), not-4), not-5), not-6), not-7), not-8), not-12) = c .match .rest in
     sym
     (passed (c .before) _ refl
-    ∙ rw (ne-eqb _ 1 not-1, ne-eqb _ 2 not-2, ne-eqb _ 3 not-3, ne-eqb _ 4 not-4, ne-eqb _ 5 not-5, ne-eqb _ 6 not-6, ne-eqb _ 7 not-7, ne-eqb _ 8 not-8))
+    ∙ rw (
+      ne-eqb _ 1 not-1,
+      ne-eqb _ 2 not-2,
+      ne-eqb _ 3 not-3,
+      ne-eqb _ 4 not-4,
+      ne-eqb _ 5 not-5,
+      ne-eqb _ 6 not-6,
+      ne-eqb _ 7 not-7,
+      ne-eqb _ 8 not-8,
+      ne-eqb _ 12 not-12,
+    ))
 
 pub word-refusal-spec : {M : Type 1} → statement M
 word-refusal-spec =
     tie.close
     (tie.spec (λ c. search needs) (λ c. search needs) (λ c. omega arith) (λ c κs. search needs) (λ c κs. omega arith) (λ c κs. search needs) returns
     (λ c κs. search needs) (λ c κs. search needs) (λ c κs. search needs) (λ c κs. search needs) (λ c κs. search needs) (λ c κs. search needs)
-    (λ c κs. search needs) (λ c κs. search needs) (λ c κs. search needs) (λ c κs. search needs)
+    (λ c κs. search needs) (λ c κs. search needs) (λ c κs. search needs) (λ c κs. search needs) (λ c κs. search needs)
     (λ c. rw (passed (c .before .before) 1 (c .before .match .keys1)) (c .head .ensures))
     (λ c. rw (passed (c .before .before .before) 2 (c .before .before .match .keys2), ← (c .before .listed .ensures)) (c .known .ensures))
     (λ c. rw (passed (c .before .before) 3 (c .before .match .keys3), ← (entry (c .before .before) .pre .1 .actions)) (c .action .ensures))
@@ -52,4 +62,5 @@ word-refusal-spec =
     (λ c. rw (passed (c .before .before) 6 (c .before .match .keys6), ← (entry (c .before .before) .pre .1 .actions), ← (entry (c .before .before) .pre .1 .formulas), ← (entry (c .before .before) .pre .1 .nodes)) (c .node .ensures))
     (λ c. rw (passed (c .before .before) 7 (c .before .match .keys7), ← (entry (c .before .before) .pre .1 .nodes), ← (entry (c .before .before) .pre .1 .members)) (c .member .ensures))
     (λ c. rw (passed (c .before .before) 8 (c .before .match .keys8), ← (entry (c .before .before) .pre .1 .formulas), ← (entry (c .before .before) .pre .1 .members), ← (entry (c .before .before) .pre .1 .conditions)) (c .condition .ensures))
-    returns-10)
+    (λ c. rw (passed (c .before .before) 12 (c .before .match .keys9), ← (entry (c .before .before) .pre .1 .actions)) (c .shift .ensures))
+    returns-11)

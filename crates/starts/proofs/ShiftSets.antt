@@ -1,0 +1,83 @@
+-- The shift windows of all actions, one word of the job after the other, and what their sets of moments tell. Assumes nothing.
+use mathlib.Core.Bool.{Bool, false, not, _&&_, _||_, or-comm, and-false}
+use mathlib.Core.List.{List}
+use mathlib.Core.Path.{_≡_, refl, sym, _∙_}
+use Prim.Native.Nat.{ℕ, _+_, _-_, _<_, _≤_}
+use native.Mathlib.Decide.{ℕ-discrete, decLt}
+use native.Mathlib.Omega.{arith}
+use borrow.Author.Tests.{eq-eqb, ne-eqb, le-leb, lt-leb}
+use lib.Dec.{eqb, leb}
+use lib.ListN.{length, getD, drop, set, replicate, length-set}
+use lib.Seq.{getD-set-same, getD-set-other}
+use Rattle.bitset.specs.Code.Members.{has, IsSetOf}
+use Rattle.bitset.proofs.Digits.{has-zero}
+use Rattle.bitset.proofs.In.{empty-entry}
+use Rattle.words.specs.Fields.{kind, shiftAction, shiftFrom, shiftTo}
+use Rattle.words.specs.Scan.{any}
+use Rattle.words.proofs.Scan.{drop-next, any-end}
+use Rattle.words.proofs.Filter.{none-kept, any-filter}
+use Rattle.job.specs.Parts.{actions, duration, shiftOf, shiftsOf}
+use Rattle.history.specs.Code.Tables.{Durations}
+use Rattle.starts.specs.Rows.{insideShift, mayStart}
+use Rattle.starts.specs.Code.ShiftSets.{ShiftsIn}
+
+-- the moments at which an action of duration d may start in a window: none where the window is shorter
+module _ (d w : ℕ) where
+  pub starts-none : shiftTo w < d → IsSetOf 0 (λ u. insideShift d u w)
+  starts-none l u = rw (has-zero u, lt-leb (u + d) (shiftTo w) (omega arith)) (sym (and-false (leb (shiftFrom w) u)))
+
+  pub starts-between : (r : ℕ) {from last : ℕ} → d ≤ shiftTo w → from ≡ shiftFrom w → last ≡ shiftTo w - d → IsSetOf r (λ u. leb from u && leb u last)
+      → IsSetOf r (λ u. insideShift d u w)
+  starts-between r {from} {last} l ef el h u = h u ∙ rw (ef, cases (decLt last u))
+    where
+      cases : Dec (last < u) → leb u last ≡ leb (u + d) (shiftTo w)
+      cases (yes m) = rw (lt-leb u last m, lt-leb (u + d) (shiftTo w) (omega arith))
+      cases (no m) = rw (le-leb u last (omega arith), le-leb (u + d) (shiftTo w) (omega arith))
+
+module _ {durations : List ℕ} (job : List ℕ) where
+  pub shifts-none : ShiftsIn durations (drop (length job) job) 0 (replicate 64 0)
+  shifts-none = record {
+    size = refl;
+    some = λ a. rw (has-zero a, any-end job (length job) (shiftOf a) (omega arith));
+    moments = λ a u. rw (empty-entry 64 a, has-zero u, any-end job (length job) (λ w. shiftOf a w && insideShift (getD durations a 0) u w) (omega arith));
+  }
+
+  -- one word more in front; it is no window, or one of action x, whose set gains the moments that it allows
+  module _ (i j : ℕ) {windowed : ℕ} {inside : List ℕ} (h : ShiftsIn durations (drop j job) windowed inside) (next : j ≡ i + 1) (l : i < length job) where
+    pub shifts-other : (kind (getD job i 0) ≡ 12 → ⊥) → ShiftsIn durations (drop i job) windowed inside
+    unfolding any
+    shifts-other n = record {
+      size = h .size;
+      some = λ a. rw (drop-next job i l, ← next, ne-eqb (kind (getD job i 0)) 12 n) (h .some a);
+      moments = λ a u. rw (drop-next job i l, ← next, ne-eqb (kind (getD job i 0)) 12 n) (h .moments a u);
+    }
+
+    pub shifts-more : {x : ℕ} (one all add sum : ℕ) → kind (getD job i 0) ≡ 12 → x ≡ shiftAction (getD job i 0) → x < 64
+        → IsSetOf one (λ a. eqb a x) → IsSetOf all (λ a. has windowed a || has one a)
+        → IsSetOf add (λ u. insideShift (getD durations x 0) u (getD job i 0)) → IsSetOf sum (λ u. has (getD inside x 0) u || has add u)
+        → ShiftsIn durations (drop i job) all (set inside x sum)
+    unfolding any
+    shifts-more {x} one all add sum k ex small is-one is-all is-add is-sum = record {
+      size = length-set inside x sum ∙ h .size;
+      some = λ a. rw (drop-next job i l, ← next, eq-eqb (kind (getD job i 0)) 12 k, ← ex, is-all a, is-one a, ← (h .some a)) (or-comm (has windowed a) (eqb a x));
+      moments = λ a u. rw (drop-next job i l, ← next, eq-eqb (kind (getD job i 0)) 12 k, ← ex, ← (h .moments a u)) (cases a u (ℕ-discrete a x));
+    }
+      where
+        cases : (a u : ℕ) → Dec (a ≡ x)
+            → has (getD (set inside x sum) a 0) u ≡ ((eqb a x && insideShift (getD durations a 0) u (getD job i 0)) || has (getD inside a 0) u)
+        cases a u (yes e) =
+            rw (e, getD-set-same inside x sum 0 (omega (arith, h .size)), is-sum u, is-add u, eq-eqb x x refl)
+            (or-comm (has (getD inside x 0) u) (insideShift (getD durations x 0) u (getD job i 0)))
+        cases a u (no n) = rw (getD-set-other inside x a sum 0 n, ne-eqb a x n)
+
+-- whether an action may start, by the sets
+module _ {job durations inside : List ℕ} {windowed : ℕ} (d : Durations job durations) (h : ShiftsIn durations job windowed inside) where
+  by-sets : (u a : ℕ) → a < actions job → (not (has windowed a) || has (getD inside a 0) u) ≡ mayStart job u a
+  unfolding mayStart shiftsOf
+  by-sets u a l =
+      rw (h .some a, h .moments a u, d .entry a l, none-kept (shiftOf a) job, any-filter (insideShift (duration job a) u) (shiftOf a) job)
+
+  -- of the moment x and the action b that the code has read
+  pub may-start-read : {r : Bool} (x b : ℕ) {u a : ℕ} → r ≡ (not (has windowed b) || has (getD inside b 0) x) → x ≡ u → b ≡ a → a < actions job
+      → r ≡ mayStart job u a
+  may-start-read x b {u} {a} e eu ea l = e ∙ rw (eu, ea) (by-sets u a l)

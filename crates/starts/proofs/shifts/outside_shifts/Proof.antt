@@ -1,0 +1,63 @@
+-- `starts::shifts::outside_shifts` meets its contract. The invariant: the row fits no word before `i`. Assumes nothing.
+use mathlib.Core.Bool.{not}
+use mathlib.Core.Path.{_≡_, ap, sym, _∙_}
+use Prim.Native.Nat.{_-_}
+use native.Mathlib.Omega.{arith}
+use borrow.Author.Needs.{needs}
+use lib.ListN.{length, getD}
+use Rattle.words.specs.Fields.{startMoment, startAction}
+use Rattle.starts.specs.Rows.{mayStart, outsideShifts}
+use Rattle.starts.proofs.Rows.{Tried, tried-start, tried-more, tried-found, tried-end}
+use Rattle.starts.proofs.ShiftSets.{may-start-read}
+use Rattle.starts.proofs.StartsFormed.{right-word}
+use Rattle.starts.proofs.shifts.outside_shifts.Statement.{statement}
+use Rattle.starts.proofs.shifts.outside_shifts.Tie as tie
+
+abbrev Inv-loop : tie.InvT-loop
+Inv-loop job durations starts windowed inside i₀ i = Tried 15 (outsideShifts job starts) (length starts) i
+
+abbrev μ-loop : tie.MeasureT-loop
+μ-loop job durations starts windowed inside i₀ i = length starts - i
+
+-- the turn of the loop, from the test of its start; the sets, and the function's entry
+abbrev turn : tie.After-may-start Inv-loop μ-loop → tie.At-loop Inv-loop μ-loop
+turn c = c .before .before .before .before .before .before
+
+abbrev made : tie.At-loop Inv-loop μ-loop → tie.After-shifts-of Inv-loop μ-loop
+made c = c .before .before
+
+abbrev entry : tie.After-shifts-of Inv-loop μ-loop → tie.Start Inv-loop μ-loop
+entry c = c .before .before .before
+
+-- what is tested of word i is whether it may start
+tested : (c : tie.After-may-start Inv-loop μ-loop) → let args = entry (made (turn c)) .args in
+    let s = getD (args .starts .now) (turn c .loop .i) 0 in
+    c .may-start .result ≡ mayStart (args .job .now) (startMoment s) (startAction s)
+tested c =
+    let m = made (turn c) in
+    let l = c .before .before .before .before .before .loop-test .taken in
+    may-start-read (entry m .pre .lasts) (m .shifts-of .ensures) _ _ (c .may-start .ensures) (c .before .before .start-moment .ensures .0) (c .before .start-action .ensures .0)
+    (right-word (entry m .pre .words) _ l .action)
+
+value : (c : tie.After-may-start Inv-loop μ-loop) → let args = entry (made (turn c)) .args in
+    outsideShifts (args .job .now) (args .starts .now) (turn c .loop .i) ≡ not (c .may-start .result)
+unfolding outsideShifts
+value c = ap not (sym (tested c))
+
+returns : tie.Need-returns Inv-loop μ-loop
+returns c =
+    let t = c .before .before in
+    c .refuse .ensures
+    ∙ tried-found (turn t .loop .inv) (omega arith) (t .before .before .before .before .before .loop-test .taken) (value t ∙ c .before .if1 .taken)
+
+loop-again : tie.Need-loop-again Inv-loop μ-loop
+loop-again c =
+    let t = c .before in
+    tried-more (turn t .loop .inv) (t .before .before .before .before .before .loop-test .taken) (value t ∙ c .if1 .left)
+
+pub outside-shifts-spec : {M : Type 1} → statement M
+outside-shifts-spec =
+    tie.close
+    (tie.spec Inv-loop μ-loop (λ c κs. search needs) (λ c. tried-start) (λ c. search needs) (λ c. search needs) (λ c κs. search needs)
+    (λ c κs. search needs) (λ c κs. search needs) (λ c κs. search needs) returns (λ c. search needs) (λ c. search needs) loop-again (λ c κs. search needs)
+    (λ c. c .none .ensures ∙ tried-end (c .before .before .loop .inv) (omega arith)))

@@ -1,0 +1,61 @@
+-- `starts::shifts::shifts_of` meets its contract. The invariant: the sets are those of the words from `i` on. Assumes nothing.
+use mathlib.Core.Path.{_≡_, sym, _∙_}
+use Prim.Native.Nat.{_-_, _≤_}
+use native.Mathlib.Omega.{arith}
+use borrow.Author.Needs.{needs}
+use lib.ListN.{length, drop}
+use Rattle.starts.specs.Code.ShiftSets.{ShiftsIn}
+use Rattle.starts.proofs.ShiftSets.{shifts-none, shifts-other, shifts-more}
+use Rattle.starts.proofs.shifts.shifts_of.Statement.{statement}
+use Rattle.starts.proofs.shifts.shifts_of.Tie as tie
+
+abbrev Inv-loop : tie.InvT-loop
+Inv-loop job durations windowed₀ inside₀ i₀ windowed inside i = (i ≤ length job) × ShiftsIn durations (drop i job) windowed inside
+
+abbrev μ-loop : tie.MeasureT-loop
+μ-loop job durations windowed₀ inside₀ i₀ windowed inside i = i
+
+-- the turn of the loop, from the kind of its word; that, from where the sets are joined
+abbrev turn : tie.After-kind-of Inv-loop μ-loop → tie.In-loop Inv-loop μ-loop
+turn c = c .before .before
+
+abbrev acted : tie.After-union2 Inv-loop μ-loop → tie.After-shift-action Inv-loop μ-loop
+acted c = c .before .before .before .before .before
+
+loop-again : tie.Need-loop-again Inv-loop μ-loop
+loop-again c =
+    let act = acted c in
+    let k = act .before .before in
+    let at = turn k .before .loop in
+    let taken = turn k .loop-test .taken in (
+      omega arith,
+      shifts-more _ (at .i - 1) (at .i) (at .inv .1) (omega arith) (omega arith) (c .before .before .before .before .single .result)
+          (c .before .before .before .union .result)
+          (c .before .starts-in .result)
+          (c .union2 .result)
+          (sym (k .kind-of .ensures .0) ∙ act .before .if1 .taken)
+          (act .shift-action .ensures .0)
+          (act .shift-action .ensures .1)
+          (c .before .before .before .before .single .ensures)
+          (c .before .before .before .union .ensures)
+          (c .before .starts-in .ensures)
+          (c .union2 .ensures),
+    )
+
+loop-again-2 : tie.Need-loop-again-2 Inv-loop μ-loop
+loop-again-2 c =
+    let k = c .before in
+    let at = turn k .before .loop in
+    let taken = turn k .loop-test .taken in
+    (omega arith, shifts-other _ (at .i - 1) (at .i) (at .inv .1) (omega arith) (omega arith) (λ z. c .if1 .left (k .kind-of .ensures .0 ∙ z)))
+
+returns : tie.Need-returns Inv-loop μ-loop
+returns c = let e : c .before .loop .i ≡ 0 = omega arith in rw e at (c .before .loop .inv .1)
+
+pub shifts-of-spec : {M : Type 1} → statement M
+shifts-of-spec =
+    tie.close
+    (tie.spec Inv-loop μ-loop (λ c. (omega arith, shifts-none (c .before .args .job .now))) (λ c. search needs) (λ c. search needs) (λ c. search needs) (λ c κs. search needs)
+    (λ c κs. search needs) (λ c. search needs) (λ c κs. search needs) (λ c κs. search needs) (λ c. search needs) (λ c. search needs) (λ c. search needs)
+    (λ c. search needs) (λ c κs. search needs) (λ c κs. search needs) (λ c. search needs) (λ c. search needs) (λ c. search needs) loop-again
+    (λ c. search needs) loop-again-2 returns)

@@ -1,0 +1,81 @@
+// Row 15: starts outside the shift windows of their action.
+ghost use mathlib.Core.Bool.{not, _||_};
+ghost use mathlib.Core.Path.{_≡_};
+ghost use Prim.Native.Nat.{_<_};
+ghost use lib.ListN.{length, getD};
+ghost use Rattle.answers.specs.Rows.{firstOf};
+ghost use Rattle.bitset.specs.Code.Members.{has, IsSetOf};
+ghost use Rattle.starts.specs.Rows.{insideShift, outsideShifts, numbered};
+ghost use Rattle.starts.specs.Code.ShiftSets.{ShiftsIn};
+ghost use Rattle.starts.specs.Code.Given.{Timed};
+use answers::Refusal;
+use answers::none;
+use answers::refuse;
+use bitset::between;
+use bitset::has;
+use bitset::single;
+use bitset::union;
+use words::*;
+
+// Which actions have shift windows, and at which moments each may start in one of them.
+pub struct Shifts {
+    pub windowed: u64,
+    pub inside: [u64; 64],
+}
+
+// The moments at which an action of duration `d` may start in the window `w`.
+fn starts_in(w: u32, d: usize) -> u64
+    ensures { λ r. ⌜ IsSetOf r (λ u. insideShift d u w) ⌝ }
+{
+    let to = shift_to(w);
+    if to < d {
+        return 0;
+    }
+    between(shift_from(w) as u32, (to - d) as u32)
+}
+
+// The windows of all actions, in one pass over the job.
+pub fn shifts_of(job: &[u32], durations: &[usize; 64]) -> Shifts
+    ensures { λ r. ⌜ ShiftsIn (now (durations .entry)) (now (job .entry)) (r .windowed) (r .inside) ⌝ }
+{
+    let mut windowed: u64 = 0;
+    let mut inside = [0u64; 64];
+    let mut i = job.len();
+    while 0 < i {
+        i -= 1;
+        let w = job[i];
+        if kind_of(w) == SHIFT {
+            let a = shift_action(w);
+            windowed = union(windowed, single(a as u32));
+            inside[a] = union(inside[a], starts_in(w, durations[a]));
+        }
+    }
+    Shifts { windowed, inside }
+}
+
+// Whether action `a` may start at moment `u`.
+pub fn may_start(windowed: u64, inside: &[u64; 64], u: usize, a: usize) -> bool
+    requires { ⌜ (u < 64) × (a < 64) ⌝ }
+    ensures { λ r. ⌜ r ≡ (not (has windowed a) || has (getD (now (inside .entry)) a 0) u) ⌝ }
+{
+    !has(windowed, a as u32) | has(inside[a], u as u32)
+}
+
+// Row 15.
+pub fn outside_shifts(job: &[u32], durations: &[usize; 64], starts: &[u32]) -> Refusal
+    requires { ⌜ Timed (now job) (now durations) (now starts) ⌝ }
+    ensures { λ r. ⌜ r ≡ firstOf (numbered 15 (outsideShifts (now (job .entry)) (now (starts .entry)))) (length (now (starts .entry))) ⌝ }
+{
+    let shifts = shifts_of(job, durations);
+    let windowed = shifts.windowed;
+    let inside = shifts.inside;
+    let mut i = 0;
+    while i < starts.len() {
+        let s = starts[i];
+        if !may_start(windowed, &inside, start_moment(s), start_action(s)) {
+            return refuse(15, i);
+        }
+        i += 1;
+    }
+    none()
+}
