@@ -102,7 +102,23 @@ static void explain_needs(FILE *to, const struct list *job, const struct list *s
     }
 }
 
-/* The start at a position that is refused by 6 to 10. */
+/* 15: the windows of its action, and why each of them does not hold it. */
+static void explain_windows(FILE *to, const struct list *job, uint32_t start)
+{
+    unsigned moment = planreader_start_moment(start), end = end_of(job, start);
+    for (size_t i = 0; i < job->length; i++) {
+        uint32_t word = job->words[i];
+        if (planreader_kind(word) != PLANREADER_KIND_SHIFT_WINDOW) continue;
+        if (planreader_shift_window_action(word) != planreader_start_action(start)) continue;
+        unsigned from = planreader_shift_window_from(word), until = planreader_shift_window_to(word);
+        fprintf(to, "  the window from %u to %u: it would", from, until);
+        if (moment < from) fprintf(to, " begin too soon, at %u", moment);
+        if (end > until) fprintf(to, "%s end too late, at %u", moment < from ? ", and" : "", end);
+        fprintf(to, "\n");
+    }
+}
+
+/* The start at a position that is refused by 6 to 10 or 15. */
 static inline void explain_start(FILE *to, const struct list *job, const struct list *starts, unsigned number, unsigned position)
 {
     uint32_t word = starts->words[position];
@@ -114,6 +130,7 @@ static inline void explain_start(FILE *to, const struct list *job, const struct 
     fprintf(to, "\n");
     if (number == PLANREADER_START_WORD) explain_word(to, job, starts, position);
     if (number == PLANREADER_START_IN_HAND || number == PLANREADER_START_CLASHES) explain_overlap(to, job, starts, number, position);
+    if (number == PLANREADER_START_OUTSIDE_WINDOWS) explain_windows(to, job, word);
     if (number == PLANREADER_START_NEEDS) explain_needs(to, job, starts, position);
 }
 

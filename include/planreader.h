@@ -70,18 +70,19 @@ extern "C" {
 #define PLANREADER_CALL(name) name
 #endif
 
-/* Is the plan lawful? Refusals 1 to 11, or 0. Writes nothing. */
+/* Is the plan lawful? Refusals 1 to 9, 15, 10 and 11, in this order, or 0. Writes nothing. */
 uint64_t PLANREADER_CALL(check)(const uint32_t *job, size_t job_len, const uint32_t *starts, size_t starts_len,
                                 const uint32_t *facts, size_t facts_len);
 
 /* From lawful starts, writes the list of known facts to the buffer's first planreader_length words; with it the plan passes.
- * Refusals 12 and 1 to 10. A refusal changes no word of the buffer, and a success none after the list. */
+ * Refusals 12, 1 to 9, 15 and 10. A refusal changes no word of the buffer, and a success none after the list. */
 uint64_t PLANREADER_CALL(fill)(const uint32_t *job, size_t job_len, const uint32_t *starts, size_t starts_len,
                                uint32_t *buffer, size_t buffer_len);
 
-/* Reads the job's procedure against the plan from moment 0 to the last. Refusals 12 and 1 to 11; then 13, no list of words is a reading of
- * the root, with the true count; or a reading's words in the buffer's first planreader_length words, with the true count: the number of
- * (node, begin, end) triples that have a reading. A refusal, 13 too, changes no word of the buffer, and a success none after the reading. */
+/* Reads the job's procedure against the plan from moment 0 to the last. Refusal 12, and those of check; then 13, no list of words is a
+ * reading of the root, with the true count; or a reading's words in the buffer's first planreader_length words, with the true count: the
+ * number of (node, begin, end) triples that have a reading. A refusal, 13 too, changes no word of the buffer, and a success none after the
+ * reading. */
 uint64_t PLANREADER_CALL(find)(const uint32_t *job, size_t job_len, const uint32_t *starts, size_t starts_len,
                                const uint32_t *facts, size_t facts_len, uint32_t *buffer, size_t buffer_len);
 
@@ -95,9 +96,9 @@ typedef uint32_t planreader_trial[PLANREADER_TRIAL_WORDS];
 uint64_t PLANREADER_CALL(trial_begin)(const uint32_t *job, size_t job_len, uint32_t *trial, size_t trial_len);
 
 /* Starts an action at the trial's moment. Any number may be given for the action. Refusals 1 to 5 with the job's position; then, all with
- * position 0: 14 or 6 to 10 for a trial that no moves could give, see planreader_refusal; and 6 (no such action), 7, 8 (also for an
- * action already started at this moment), 9 and 10 for the new start. A refusal changes no word of the trial; a success puts the start in its
- * place among the starts, and changes no word after them. */
+ * position 0: 14, or 6 to 9, 15 and 10, for a trial that no moves could give, see planreader_refusal; and 6 (no such action), 7, 8 (also for
+ * an action already started at this moment), 9, 15 and 10 for the new start. A refusal changes no word of the trial; a success puts the start
+ * in its place among the starts, and changes no word after them. */
 uint64_t PLANREADER_CALL(trial_start)(const uint32_t *job, size_t job_len, uint32_t *trial, size_t trial_len, uint32_t action);
 
 /* Goes on one moment. Refusals as for trial_start, but in place of those for the new start 14 where the trial is at the last moment. A
@@ -105,8 +106,8 @@ uint64_t PLANREADER_CALL(trial_start)(const uint32_t *job, size_t job_len, uint3
 uint64_t PLANREADER_CALL(trial_on)(const uint32_t *job, size_t job_len, uint32_t *trial, size_t trial_len);
 
 /* Writes the facts of moments 0 to the trial's, both included, to the buffer's first planreader_length words: those that fill writes for
- * the trial's starts, up to that moment. Refusal 12, before all others; then 1 to 5 with the job's position, and 14 or 6 to 10 for the trial,
- * with position 0. A refusal changes no word of the buffer, and a success none after the facts. */
+ * the trial's starts, up to that moment. Refusal 12, before all others; then 1 to 5 with the job's position, and 14, or 6 to 9, 15 and 10, for
+ * the trial, with position 0. A refusal changes no word of the buffer, and a success none after the facts. */
 uint64_t PLANREADER_CALL(trial_show)(const uint32_t *job, size_t job_len, const uint32_t *trial, size_t trial_len,
                                      uint32_t *buffer, size_t buffer_len);
 
@@ -128,8 +129,8 @@ static inline unsigned planreader_position(uint64_t answer) { return (unsigned)(
 static inline unsigned planreader_length(uint64_t answer) { return (unsigned)(answer >> 24 & 0xffff); }
 static inline unsigned planreader_count(uint64_t answer) { return (unsigned)(answer & 0xffffff); }
 
-/* Refusal numbers. The position is that of a word of the job (2, 3, 4), of a start (6 to 10) or of a fact (11), or as said here. The trial
- * calls give every number but 1 to 5 with position 0. */
+/* Refusal numbers. The position is that of a word of the job (2, 3, 4), of a start (6 to 10 and 15) or of a fact (11), or as said here. The
+ * trial calls give every number but 1 to 5 with position 0. */
 enum planreader_refusal {
     PLANREADER_ACCEPTED = 0,
     PLANREADER_JOB_LENGTH = 1, /* position 0 */
@@ -147,7 +148,8 @@ enum planreader_refusal {
     PLANREADER_NO_READING = 13, /* position 0 */
     /* Of the trial calls alone, position 0: fewer than PLANREADER_TRIAL_WORDS words, more than 4,096 starts, a moment after the last, a start
      * whose moment (bits 11..6 of whatever word) is after the trial's; or trial_on at the last moment. */
-    PLANREADER_TRIAL_BOUNDS = 14
+    PLANREADER_TRIAL_BOUNDS = 14,
+    PLANREADER_START_OUTSIDE_WINDOWS = 15 /* comes after 9 and before 10 */
 };
 
 /* What a refusal number says of what stands at the position; a text for every number. */
@@ -171,11 +173,12 @@ static inline const char *planreader_refusal_text(unsigned number)
         "the procedure has no reading",
         ("a trial that no moves could give: a list that is too short, too many starts, or a moment or a start that is too late; "
          "or going on at the last moment"),
+        "a start outside the windows of its action",
     };
     return number < sizeof texts / sizeof *texts ? texts[number] : "no number of a refusal";
 }
 
-/* The kind of a word, bits 31..28. A job has kinds 1 to 8, a plan 9 and 10, a reading 11. */
+/* The kind of a word, bits 31..28. A job has kinds 1 to 8 and 12, a plan 9 and 10, a reading 11. */
 enum planreader_word_kind {
     PLANREADER_KIND_HEAD = 1,
     PLANREADER_KIND_KNOWN = 2,
@@ -187,7 +190,8 @@ enum planreader_word_kind {
     PLANREADER_KIND_CONDITION = 8,
     PLANREADER_KIND_START = 9,
     PLANREADER_KIND_FACT = 10,
-    PLANREADER_KIND_READING = 11
+    PLANREADER_KIND_READING = 11,
+    PLANREADER_KIND_SHIFT_WINDOW = 12
 };
 
 /* The role of a law. */
@@ -252,6 +256,11 @@ static inline uint32_t planreader_action(unsigned number, unsigned duration)
 static inline uint32_t planreader_law(unsigned role, unsigned fluent)
 {
     return role < 4 && fluent < 64 ? 4u << 28 | role << 6 | fluent : 0;
+}
+/* The action, then from and to: one window of those in which the action may be carried out. */
+static inline uint32_t planreader_shift_window(unsigned action, unsigned from, unsigned to)
+{
+    return action < 64 && from < 64 && to < 64 ? 12u << 28 | action << 12 | from << 6 | to : 0;
 }
 /* The form (PLANREADER_ALWAYS ..), X, Y. */
 static inline uint32_t planreader_formula(unsigned form, unsigned x, unsigned y)
@@ -341,6 +350,9 @@ static inline unsigned planreader_action_number(uint32_t word) { return word >> 
 static inline unsigned planreader_action_duration(uint32_t word) { return word & 63; }
 static inline unsigned planreader_law_role(uint32_t word) { return word >> 6 & 3; }
 static inline unsigned planreader_law_fluent(uint32_t word) { return word & 63; }
+static inline unsigned planreader_shift_window_action(uint32_t word) { return word >> 12 & 63; }
+static inline unsigned planreader_shift_window_from(uint32_t word) { return word >> 6 & 63; }
+static inline unsigned planreader_shift_window_to(uint32_t word) { return word & 63; }
 static inline unsigned planreader_formula_x(uint32_t word) { return word >> 6 & 63; }
 static inline unsigned planreader_formula_y(uint32_t word) { return word & 63; }
 static inline unsigned planreader_node_x(uint32_t word) { return word >> 18 & 63; }

@@ -1,7 +1,7 @@
 # Functions that write jobs and starts as listings, a word a line, for sh and bash: '. words.sh', with its folder in PATH.
 #
 #     Head FLUENTS ACTIONS LAST     Known FLUENT true|false                          the head, initially known
-#     Action NUMBER DURATION        Needs FLUENT true|false   Makes FLUENT true|false
+#     Action NUMBER DURATION        Needs FLUENT true|false   Makes FLUENT true|false   ShiftWindow ACTION FROM TO
 #     Always   Fluent FLUENT   Not FORMULA   And FORMULA FORMULA   Or FORMULA FORMULA
 #     Act ACTION   Test FORMULA   Sequence NODE NODE   Choice NODE NODE   If FORMULA NODE NODE   While FORMULA NODE
 #     StartWindow NODE NODE M N   EndWindow NODE NODE M N   TaskSet   Member NODE
@@ -51,6 +51,7 @@ Known() { words_line 'Known FLUENT true|false' '2 << 28' '0:63 6:truth' "$@"; }
 Action() { words_line 'Action NUMBER DURATION' '3 << 28' '6:63 0:63' "$@"; }
 Needs() { words_line 'Needs FLUENT true|false' '4 << 28' '0:63 6:truth' "$@"; }
 Makes() { words_line 'Makes FLUENT true|false' '4 << 28 | 2 << 6' '0:63 6:truth' "$@"; }
+ShiftWindow() { words_line 'ShiftWindow ACTION FROM TO' '12 << 28' '12:63 6:63 0:63' "$@"; }
 
 Always() { words_line 'Always' '5 << 28' '' "$@"; }
 Fluent() { words_line 'Fluent FLUENT' '5 << 28 | 1 << 24' '6:63' "$@"; }

@@ -1,9 +1,11 @@
-//! What the archive alone takes, one figure a run: the script `before-and-after` has two archives measured by turns.
+//! What the archive alone takes, one figure a run: the script `before-and-after` has two archives measured by turns. A plan that the
+//! archive refuses, as an older one does where a word of the job is of a newer kind, has no figure.
 use crate::instructions::{self, Finder};
 use crate::plans::{self, Plan};
 use crate::shapes::{self, facts};
 use crate::time::best;
-use crate::{trials, walks};
+use crate::trials::{self, Trial};
+use crate::walks;
 use planreader_tests::{checker::answer::Answer, host};
 
 /// A time is the best of so many.
@@ -49,14 +51,35 @@ fn figures(kind: &str) -> Vec<Figure> {
 }
 
 fn times() -> Vec<Figure> {
-    let plans = plans::all().into_iter().flat_map(|Plan { name, job, starts, .. }| {
+    let plans = lawful_plans().flat_map(|Plan { name, job, starts, .. }| {
         [time(format!("check: {name}"), CHECK, &job, &starts), time(format!("fill: {name}"), FILL, &job, &starts)]
     });
-    let trial = trials::CALLS
-        .map(|(name, [call, _])| Figure::new(format!("{name} in a trial"), move || trials::time(RUNS, call)));
+    let in_trial = |trial: &'static str| {
+        let call = move |(name, [call, _]): (&str, [trials::Call; 2])| {
+            Figure::new(format!("{name} in a {trial}"), move || Trial::of(trial).time(RUNS, call))
+        };
+        trials::CALLS.map(call)
+    };
+    let trials = lawful_trials().flat_map(in_trial);
     let finds =
         shapes::all().into_iter().map(|shape| time(format!("find: {}", shape.name), FIND, &shape.job, &shape.starts));
-    plans.chain(trial).chain(finds).collect()
+    plans.chain(trials).chain(finds).collect()
+}
+
+fn lawful_plans() -> impl Iterator<Item = Plan> {
+    plans::all().into_iter().filter(|plan| is_lawful(&plan.job, &plan.starts))
+}
+
+fn lawful_trials() -> impl Iterator<Item = &'static str> {
+    trials::NAMES.into_iter().filter(|name| {
+        let Trial { job, starts, .. } = Trial::of(name);
+        is_lawful(&job, &starts)
+    })
+}
+
+/// Whether the archive says so.
+fn is_lawful(job: &[u32], starts: &[u32]) -> bool {
+    host::fill(job, starts, &mut vec![0; 4096]).number == 0
 }
 
 fn time(name: String, call: Call, job: &[u32], starts: &[u32]) -> Figure {
@@ -69,13 +92,16 @@ fn time(name: String, call: Call, job: &[u32], starts: &[u32]) -> Figure {
 }
 
 fn instructions() -> Vec<Figure> {
-    let fills = plans::all().into_iter().map(|plan| count(format!("fill: {}", plan.name), move || walks::count(&plan)));
-    let trial =
-        trials::COUNTED_CALLS.map(|call| count(format!("{call} on the trial's starts"), move || trials::count(call)));
+    let fills = lawful_plans().map(|plan| count(format!("fill: {}", plan.name), move || walks::count(&plan)));
+    let of_trial = |trial: &'static str| {
+        let figure = move |call| count(format!("{call}, starts of the {trial}"), move || trials::count(trial, call));
+        trials::COUNTED_CALLS.map(figure)
+    };
+    let trials = lawful_trials().flat_map(of_trial);
     let counted = shapes::all().into_iter().filter(|shape| shape.counted);
     let finds = counted
         .map(|shape| count(format!("find: {}", shape.name), move || instructions::count(&shape, Finder::Archive)));
-    fills.chain(trial).chain(finds).collect()
+    fills.chain(trials).chain(finds).collect()
 }
 
 fn count(name: String, run: impl Fn() -> Result<u64, String> + 'static) -> Figure {

@@ -1,4 +1,4 @@
-//! Lawful plans for check and fill: the largest ones, and plans by how many starts are in hand.
+//! Lawful plans for check and fill: the largest ones, one with the most shift windows, and plans by how many starts are in hand.
 use planreader_tests::words::{action, formula, head, initially, law, node, start};
 
 /// The last moments of the plans by starts in hand.
@@ -10,6 +10,9 @@ const LAWS: usize = 29;
 /// Fluents of the plans by starts in hand: one that all actions need, and six that they make. So few, so that the walk of the states takes
 /// little for the fluents of a start that acts, and it shows how many starts it looks at.
 const MADE: usize = 6;
+
+/// Shift windows of the plan that has the most: with 64 known fluents, 64 actions and a node, its job has 2,048 words.
+pub const WINDOWS: usize = 1918;
 
 pub struct Plan {
     pub name: String,
@@ -27,7 +30,39 @@ pub fn all() -> Vec<Plan> {
         let in_hand = starts.len() * d;
         Plan { name: format!("the largest, d = {d}"), last: 63, job, starts, in_hand }
     });
-    largest.into_iter().chain(LASTS.into_iter().flat_map(by_starts_in_hand)).collect()
+    let windows = [windowed(), unwindowed()];
+    largest.into_iter().chain(windows).chain(LASTS.into_iter().flat_map(by_starts_in_hand)).collect()
+}
+
+/// As many shift windows as there is room for, 29 or 30 for each action, side by side from moment 0 to 63: each start is held by one of
+/// them alone.
+pub fn windowed() -> Plan {
+    let window = |i: usize| {
+        let (a, place) = (i % 64, i / 64);
+        let count = (WINDOWS - a).div_ceil(64);
+        shift_window(a, 63 * place / count, 63 * (place + 1) / count)
+    };
+    with_windows(format!("{WINDOWS} shift windows"), (0..WINDOWS).map(window).collect())
+}
+
+/// The same plan without its windows.
+pub fn unwindowed() -> Plan {
+    with_windows("no shift windows".to_string(), vec![])
+}
+
+/// 64 fluents, all known from the start; 64 actions of duration 1 without laws, each of which starts at every moment but the last.
+fn with_windows(name: String, windows: Vec<u32>) -> Plan {
+    let known = (0..64).map(|f| initially(f, true));
+    let actions = (0..64).map(|a| action(a, 1));
+    let job = [head(64, 64, 63)].into_iter().chain(known).chain(actions).chain(windows).chain([node(0, 0, 0, 0, 0)]);
+    let starts: Vec<u32> = (0..63).flat_map(|u| (0..64).map(move |a| start(u, a))).collect();
+    let in_hand = starts.len();
+    Plan { name: format!("{name}, 4,032 starts"), last: 63, job: job.collect(), starts, in_hand }
+}
+
+/// "17..12 action, 11..6 from, 5..0 to", request L4.
+fn shift_window(action: usize, from: usize, to: usize) -> u32 {
+    12 << 28 | (action << 12 | from << 6 | to) as u32
 }
 
 /// 64 fluents, all known from the start; 64 actions of duration d, each with 29 laws (12 needs, 17 makes, all true, so that nothing

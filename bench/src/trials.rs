@@ -1,14 +1,18 @@
-//! The calls on a trial of 4,000 starts, beside check of those starts with their facts and beside the independent checker.
+//! The calls on trials of 4,000 starts, beside check of those starts with their facts and beside the independent checker.
 use crate::calls::CALL;
 use crate::instructions::{count_run, counted_call};
-use crate::plans::largest;
+use crate::plans::{largest, windowed};
 use crate::shapes::facts;
 use crate::time::{best, is_within};
 use planreader_tests::checker::{answer::Answer, trial as plain};
 use planreader_tests::host;
 
-/// The argument of a counted run that is about the trial, and those for its two calls.
-pub const COUNTED: &str = "trial";
+/// The trials: of the largest plan, and of that with the most shift windows. The argument of a counted run that is about one.
+pub const LARGEST: &str = "trial";
+pub const WINDOWED: &str = "trial with shift windows";
+pub const NAMES: [&str; 2] = [LARGEST, WINDOWED];
+
+/// The arguments for the two calls that are counted.
 const COUNTED_START: &str = "start";
 const COUNTED_CHECK: &str = "check";
 pub const COUNTED_CALLS: [&str; 2] = [COUNTED_START, COUNTED_CHECK];
@@ -32,68 +36,85 @@ const SHOW: [Call; 2] = [
 
 pub const CALLS: [(&str, [Call; 2]); 4] = [("begin", BEGIN), ("start", START), ("on", ON), ("show", SHOW)];
 
-/// The least time of a call, in milliseconds.
-pub fn time(runs: usize, call: Call) -> f64 {
-    let (job, _, trial) = trial();
-    timed(runs, call, &job, &trial).0
+/// A job, starts of it, and the words of the trial of these.
+pub struct Trial {
+    pub job: Vec<u32>,
+    pub starts: Vec<u32>,
+    words: Vec<u32>,
+}
+
+impl Trial {
+    /// 4,000 of the plan's 4,032 starts: at the trial's moment, 62, the higher actions are started, so that action 0 goes in before them.
+    pub fn of(name: &str) -> Trial {
+        let (job, all) = match name {
+            LARGEST => largest(1),
+            WINDOWED => (windowed().job, windowed().starts),
+            _ => panic!("no trial {name}"),
+        };
+        let starts = [&all[..62 * 64], &all[62 * 64 + 32..]].concat();
+        let mut words = [&[62, starts.len() as u32], &starts[..]].concat();
+        words.resize(plain::TRIAL_WORDS, 0);
+        Trial { job, starts, words }
+    }
+
+    /// The least time of a call, in milliseconds.
+    pub fn time(&self, runs: usize, call: Call) -> f64 {
+        self.timed(runs, call).0
+    }
+
+    /// How long a call takes, its answer, and what it leaves in trial and buffer. Each run has the trial as it was; that copy counts too, a
+    /// thousandth of a millisecond.
+    fn timed(&self, runs: usize, call: Call) -> (f64, (Answer, Vec<u32>, Vec<u32>)) {
+        let (mut lent, mut buffer) = (self.words.clone(), vec![0; 4096]);
+        let (ms, answer) = best(runs, || {
+            lent.copy_from_slice(&self.words);
+            call(&self.job, &mut lent, &mut buffer)
+        });
+        (ms, (answer, lent, buffer))
+    }
+
+    fn call_within_limit(&self, name: &str, [call, checker]: [Call; 2]) -> bool {
+        let (ms, given) = self.timed(10, call);
+        let (plain_ms, right) = self.timed(1, checker);
+        let within = given == right && given.0.number == 0 && is_within(ms, CALL);
+        let told = if within { "" } else { "  FAILED" };
+        println!("{ms:>9.3} {CALL:>6} {plain_ms:>9.3}  {name}{told}");
+        within
+    }
+
+    /// Prints the time of a start and of check, by turns so that both meet the same machine. Nearly all of both is the same work, so that
+    /// the times differ by less than they do from run to run: `instructions_are_within` holds the two against each other.
+    fn print_start_and_check(&self) {
+        let facts = facts(&self.job, &self.starts);
+        let (mut start_ms, mut check_ms) = (f64::MAX, f64::MAX);
+        for _ in 0..10 {
+            start_ms = start_ms.min(self.time(10, START[0]));
+            check_ms = check_ms.min(best(10, || host::check(&self.job, &self.starts, &facts)).0);
+        }
+        println!("start, ms; check of the same starts with their facts, ms; ratio");
+        println!("{start_ms:>9.3} {check_ms:>9.3} {:>6.3}", start_ms / check_ms);
+    }
 }
 
 /// Prints the times; whether they are within the limits, all moves are accepted, and both say the same.
 pub fn within_limits() -> bool {
-    let (job, starts, trial) = trial();
-    println!("trials of {} starts, ms; limit; independent checker, ms", starts.len());
-    let within = CALLS.map(|(name, call)| call_within_limit(name, call, &job, &trial));
-    print_start_and_check(&job, &starts, &trial);
-    !within.contains(&false)
+    NAMES.map(trial_within_limits) == [true; 2]
 }
 
-/// Prints the time of a start and of check, by turns so that both meet the same machine. Nearly all of both is the same work, so that the
-/// times differ by less than they do from run to run: `instructions_are_within` holds the two against each other.
-fn print_start_and_check(job: &[u32], starts: &[u32], trial: &[u32]) {
-    let facts = facts(job, starts);
-    let (mut start_ms, mut check_ms) = (f64::MAX, f64::MAX);
-    for _ in 0..10 {
-        start_ms = start_ms.min(timed(10, START[0], job, trial).0);
-        check_ms = check_ms.min(best(10, || host::check(job, starts, &facts)).0);
+fn trial_within_limits(name: &str) -> bool {
+    let trial = Trial::of(name);
+    println!("{name}, {} starts, ms; limit; independent checker, ms", trial.starts.len());
+    let within = CALLS.map(|(call, functions)| trial.call_within_limit(call, functions));
+    if !within.contains(&false) {
+        trial.print_start_and_check();
     }
-    println!("start, ms; check of the same starts with their facts, ms; ratio");
-    println!("{start_ms:>9.3} {check_ms:>9.3} {:>6.3}", start_ms / check_ms);
-}
-
-/// The job of the largest plan, 4,000 of its 4,032 starts, and the trial of these: at its moment, 62, the higher actions are started, so that
-/// action 0 goes in before them.
-fn trial() -> (Vec<u32>, Vec<u32>, Vec<u32>) {
-    let (job, all) = largest(1);
-    let starts = [&all[..62 * 64], &all[62 * 64 + 32..]].concat();
-    let mut trial = [&[62, starts.len() as u32], &starts[..]].concat();
-    trial.resize(plain::TRIAL_WORDS, 0);
-    (job, starts, trial)
-}
-
-/// How long a call takes, its answer, and what it leaves in trial and buffer. Each run has the trial as it was; that copy counts too, a
-/// thousandth of a millisecond.
-fn timed(runs: usize, call: Call, job: &[u32], trial: &[u32]) -> (f64, (Answer, Vec<u32>, Vec<u32>)) {
-    let (mut lent, mut buffer) = (trial.to_vec(), vec![0; 4096]);
-    let (ms, answer) = best(runs, || {
-        lent.copy_from_slice(trial);
-        call(job, &mut lent, &mut buffer)
-    });
-    (ms, (answer, lent, buffer))
-}
-
-fn call_within_limit(name: &str, [call, checker]: [Call; 2], job: &[u32], trial: &[u32]) -> bool {
-    let (ms, given) = timed(10, call, job, trial);
-    let (plain_ms, right) = timed(1, checker, job, trial);
-    let within = given == right && given.0.number == 0 && is_within(ms, CALL);
-    let told = if within { "" } else { "  FAILED" };
-    println!("{ms:>9.3} {CALL:>6} {plain_ms:>9.3}  {name}{told}");
-    within
+    !within.contains(&false)
 }
 
 /// Prints the instructions of a start and of check, which other work on the machine does not change; whether a start takes no more.
 pub fn instructions_are_within() -> bool {
     println!("start in a trial, instructions; check of the same starts with their facts, instructions; ratio; limit");
-    match COUNTED_CALLS.map(count) {
+    match COUNTED_CALLS.map(|call| count(LARGEST, call)) {
         [Ok(start), Ok(check)] => {
             let ratio = start as f64 / check as f64;
             let within = ratio <= START_TO_CHECK;
@@ -111,16 +132,16 @@ pub fn instructions_are_within() -> bool {
 }
 
 /// How many instructions one of the two calls takes.
-pub fn count(call: &str) -> Result<u64, String> {
-    count_run(COUNTED, call)
+pub fn count(name: &str, call: &str) -> Result<u64, String> {
+    count_run(name, call)
 }
 
 /// The run that is counted.
-pub fn run(call: &str) {
-    let (job, starts, mut trial) = trial();
+pub fn run(name: &str, call: &str) {
+    let Trial { job, starts, mut words } = Trial::of(name);
     let facts = facts(&job, &starts);
     match call {
-        COUNTED_START => counted_call(&mut || host::trial_start(&job, &mut trial, 0)),
+        COUNTED_START => counted_call(&mut || host::trial_start(&job, &mut words, 0)),
         COUNTED_CHECK => counted_call(&mut || host::check(&job, &starts, &facts)),
         _ => panic!("no call {call} is counted"),
     };

@@ -1,17 +1,20 @@
 //! Instructions of fill by how many starts are in hand: the walk of the states carries these from moment to moment, and does not look
-//! through all starts at each.
+//! through all starts at each. And by shift windows: they are gone through once a call, not for each start.
 use crate::instructions::{all_within, count_run, counted_call};
-use crate::plans::{self, by_starts_in_hand, Plan, LASTS};
+use crate::plans::{self, by_starts_in_hand, Plan, LASTS, WINDOWS};
 use planreader_tests::host;
 
 /// The argument of a counted run that is about fill on a plan.
 pub const COUNTED: &str = "fill";
 
-/// How many instructions fill may take without starts, and beyond that for each start (rows 6 to 10 look at it) and for each moment at
-/// which one is in hand. When these were set, it took 606,440, about 522 and about 101.
+/// How many instructions fill may take without starts, and beyond that for each start (rows 6 to 10 and 15 look at it) and for each moment
+/// at which one is in hand. When these were set, it took 606,440, about 522 and about 101.
 const WITHOUT_STARTS: u64 = 500_000;
 const START: u64 = 600;
 const IN_HAND: u64 = 110;
+
+/// How many instructions a shift window may cost with 4,032 starts: what fill takes beyond the same plan without windows, for each window.
+const WINDOW: u64 = 500;
 
 /// Prints the instructions; whether they are within the limits.
 pub fn instructions_within_limits() -> bool {
@@ -40,6 +43,20 @@ fn plan_within_limit(plan: &Plan, without: u64) -> Result<bool, String> {
     Ok(taken <= limit)
 }
 
+/// Prints the instructions with as many shift windows as there may be, and without; whether a window costs no more than it may.
+pub fn windows_within_limit() -> bool {
+    println!("fill, instructions with shift windows; without; for each window; limit");
+    all_within([window_within_limit()].into_iter())
+}
+
+fn window_within_limit() -> Result<bool, String> {
+    let (with, without) = (count(&plans::windowed())?, count(&plans::unwindowed())?);
+    let each = with.saturating_sub(without) / WINDOWS as u64;
+    let told = if each <= WINDOW { "" } else { "  FAILED" };
+    println!("{with:>12} {without:>12} {each:>6} {WINDOW:>6}  {WINDOWS} windows, 4,032 starts{told}");
+    Ok(each <= WINDOW)
+}
+
 /// How many instructions fill takes on a plan.
 pub fn count(plan: &Plan) -> Result<u64, String> {
     count_run(COUNTED, &plan.name)
@@ -49,5 +66,6 @@ pub fn count(plan: &Plan) -> Result<u64, String> {
 pub fn run(name: &str) {
     let plan = plans::all().into_iter().find(|plan| plan.name == name).expect("a plan of that name");
     let mut buffer = vec![0; 4096];
-    counted_call(&mut || host::fill(&plan.job, &plan.starts, &mut buffer));
+    let filled = counted_call(&mut || host::fill(&plan.job, &plan.starts, &mut buffer));
+    assert_eq!(filled.number, 0, "the plan is lawful");
 }

@@ -65,7 +65,8 @@ impl Job {
             5 => self.formulas.push(Formula { form: form(word), x: field(word, 11, 6), y: field(word, 5, 0) }),
             6 => self.nodes.push(node(word)),
             7 => self.newest().members.push(field(word, 5, 0)),
-            _ => self.newest().conditions.push(condition(word)),
+            8 => self.newest().conditions.push(condition(word)),
+            _ => {} // a shift window, which binds the starts alone
         }
     }
 
