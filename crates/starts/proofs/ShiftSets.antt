@@ -19,7 +19,8 @@ use Rattle.words.proofs.Filter.{none-kept, any-filter}
 use Rattle.job.specs.Parts.{actions, duration, shiftOf, shiftsOf}
 use Rattle.history.specs.Code.Tables.{Durations}
 use Rattle.starts.specs.Rows.{insideShift, mayStart}
-use Rattle.starts.specs.Code.ShiftSets.{ShiftsIn}
+use Rattle.starts.specs.Code.ShiftSets.{ShiftsOf}
+use Rattle.starts.specs.declared.shifts.Shifts.{Shifts}
 
 -- the moments at which an action of duration d may start in a window: none where the window is shorter
 module _ (d w : ℕ) where
@@ -33,6 +34,12 @@ module _ (d w : ℕ) where
       cases : Dec (last < u) → leb u last ≡ leb (u + d) (shiftTo w)
       cases (yes m) = rw (lt-leb u last m, lt-leb (u + d) (shiftTo w) (omega arith))
       cases (no m) = rw (le-leb u last (omega arith), le-leb (u + d) (shiftTo w) (omega arith))
+
+-- the sets of the windows among the words ws of a job whose actions last as long as `durations` says
+pub record ShiftsIn (durations ws : List ℕ) (windowed : ℕ) (inside : List ℕ) : Type 0 where
+  pub size : length inside ≡ 64
+  pub some : (a : ℕ) → has windowed a ≡ any (shiftOf a) ws
+  pub moments : (a u : ℕ) → has (getD inside a 0) u ≡ any (λ w. shiftOf a w && insideShift (getD durations a 0) u w) ws
 
 module _ {durations : List ℕ} (job : List ℕ) where
   pub shifts-none : ShiftsIn durations (drop (length job) job) 0 (replicate 64 0)
@@ -70,14 +77,15 @@ module _ {durations : List ℕ} (job : List ℕ) where
             (or-comm (has (getD inside x 0) u) (insideShift (getD durations x 0) u (getD job i 0)))
         cases a u (no n) = rw (getD-set-other inside x a sum 0 n, ne-eqb a x n)
 
--- whether an action may start, by the sets
-module _ {job durations inside : List ℕ} {windowed : ℕ} (d : Durations job durations) (h : ShiftsIn durations job windowed inside) where
-  by-sets : (u a : ℕ) → a < actions job → (not (has windowed a) || has (getD inside a 0) u) ≡ mayStart job u a
-  unfolding mayStart shiftsOf
-  by-sets u a l =
-      rw (h .some a, h .moments a u, d .entry a l, none-kept (shiftOf a) job, any-filter (insideShift (duration job a) u) (shiftOf a) job)
+-- of all words of the job
+pub shifts-all : {job durations inside : List ℕ} {windowed : ℕ} → Durations job durations → ShiftsIn durations job windowed inside
+    → ShiftsOf job (record { windowed = windowed; inside = inside })
+unfolding mayStart shiftsOf
+shifts-all {job} d h = record {
+  entry = λ u a l. rw (h .some a, h .moments a u, d .entry a l, none-kept (shiftOf a) job, any-filter (insideShift (duration job a) u) (shiftOf a) job);
+}
 
-  -- of the moment x and the action b that the code has read
-  pub may-start-read : {r : Bool} (x b : ℕ) {u a : ℕ} → r ≡ (not (has windowed b) || has (getD inside b 0) x) → x ≡ u → b ≡ a → a < actions job
-      → r ≡ mayStart job u a
-  may-start-read x b {u} {a} e eu ea l = e ∙ rw (eu, ea) (by-sets u a l)
+-- whether action a may start at u, of which the code has read b and x
+pub may-start-read : {job : List ℕ} {shifts : Shifts} → ShiftsOf job shifts → {r : Bool} (x b : ℕ) {u a : ℕ}
+    → r ≡ (not (has (shifts .windowed) b) || has (getD (shifts .inside) b 0) x) → x ≡ u → b ≡ a → a < actions job → r ≡ mayStart job u a
+may-start-read h x b {u} {a} e eu ea l = e ∙ rw (eu, ea) (h .entry u a l)

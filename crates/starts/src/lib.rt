@@ -2,6 +2,7 @@
 ghost use mathlib.Core.Path.{_≡_};
 ghost use lib.ListN.{length};
 ghost use Rattle.starts.specs.Rows.{rowsRefusal};
+ghost use Rattle.starts.specs.Code.ShiftSets.{ShiftsOf};
 ghost use Rattle.starts.specs.Code.Given.{timeRows, Tabled};
 
 mod clashes;
@@ -14,6 +15,7 @@ use answers::Refusal;
 pub use clashes::first_clash;
 pub use clashes::has_clash;
 pub use order::wrong_word;
+pub use shifts::Shifts;
 pub use shifts::may_start;
 pub use shifts::outside_shifts;
 pub use shifts::shifts_of;
@@ -27,9 +29,10 @@ pub fn check_times(
     job: &[u32],
     durations: &[usize; 64],
     effects: &[u8; 4096],
+    shifts: Shifts,
     starts: &[u32],
 ) -> Refusal
-    requires { ⌜ Tabled (now job) (now durations) (now effects) ⌝ }
+    requires { ⌜ Tabled (now job) (now durations) (now effects) × ShiftsOf (now job) shifts ⌝ }
     ensures { λ r. ⌜ r ≡ rowsRefusal (timeRows (now (job .entry)) (now (starts .entry))) (length (now (starts .entry))) ⌝ }
 {
     let wrong = wrong_word(job, starts);
@@ -48,5 +51,5 @@ pub fn check_times(
     if clash.number != 0 {
         return clash;
     }
-    outside_shifts(job, durations, starts)
+    outside_shifts(job, shifts, starts)
 }

@@ -5,9 +5,10 @@ ghost use Prim.Native.Nat.{_<_};
 ghost use lib.ListN.{length, getD};
 ghost use Rattle.answers.specs.Rows.{firstOf};
 ghost use Rattle.bitset.specs.Code.Members.{has, IsSetOf};
+ghost use Rattle.history.specs.Code.Tables.{Durations};
 ghost use Rattle.starts.specs.Rows.{insideShift, outsideShifts, numbered};
-ghost use Rattle.starts.specs.Code.ShiftSets.{ShiftsIn};
-ghost use Rattle.starts.specs.Code.Given.{Timed};
+ghost use Rattle.starts.specs.Code.ShiftSets.{ShiftsOf};
+ghost use Rattle.starts.specs.Code.Given.{Shifted};
 use answers::Refusal;
 use answers::none;
 use answers::refuse;
@@ -36,7 +37,8 @@ fn starts_in(w: u32, d: usize) -> u64
 
 // The windows of all actions, in one pass over the job.
 pub fn shifts_of(job: &[u32], durations: &[usize; 64]) -> Shifts
-    ensures { λ r. ⌜ ShiftsIn (now (durations .entry)) (now (job .entry)) (r .windowed) (r .inside) ⌝ }
+    requires { ⌜ Durations (now job) (now durations) ⌝ }
+    ensures { λ r. ⌜ ShiftsOf (now (job .entry)) r ⌝ }
 {
     let mut windowed: u64 = 0;
     let mut inside = [0u64; 64];
@@ -62,11 +64,10 @@ pub fn may_start(windowed: u64, inside: &[u64; 64], u: usize, a: usize) -> bool
 }
 
 // Row 15.
-pub fn outside_shifts(job: &[u32], durations: &[usize; 64], starts: &[u32]) -> Refusal
-    requires { ⌜ Timed (now job) (now durations) (now starts) ⌝ }
+pub fn outside_shifts(job: &[u32], shifts: Shifts, starts: &[u32]) -> Refusal
+    requires { ⌜ Shifted (now job) shifts (now starts) ⌝ }
     ensures { λ r. ⌜ r ≡ firstOf (numbered 15 (outsideShifts (now (job .entry)) (now (starts .entry)))) (length (now (starts .entry))) ⌝ }
 {
-    let shifts = shifts_of(job, durations);
     let windowed = shifts.windowed;
     let inside = shifts.inside;
     let mut i = 0;

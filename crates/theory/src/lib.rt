@@ -15,8 +15,10 @@ use history::durations;
 use history::effects;
 use job::Index;
 use job::check_job;
+use starts::Shifts;
 use starts::check_needs;
 use starts::check_times;
+use starts::shifts_of;
 use words::last_of;
 
 pub mod arrays;
@@ -24,13 +26,14 @@ pub mod moments;
 
 pub use arrays::arrays_of;
 
-// The refusal of the rows that were run, and of a plan that passes them the index of the job's words, the durations and effects of its
-// actions and its history.
+// The refusal of the rows that were run, and of a plan that passes them the index of the job's words, the durations, effects and shift
+// windows of its actions, and its history.
 pub struct Plan {
     pub refusal: Refusal,
     pub index: Index,
     pub durations: [usize; 64],
     pub effects: [u8; 4096],
+    pub shifts: Shifts,
     pub history: [u8; 4096],
 }
 
@@ -40,12 +43,17 @@ pub fn refused(refusal: Refusal, index: Index) -> Plan
 {
     let durations = [0usize; 64];
     let effects = [0u8; 4096];
+    let shifts = Shifts {
+        windowed: 0,
+        inside: [0u64; 64],
+    };
     let history = [0u8; 4096];
     Plan {
         refusal,
         index,
         durations,
         effects,
+        shifts,
         history,
     }
 }
@@ -59,7 +67,8 @@ pub fn judge_starts(job: &[u32], index: Index, starts: &[u32], last: usize) -> P
     let places = actions.position;
     let durations = durations(job, &places);
     let effects = effects(job, &places);
-    let times = check_times(job, &durations, &effects, starts);
+    let shifts = shifts_of(job, &durations);
+    let times = check_times(job, &durations, &effects, shifts, starts);
     if times.number != 0 {
         return refused(times, index);
     }
@@ -70,6 +79,7 @@ pub fn judge_starts(job: &[u32], index: Index, starts: &[u32], last: usize) -> P
         index,
         durations,
         effects,
+        shifts,
         history,
     }
 }
@@ -119,6 +129,7 @@ pub fn judge_facts(job: &[u32], starts: &[u32], facts: &[u32]) -> Plan
     let index = plan.index;
     let durations = plan.durations;
     let effects = plan.effects;
+    let shifts = plan.shifts;
     let history = plan.history;
     let mut wanted = [0u32; 4096];
     let n = fill_facts(job, &history, &mut wanted);
@@ -128,6 +139,7 @@ pub fn judge_facts(job: &[u32], starts: &[u32], facts: &[u32]) -> Plan
         index,
         durations,
         effects,
+        shifts,
         history,
     }
 }

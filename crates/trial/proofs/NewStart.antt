@@ -21,7 +21,6 @@ use Rattle.answers.proofs.Rows.{or-none, or-refused, or-passed, or-assoc}
 use Rattle.starts.specs.Rows.{clashing, mayStart, unmet, unmetAt, startsRefusal}
 use Rattle.starts.specs.Lawful.{Lawful}
 use Rattle.starts.specs.Code.Given.{StartsFormed, Recorded}
-use Rattle.starts.specs.Code.ShiftSets.{ShiftsIn}
 use Rattle.starts.proofs.Needs.{needs-read}
 use Rattle.starts.proofs.ShiftSets.{may-start-read}
 use Rattle.starts.proofs.StartsFormed.{right-of}
@@ -77,9 +76,9 @@ module _ {job starts : List ℕ} {u : ℕ} {plan : Plan} (given : Present job st
       er ∙ rw el (needs-read recorded a k u (omega arith))
 
   -- whether an action may start by its shift windows
-  pub present-shifts : {a : ℕ} → a < actions job → {inside : List ℕ} {windowed : ℕ} → ShiftsIn (plan .durations) job windowed inside
-      → {r : Bool} → r ≡ (not (has windowed a) || has (getD inside a 0) u) → r ≡ mayStart job u a
-  present-shifts {a} k h er = may-start-read (given .passed .durations) h u a er refl refl k
+  pub present-shifts : {a : ℕ} → a < actions job → {r : Bool} → r ≡ (not (has (plan .shifts .windowed) a) || has (getD (plan .shifts .inside) a 0) u)
+      → r ≡ mayStart job u a
+  present-shifts {a} k er = may-start-read (given .passed .shifts) u a er refl refl k
 
   -- a start that is accepted is one more lawful start, of which there are 4,096 at most
   new-room : (a : ℕ) → Each (λ s. s < 2 ^ 32) starts → startRefusal job (record { moment = u; starts = starts }) a .number ≡ 0 → length starts < 4096

@@ -111,6 +111,7 @@ impl Trial {
         let plan = judge_starts(job, index, &starts[..length], moment);
         let durations = plan.durations;
         let effects = plan.effects;
+        let shifts = plan.shifts;
         let history = plan.history;
         let refusal = at_zero(plan.refusal);
         Plan {
@@ -118,6 +119,7 @@ impl Trial {
             index,
             durations,
             effects,
+            shifts,
             history,
         }
     }

@@ -20,7 +20,6 @@ use history::laws_of;
 use starts::has_clash;
 use starts::has_unmet;
 use starts::may_start;
-use starts::shifts_of;
 use theory::Plan;
 use words::*;
 
@@ -141,7 +140,7 @@ pub fn start_refusal(job: &[u32], plan: Plan, starts: &[u32], u: usize, a: usize
     if held.number != 0 {
         return held;
     }
-    let shifts = shifts_of(job, &durations);
+    let shifts = plan.shifts;
     let inside = shifts.inside;
     let outside = row_of(!may_start(shifts.windowed, &inside, u, a), 15, 0);
     let index = plan.index;

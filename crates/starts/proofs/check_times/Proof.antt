@@ -16,8 +16,8 @@ six c = c .before .before .before .before .before .before
 -- row 6 fits no word
 timed : (c : tie.Else1) → Timed (entry c .args .job .now) (entry c .args .durations .now) (entry c .args .starts .now)
 timed c = record {
-  formed = entry c .pre .formed;
-  lasts = entry c .pre .lasts;
+  formed = entry c .pre .0 .formed;
+  lasts = entry c .pre .0 .lasts;
   words = row-passed (c .before .before .wrong-word .ensures) (c .if1 .left);
 }
 
@@ -45,6 +45,9 @@ returns-4 c =
     (rows-next 8 _ _ _ (eight .before .before .restart .ensures) (eight .if3 .left)
     (rows-found 9 _ _ _ (c .before .before .first-clash .ensures) (c .if4 .taken))))
 
+outside-shifts-requires : tie.Need-outside-shifts-requires
+outside-shifts-requires c κs = let passed = six (c .before .before .before) in record { sets = entry passed .pre .1; words = timed passed .words }
+
 returns-5 : tie.Need-returns-5
 returns-5 c =
     let nine = c .before in
@@ -61,5 +64,5 @@ pub check-times-spec : {M : Type 1} → statement M
 check-times-spec =
     tie.close
     (tie.spec (λ c κs. search needs) (λ c. rows-found 6 _ _ _ (c .before .before .wrong-word .ensures) (c .if1 .taken)) (λ c κs. timed c) returns-2
-    (λ c κs. timed (c .before .before .before)) returns-3 (λ c κs. (timed (six c), entry (six c) .pre .makes)) returns-4
-    (λ c κs. timed (six (c .before .before .before))) returns-5)
+    (λ c κs. timed (c .before .before .before)) returns-3 (λ c κs. (timed (six c), entry (six c) .pre .0 .makes)) returns-4
+    outside-shifts-requires returns-5)

@@ -10,6 +10,8 @@ use Rattle.job.specs.Code.WellFormed.{WellFormed, Indexed}
 use Rattle.history.specs.Code.Tables.{Durations, Effects, HistoryUpto}
 use Rattle.starts.specs.Rows.{wrongWord, startRows}
 use Rattle.starts.specs.Code.Latest.{Clashes}
+use Rattle.starts.specs.Code.ShiftSets.{ShiftsOf}
+use Rattle.starts.specs.declared.shifts.Shifts.{Shifts}
 
 -- the rows that read no state: 6 to 9, and 15
 abbrev pub timeRows : List ℕ → List ℕ → List (ℕ × (ℕ → Bool))
@@ -25,10 +27,15 @@ pub record Tabled (job durations effects : List ℕ) : Type 0 where
   pub lasts : Durations job durations
   pub makes : Effects job effects
 
--- rows 7 to 9 and 15: the starts of such a job, once row 6 fits none
+-- rows 7 to 9: the starts of such a job, once row 6 fits none
 pub record Timed (job durations starts : List ℕ) : Type 0 where
   pub formed : WellFormed job
   pub lasts : Durations job durations
+  pub words : StartsFormed job starts
+
+-- row 15: the same with the sets of its shift windows
+pub record Shifted (job : List ℕ) (shifts : Shifts) (starts : List ℕ) : Type 0 where
+  pub sets : ShiftsOf job shifts
   pub words : StartsFormed job starts
 
 -- row 9: two of its actions; one of them, with the table of the pairs that clash

@@ -1,16 +1,14 @@
--- Between functions: the tables of row 15: which actions have shift windows, and at which moments each may start in one of them.
-use mathlib.Core.Bool.{_&&_}
+-- Between functions: the tables of row 15.
+use mathlib.Core.Bool.{not, _||_}
 use mathlib.Core.List.{List}
 use mathlib.Core.Path.{_≡_}
-use Prim.Native.Nat.{ℕ}
-use lib.ListN.{length, getD}
+use Prim.Native.Nat.{ℕ, _<_}
+use lib.ListN.{getD}
 use Rattle.bitset.specs.Code.Members.{has}
-use Rattle.words.specs.Scan.{any}
-use Rattle.job.specs.Parts.{shiftOf}
-use Rattle.starts.specs.Rows.{insideShift}
+use Rattle.job.specs.Parts.{actions}
+use Rattle.starts.specs.Rows.{mayStart}
+use Rattle.starts.specs.declared.shifts.Shifts.{Shifts}
 
--- of the windows among the words ws of a job whose actions last as long as `durations` says
-pub record ShiftsIn (durations ws : List ℕ) (windowed : ℕ) (inside : List ℕ) : Type 0 where
-  pub size : length inside ≡ 64
-  pub some : (a : ℕ) → has windowed a ≡ any (shiftOf a) ws
-  pub moments : (a u : ℕ) → has (getD inside a 0) u ≡ any (λ w. shiftOf a w && insideShift (getD durations a 0) u w) ws
+-- an action may start at u if it is not in the set of those that have windows, or u is in its own set of moments
+pub record ShiftsOf (job : List ℕ) (shifts : Shifts) : Type 0 where
+  pub entry : (u a : ℕ) → a < actions job → (not (has (shifts .windowed) a) || has (getD (shifts .inside) a 0) u) ≡ mayStart job u a

@@ -24,7 +24,7 @@ abbrev judged : tie.Else1 → tie.After-judge
 judged c = c .before .before .before
 
 abbrev passed : tie.After-wanted → tie.Else1
-passed c = c .before .before .before .before .before .before
+passed c = c .before .before .before .before .before .before .before
 
 abbrev ahead : tie.After-fill-facts → tie.Else1
 ahead c = passed (c .before)
@@ -71,7 +71,7 @@ returns-2 c =
     let p = passing (ahead f) in
     record {
       refusal = c .compare-facts .ensures ∙ ap (λ (l : List ℕ). factsRefusal (s .args .facts .now) l 0) same ∙ or-passed _ _ (clear (ahead f)) ∙ sym (check-rows (s .args .job .now) (s .args .starts .now) (s .args .facts .now));
-      passed = λ z. record { clear = p .clear; index = p .index; durations = p .durations; effects = p .effects; history = p .history };
+      passed = λ z. record { clear = p .clear; index = p .index; durations = p .durations; effects = p .effects; shifts = p .shifts; history = p .history };
     }
 
 pub judge-facts-spec : {M : Type 1} → statement M

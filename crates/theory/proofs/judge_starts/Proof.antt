@@ -16,7 +16,8 @@ use borrow.Author.Needs.{needs}
 use Rattle.theory.proofs.judge_starts.Statement.{statement}
 use Rattle.theory.proofs.judge_starts.Tie as tie
 
--- the function's entry, from where the places of actions are taken; the two tables, from the rows on times; and the entry from there
+-- the function's entry, from where the places of actions are taken; the three tables, from the rows that read no state; and the entry from
+-- there
 abbrev placed : tie.After-places2 → tie.Start
 placed c = c .before .before .before .before .before
 
@@ -27,13 +28,16 @@ words c i = omega (arith, c .before .before .before .shared-slice-known2 .given 
 abbrev tabled : tie.After-effects → tie.After-durations
 tabled c = c .before .before
 
-abbrev made : tie.After-check-times → tie.After-effects
-made c = c .before .before .before
+abbrev made : tie.After-shifts-of → tie.After-effects
+made c = c .before .before
+
+abbrev windowed : tie.After-check-times → tie.After-shifts-of
+windowed c = c .before .before .before
 
 abbrev timed : tie.After-check-times → tie.Start
-timed c = placed (tabled (made c) .before)
+timed c = placed (tabled (made (windowed c)) .before)
 
--- past the rows on times, from the history
+-- past these rows, from the history
 abbrev told : tie.After-history → tie.Else1
 told c = c .before .before .before
 
@@ -54,12 +58,15 @@ effects-requires c κs =
 
 check-times-requires : tie.Need-check-times-requires
 check-times-requires c κs =
-    let e = c .before .before in
-    record {
-      formed = well-formed _ (placed (tabled e .before) .pre .good);
-      lasts = tabled e .durations .ensures;
-      makes = e .effects .ensures;
-    }
+    let w = c .before .before in
+    let e = made w in (
+      record {
+        formed = well-formed _ (placed (tabled e .before) .pre .good);
+        lasts = tabled e .durations .ensures;
+        makes = e .effects .ensures;
+      },
+      w .shifts-of .ensures,
+    )
 
 returns : tie.Need-returns
 returns c =
@@ -75,11 +82,11 @@ history-requires c κs =
     let starts = times-passed (times .check-times .ensures) (passing .if1 .left) in (
       record {
         well = well-formed _ (timed times .pre .good);
-        tables = record { durations = tabled (made times) .durations .ensures; effects = made times .effects .ensures };
+        tables = record { durations = tabled (made (windowed times)) .durations .ensures; effects = made (windowed times) .effects .ensures };
         named = named starts;
       },
-      ascending starts (words (tabled (made times) .before)),
-      few-words _ _ (words (tabled (made times) .before)) _ (starts .right),
+      ascending starts (words (tabled (made (windowed times)) .before)),
+      few-words _ _ (words (tabled (made (windowed times)) .before)) _ (starts .right),
       timed times .pre .soon,
     )
 
@@ -107,8 +114,9 @@ returns-2 c =
       passed = λ z. record {
         clear = z;
         index = timed times .pre .index;
-        durations = tabled (made times) .durations .ensures;
-        effects = made times .effects .ensures;
+        durations = tabled (made (windowed times)) .durations .ensures;
+        effects = made (windowed times) .effects .ensures;
+        shifts = windowed times .shifts-of .ensures;
         history = c .before .before .before .history .ensures;
       };
     }
@@ -116,5 +124,5 @@ returns-2 c =
 pub judge-starts-spec : {M : Type 1} → statement M
 judge-starts-spec =
     tie.close
-    (tie.spec durations-requires effects-requires check-times-requires (λ c κs. search needs) returns history-requires check-needs-requires
+    (tie.spec durations-requires effects-requires (λ c κs. tabled (c .before) .durations .ensures) check-times-requires (λ c κs. search needs) returns history-requires check-needs-requires
     returns-2)

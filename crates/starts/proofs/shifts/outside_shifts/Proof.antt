@@ -14,32 +14,29 @@ use Rattle.starts.proofs.shifts.outside_shifts.Statement.{statement}
 use Rattle.starts.proofs.shifts.outside_shifts.Tie as tie
 
 abbrev Inv-loop : tie.InvT-loop
-Inv-loop job durations starts windowed inside i₀ i = Tried 15 (outsideShifts job starts) (length starts) i
+Inv-loop job starts windowed inside i₀ i = Tried 15 (outsideShifts job starts) (length starts) i
 
 abbrev μ-loop : tie.MeasureT-loop
-μ-loop job durations starts windowed inside i₀ i = length starts - i
+μ-loop job starts windowed inside i₀ i = length starts - i
 
--- the turn of the loop, from the test of its start; the sets, and the function's entry
+-- the turn of the loop, from the test of its start, and the function's entry
 abbrev turn : tie.After-may-start Inv-loop μ-loop → tie.At-loop Inv-loop μ-loop
 turn c = c .before .before .before .before .before .before
 
-abbrev made : tie.At-loop Inv-loop μ-loop → tie.After-shifts-of Inv-loop μ-loop
-made c = c .before .before
-
-abbrev entry : tie.After-shifts-of Inv-loop μ-loop → tie.Start Inv-loop μ-loop
-entry c = c .before .before .before
+abbrev entry : tie.After-may-start Inv-loop μ-loop → tie.Start Inv-loop μ-loop
+entry c = turn c .before .before .before .before
 
 -- what is tested of word i is whether it may start
-tested : (c : tie.After-may-start Inv-loop μ-loop) → let args = entry (made (turn c)) .args in
+tested : (c : tie.After-may-start Inv-loop μ-loop) → let args = entry c .args in
     let s = getD (args .starts .now) (turn c .loop .i) 0 in
     c .may-start .result ≡ mayStart (args .job .now) (startMoment s) (startAction s)
 tested c =
-    let m = made (turn c) in
+    let given = entry c .pre in
     let l = c .before .before .before .before .before .loop-test .taken in
-    may-start-read (entry m .pre .lasts) (m .shifts-of .ensures) _ _ (c .may-start .ensures) (c .before .before .start-moment .ensures .0) (c .before .start-action .ensures .0)
-    (right-word (entry m .pre .words) _ l .action)
+    may-start-read (given .sets) _ _ (c .may-start .ensures) (c .before .before .start-moment .ensures .0) (c .before .start-action .ensures .0)
+    (right-word (given .words) _ l .action)
 
-value : (c : tie.After-may-start Inv-loop μ-loop) → let args = entry (made (turn c)) .args in
+value : (c : tie.After-may-start Inv-loop μ-loop) → let args = entry c .args in
     outsideShifts (args .job .now) (args .starts .now) (turn c .loop .i) ≡ not (c .may-start .result)
 unfolding outsideShifts
 value c = ap not (sym (tested c))
@@ -58,6 +55,6 @@ loop-again c =
 pub outside-shifts-spec : {M : Type 1} → statement M
 outside-shifts-spec =
     tie.close
-    (tie.spec Inv-loop μ-loop (λ c κs. search needs) (λ c. tried-start) (λ c. search needs) (λ c. search needs) (λ c κs. search needs)
+    (tie.spec Inv-loop μ-loop (λ c. tried-start) (λ c. search needs) (λ c. search needs) (λ c κs. search needs)
     (λ c κs. search needs) (λ c κs. search needs) (λ c κs. search needs) returns (λ c. search needs) (λ c. search needs) loop-again (λ c κs. search needs)
     (λ c. c .none .ensures ∙ tried-end (c .before .before .loop .inv) (omega arith)))

@@ -4,8 +4,7 @@ use Prim.Native.Nat.{_-_, _≤_}
 use native.Mathlib.Omega.{arith}
 use borrow.Author.Needs.{needs}
 use lib.ListN.{length, drop}
-use Rattle.starts.specs.Code.ShiftSets.{ShiftsIn}
-use Rattle.starts.proofs.ShiftSets.{shifts-none, shifts-other, shifts-more}
+use Rattle.starts.proofs.ShiftSets.{ShiftsIn, shifts-none, shifts-other, shifts-more, shifts-all}
 use Rattle.starts.proofs.shifts.shifts_of.Statement.{statement}
 use Rattle.starts.proofs.shifts.shifts_of.Tie as tie
 
@@ -50,7 +49,7 @@ loop-again-2 c =
     (omega arith, shifts-other _ (at .i - 1) (at .i) (at .inv .1) (omega arith) (omega arith) (λ z. c .if1 .left (k .kind-of .ensures .0 ∙ z)))
 
 returns : tie.Need-returns Inv-loop μ-loop
-returns c = let e : c .before .loop .i ≡ 0 = omega arith in rw e at (c .before .loop .inv .1)
+returns c = let e : c .before .loop .i ≡ 0 = omega arith in shifts-all (c .before .before .before .pre) (rw e at (c .before .loop .inv .1))
 
 pub shifts-of-spec : {M : Type 1} → statement M
 shifts-of-spec =

@@ -27,7 +27,7 @@ abbrev read : tie.After-struct-known → tie.After-check-job
 read c = c .before .before .before
 
 abbrev judging : tie.After-at-zero → tie.After-judge-starts
-judging c = c .before .before .before .before
+judging c = c .before .before .before .before .before
 
 abbrev passed : tie.After-is-outside → tie.Else1
 passed c = c .before
@@ -98,7 +98,7 @@ returns-3 c =
       passed = λ z.
           let p = j .judge-starts .ensures .passed (clear z) in
           judged-present (s .args .job .now) (s .args .self) (good (passed o)) size (in-bounds b)
-          (record { clear = p .clear; index = ap (λ (r : Checked). r .index) (checked (passed o) .check-job .ensures); durations = p .durations; effects = p .effects; history = p .history });
+          (record { clear = p .clear; index = ap (λ (r : Checked). r .index) (checked (passed o) .check-job .ensures); durations = p .durations; effects = p .effects; shifts = p .shifts; history = p .history });
       sized = λ z. judged-sized (s .args .job .now) (s .args .self) (good (passed o)) size (in-bounds b);
     }
 

@@ -74,7 +74,7 @@ returns-3 c =
 
 -- past rows 8 and 9, from the shift windows, and these from the laws of the action
 abbrev past : tie.After-may-start → tie.Else3
-past c = c .before .before .before .before .before
+past c = c .before .before .before .before
 
 abbrev shifted : tie.After-places2 → tie.After-may-start
 shifted c = c .before .before .before .before .before .before
@@ -84,7 +84,7 @@ held c = c .before .before
 
 may-start-requires : tie.Need-may-start-requires
 may-start-requires c κs =
-    let l = second (held (c .before .before .before .before)) in
+    let l = second (held (c .before .before .before)) in
     let g = entry (first l) .pre in
     (omega (arith, g .present, present-formed g .few-moments), omega (arith, below l, present-formed g .few-actions))
 
@@ -112,7 +112,7 @@ returns-4 c =
     tested given (small f)
     (rows-15-10 _ _ _ _ (not-6 l) (not-7 (h .before)) (sym (ap (λ (r : Refusal). r .number) (h .held-refusal .ensures)) ∙ e .if3 .left) (c .first-refusal .ensures)
     (laws .before .before .before .before .before .before .row-of .ensures)
-    (present-shifts given (below l) (m .before .before .before .shifts-of .ensures) (m .may-start .ensures))
+    (present-shifts given (below l) (m .may-start .ensures))
     (c .before .row-of2 .ensures)
     (present-unmet given (below l) (laws .laws-of .ensures) (needs .has-unmet .ensures)))
 
@@ -129,5 +129,5 @@ start-refusal-spec =
     tie.close
     (tie.spec (λ c. present-formed (c .before .before .before .pre) .some) (λ c κs. search needs) (λ c κs. search needs) returns
     (λ c κs. search needs) (λ c. search needs) array-read-if2 add-if2 (λ c κs. search needs) returns-2
-    held-refusal-requires returns-3 (λ c κs. search needs) may-start-requires (λ c κs. search needs) laws-of-requires has-unmet-requires (λ c κs. search needs)
+    held-refusal-requires returns-3 may-start-requires (λ c κs. search needs) laws-of-requires has-unmet-requires (λ c κs. search needs)
     (λ c κs. search needs) returns-4)
