@@ -25,6 +25,7 @@ fn all_starts_of_one_action_get_what_the_moments_say() {
     let report = window_tiny::run_one(&[0, 1, 2, 3, 4], &CALLS);
     report.print(0, "tiny plans of one action, by refusal number", &window_tiny::COLUMNS);
     assert_eq!(report.differences, 0);
+    assert_eq!(report.cases, 59_274 + 11_133);
     assert!(window_tiny::COLUMNS.iter().all(|column| report.tally.count(window_tiny::ROW, column) > 1_000));
 }
 

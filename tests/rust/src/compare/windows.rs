@@ -41,6 +41,10 @@ pub fn run(seed: u64, plans: usize, calls: &Calls) -> Report {
             _ => {}
         }
         run.plan(&other, also);
+        if number % 500 == 0 {
+            let long = plan_damage::very_long(&mut run.random, &other.starts, [4_097, 100_000][number / 500 % 2]);
+            drop(run.list(&other.draft.words(), &long));
+        }
         if number % 2 == 1 {
             let job = window_plans::damaged_word(&mut run.random, &plan.draft.words());
             drop(run.list(&job, &plan.starts));

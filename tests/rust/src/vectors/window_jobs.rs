@@ -89,6 +89,7 @@ fn values() -> Vec<Vector> {
         vector("the second of two windows wrong", with(&[WINDOW, shift_window(0, 1, 0)]), 3, 5),
         vector("2,045 windows, a job of 2,048 words", many, 0, 0),
         vector("2,046 windows, a word too many", longer, 1, 0),
+        vector("100,000 windows", vec![WINDOW; 100_000], 1, 0),
     ]
 }
 
