@@ -204,7 +204,7 @@ pub fn needed(plans: usize) -> Vec<Needed> {
         ["0", "6", "7", "8", "9", "10", "15"].iter().for_each(|number| add(call.to_string(), number, 100));
         ["2", "3"].iter().for_each(|number| add(call.to_string(), number, 100));
     }
-    [("0", 100), ("13", 400), ("15", 100)].iter().for_each(|&(number, of)| add("find".to_string(), number, of));
+    [("0", 100), ("13", 100), ("15", 100)].iter().for_each(|&(number, of)| add("find".to_string(), number, of));
     for call in ["start", "on", "show"] {
         ["0", "15"].iter().for_each(|number| add(call.to_string(), number, 100));
     }

@@ -29,7 +29,7 @@ pub fn run(seed: u64, plans: usize, calls: &Calls) -> Report {
     let mut run = Run::new(seed, calls);
     for number in 0..plans {
         let also = Also { find: number % 4 == 0, trial: number % 4 == 2, slips: number % 8 < 4 };
-        let plan = window_plans::lawful(&mut run.random, also.find);
+        let plan = window_plans::lawful(&mut run.random, number % 8 == 0);
         run.plan(&plan, also);
         let mut other = plan.clone();
         if number % 16 < 12 {
