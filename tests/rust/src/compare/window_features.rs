@@ -4,7 +4,8 @@
 use crate::checker::answer::{Answer, Refusal};
 use crate::checker::job::{Job, Shift};
 use crate::checker::starts::Start;
-use crate::compare::window_rules::{slips, windows, Case, Window, RIGHT};
+use crate::compare::window_case::Case;
+use crate::compare::window_rules::{slips, windows, Window, RIGHT};
 use crate::tally::Tally;
 
 /// A situation, the number of the answer, and how often a run must have met it.

@@ -4,9 +4,7 @@
 //! One slip is not here, since no case can tell it: to is taken as n where it exceeds n. By row 7 nothing finishes after n.
 
 use crate::checker::answer::Refusal;
-use crate::checker::facts::{states, State};
 use crate::checker::job::{read_job, Job};
-use crate::checker::starts::{clash, row_6, Start};
 use crate::words::{bits, field, kind, shift_window};
 
 #[derive(Clone, Copy, Debug, PartialEq, Eq)]
@@ -18,26 +16,26 @@ pub struct Window {
 
 /// What row 15 is asked of one start: u and d, and the windows in the order of their words.
 pub struct Asked<'a> {
-    all: &'a [Window],
+    pub all: &'a [Window],
     /// Those of the start's action.
-    own: Vec<Window>,
-    start: Start,
-    u: usize,
+    pub own: Vec<Window>,
+    pub action: usize,
+    pub u: usize,
     /// u + d.
-    end: usize,
-    last: usize,
-    actions: usize,
+    pub end: usize,
+    pub last: usize,
+    pub actions: usize,
 }
 
 #[derive(Clone, Copy)]
 pub struct Rule {
     pub name: &'static str,
-    keeps: fn(&Asked) -> bool,
-    reads: fn(&[u32]) -> Result<Job, Refusal>,
+    pub keeps: fn(&Asked) -> bool,
+    pub reads: fn(&[u32]) -> Result<Job, Refusal>,
     /// The passes over all words. Of several rows in one pass each word is asked in turn.
-    passes: &'static [&'static [usize]],
+    pub passes: &'static [&'static [usize]],
     /// Which of the words outside their windows is told.
-    told: fn(&[usize]) -> usize,
+    pub told: fn(&[usize]) -> usize,
 }
 
 pub const RIGHT: Rule = Rule {
@@ -126,12 +124,12 @@ const WHICH: [Rule; 13] = [
     },
     Rule {
         name: "windows are the next action's",
-        keeps: |asked| kept(asked, &of(asked.all, asked.start.action + 1)),
+        keeps: |asked| kept(asked, &of(asked.all, asked.action + 1)),
         ..RIGHT
     },
     Rule {
         name: "windows are the last action's",
-        keeps: |asked| asked.start.action + 1 < asked.actions || kept(asked, asked.all),
+        keeps: |asked| asked.action + 1 < asked.actions || kept(asked, asked.all),
         ..RIGHT
     },
     Rule {
@@ -141,12 +139,12 @@ const WHICH: [Rule; 13] = [
     },
     Rule {
         name: "windows of action 63 do not count",
-        keeps: |asked| asked.start.action == 63 || (RIGHT.keeps)(asked),
+        keeps: |asked| asked.action == 63 || (RIGHT.keeps)(asked),
         ..RIGHT
     },
     Rule {
         name: "the 65th window and those after it do not count",
-        keeps: |asked| kept(asked, &of(&asked.all[..asked.all.len().min(64)], asked.start.action)),
+        keeps: |asked| kept(asked, &of(&asked.all[..asked.all.len().min(64)], asked.action)),
         ..RIGHT
     },
 ];
@@ -289,13 +287,13 @@ fn only(windows: &[Window], test: impl Fn(&Window) -> bool) -> Vec<Window> {
     windows.iter().copied().filter(test).collect()
 }
 
-fn of(windows: &[Window], action: usize) -> Vec<Window> {
+pub fn of(windows: &[Window], action: usize) -> Vec<Window> {
     only(windows, |window| window.action == action)
 }
 
 /// The action's windows up to the first of another action.
 fn first_run(asked: &Asked) -> Vec<Window> {
-    let own = |window: &&Window| window.action == asked.start.action;
+    let own = |window: &&Window| window.action == asked.action;
     asked.all.iter().skip_while(|window| !own(window)).take_while(own).copied().collect()
 }
 
@@ -348,115 +346,4 @@ fn second(job: &[u32], number: usize, test: fn(&Window, &Window) -> bool) -> Res
         Some(position) => Err(Refusal { number, position }),
         None => Ok(read),
     }
-}
-
-// A rule's answer.
-
-/// A job and start words, and at which of these each row but 15 fits, whatever the others say.
-pub struct Case<'a> {
-    words: &'a [u32],
-    windows: Vec<Window>,
-    job: Result<Job, Refusal>,
-    /// By their words; none where the word names no moment or no action.
-    starts: Vec<Option<Start>>,
-    fits: Vec<(usize, Vec<usize>)>,
-}
-
-/// Of a longer list the other words are looked at for row 6 alone; no plan of a run has as many.
-const MOST_STARTS: usize = 1_000;
-
-impl Case<'_> {
-    pub fn new<'a>(words: &'a [u32], starts: &[u32]) -> Case<'a> {
-        let job = read_job(words);
-        let mut case = Case { words, windows: windows(words), job, starts: vec![], fits: vec![] };
-        if let Ok(job) = case.job.clone() {
-            case.starts = starts.iter().take(MOST_STARTS).map(|&word| named(&job, word)).collect();
-            case.fits = fits(&job, starts, &case.starts);
-        }
-        case
-    }
-
-    /// At which words a row fits, by a rule.
-    pub fn at(&self, row: usize, rule: &Rule) -> Vec<usize> {
-        match row {
-            15 => self.outside(rule),
-            _ => self.fits.iter().find(|(number, _)| *number == row).map_or(vec![], |(_, at)| at.clone()),
-        }
-    }
-
-    fn outside(&self, rule: &Rule) -> Vec<usize> {
-        let Ok(job) = &self.job else { return vec![] };
-        let asked = |start: Start| Asked {
-            all: &self.windows,
-            own: of(&self.windows, start.action),
-            start,
-            u: start.moment,
-            end: start.moment + start.duration,
-            last: job.last,
-            actions: job.actions.len(),
-        };
-        let is_outside = |start: &Option<Start>| start.is_some_and(|start| !(rule.keeps)(&asked(start)));
-        (0..self.starts.len()).filter(|&index| is_outside(&self.starts[index])).collect()
-    }
-
-    /// The refusal of the job or of the starts by a rule.
-    pub fn refusal(&self, rule: &Rule) -> Option<Refusal> {
-        if let Err(refusal) = (rule.reads)(self.words) {
-            return Some(refusal);
-        }
-        rule.passes.iter().find_map(|rows| self.pass(rows, rule))
-    }
-
-    /// The first word that one of the rows fits, with the first row that does.
-    fn pass(&self, rows: &[usize], rule: &Rule) -> Option<Refusal> {
-        let fits: Vec<(usize, Vec<usize>)> = rows.iter().map(|&row| (row, self.at(row, rule))).collect();
-        let first = fits.iter().filter(|(_, at)| !at.is_empty()).min_by_key(|(_, at)| at[0])?;
-        let position = if first.0 == 15 { (rule.told)(&first.1) } else { first.1[0] };
-        Some(Refusal { number: first.0, position })
-    }
-
-    /// Whether a rule answers otherwise than the right one.
-    pub fn tells(&self, rule: &Rule) -> bool {
-        self.refusal(rule) != self.refusal(&RIGHT)
-    }
-}
-
-pub fn answer_by(job: &[u32], starts: &[u32], rule: &Rule) -> Option<Refusal> {
-    Case::new(job, starts).refusal(rule)
-}
-
-fn named(job: &Job, word: u32) -> Option<Start> {
-    let (moment, action) = (field(word, 11, 6), field(word, 5, 0));
-    let there = moment <= job.last && action < job.actions.len();
-    there.then(|| Start { moment, action, duration: job.actions[action].duration })
-}
-
-/// The rows 6 to 10, each alone; of row 6 the first word.
-fn fits(job: &Job, words: &[u32], starts: &[Option<Start>]) -> Vec<(usize, Vec<usize>)> {
-    let sound: Vec<Start> = starts.iter().copied().flatten().collect();
-    let states = states(job, &sound);
-    let at = |test: &dyn Fn(&Start, &[Option<Start>]) -> bool| -> Vec<usize> {
-        let fits = |&index: &usize| starts[index].is_some_and(|start| test(&start, &starts[..index]));
-        (0..starts.len()).filter(fits).collect()
-    };
-    vec![
-        (6, row_6(job, words).err().map_or(vec![], |refusal| vec![refusal.position])),
-        (7, at(&|start, _| start.moment + start.duration > job.last)),
-        (8, at(&|start, earlier| earlier.iter().flatten().any(|old| is_again(old, start)))),
-        (9, at(&|start, earlier| earlier.iter().flatten().any(|old| is_clash(job, old, start)))),
-        (10, at(&|start, _| is_unmet(job, &states[start.moment], start))),
-    ]
-}
-
-fn is_again(old: &Start, start: &Start) -> bool {
-    old.action == start.action && old.moment < start.moment && old.in_hand(start.moment)
-}
-
-fn is_clash(job: &Job, old: &Start, start: &Start) -> bool {
-    let both_in_hand = old.in_hand(start.moment) || start.in_hand(old.moment);
-    both_in_hand && clash(&job.actions[old.action], &job.actions[start.action])
-}
-
-fn is_unmet(job: &Job, state: &State, start: &Start) -> bool {
-    job.actions[start.action].needs.iter().any(|need| state[need.fluent] != Some(need.value))
 }

@@ -168,7 +168,8 @@ mod tests {
     use crate::compare::find::tests::right_find;
     use crate::compare::plan::tests::right_fill;
     use crate::compare::trial;
-    use crate::compare::window_rules::{slips, Case};
+    use crate::compare::window_case::Case;
+    use crate::compare::window_rules::slips;
 
     #[test]
     fn the_checker_says_what_the_moments_say() {

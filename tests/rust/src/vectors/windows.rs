@@ -224,9 +224,10 @@ fn rows_after() -> Vec<Vector> {
 #[cfg(test)]
 mod tests {
     use super::*;
-    use crate::compare::window_rules::{answer_by, slips, RIGHT};
+    use crate::compare::window_case::answer_by;
+    use crate::compare::window_rules::{slips, RIGHT};
 
-    /// All slips but those in trials; the cases of trials tell these.
+    /// By the plans here, or by the jobs of `window_jobs.rs`.
     #[test]
     fn the_cases_tell_each_slip() {
         for slip in slips() {
