@@ -80,6 +80,32 @@ static void example3(void)
     same("find wrote after the reading of Example 3", buffer + 5, before + 5, 4995);
 }
 
+/* The scope's example with n = 4 and a shift window from 1 to 2; then with another from 3 to 4. A start outside them is 15, before the facts. */
+static void shifts(void)
+{
+    const uint32_t one[] = {0x10010104u, 0x20000040u, 0x30000001u, 0x40000080u, 0xc0000042u, 0x60000000u};
+    const uint32_t two[] = {0x10010104u, 0x20000040u, 0x30000001u, 0x40000080u, 0xc0000042u, 0xc00000c4u, 0x60000000u};
+    const uint32_t crossed[] = {0x10010104u, 0x30000001u, 0xc0000081u, 0x60000000u}, early[] = {0x10010104u, 0xc0000042u, 0x30000001u, 0x60000000u};
+    const uint32_t before_from[] = {0x90000000u}, within[] = {0x90000040u}, on_to[] = {0x90000080u}, both[] = {0x90000040u, 0x90000080u};
+    const uint32_t again[] = {0x90000040u, 0x900000c0u};
+    const uint32_t known[] = {0xa0000001u, 0xa0000081u, 0xa0000100u, 0xa0000180u, 0xa0000200u};
+    for (size_t i = 0; i < 5000; i++) buffer[i] = before[i];
+    expect("check, one before from", check(one, 6, before_from, 1, known, 5), 15, 0, 0);
+    expect("check, start on to", check(one, 6, on_to, 1, known, 5), 15, 0, 0);
+    expect("check, the second start outside", check(one, 6, both, 2, known, 5), 15, 1, 0);
+    expect("check, between two windows", check(two, 7, both, 2, NULL, 0), 15, 1, 0);
+    expect("check, each in a window of its own", check(two, 7, again, 2, known, 5), 0, 0, 0);
+    expect("check, from above to", check(crossed, 4, NULL, 0, NULL, 0), 3, 2, 0);
+    expect("check, a window before the action", check(early, 4, NULL, 0, NULL, 0), 2, 1, 0);
+    expect("fill, one before from", fill(one, 6, before_from, 1, buffer, 5000), 15, 0, 0);
+    expect("fill, short buffer before 15", fill(one, 6, before_from, 1, buffer, 4095), 12, 0, 0);
+    expect("find, one before from", find(one, 6, before_from, 1, known, 5, buffer, 5000), 15, 0, 0);
+    same("a refusal for a window changed the buffer", buffer, before, 5000);
+    expect_count("find, on from and finished on to", find(one, 6, within, 1, known, 5, buffer, 5000), 13, 0, 0, 1);
+    expect("fill, on from and finished on to", fill(one, 6, within, 1, buffer, 5000), 0, 0, 5);
+    same("fill wrote other facts with a window", buffer, known, 5);
+}
+
 static uint32_t large_job[JOB_WORDS], large_starts[STARTS], large_facts[4096];
 
 static uint32_t large_reading[4096];
@@ -195,6 +221,7 @@ int main(void)
 {
     small();
     example3();
+    shifts();
     make_plan(large_job, large_starts);
     measure_all();
     printf("c host: %s\n", faults ? "FAILED" : "ok");

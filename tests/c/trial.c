@@ -343,7 +343,7 @@ static void refused_starts(void)
     shows_as_fill("two restarts, shown");
 }
 
-/* Pairs of numbers that fit one start: the lower one of 6, 7, 8, 9, 10 is given. n = 3; fluent 0 is open. Actions: 0 lasts 3 and makes
+/* Pairs of numbers that fit one start: the lower one of 6, 7, 8, 9, 10 is given; for 15 see shifts. n = 3; fluent 0 is open. Actions: 0 lasts 3 and makes
  * fluent 1 true; 1 lasts 1, needs fluent 0 true and makes fluent 1 false; 2 lasts 4, longer than the plan, needs fluent 0 true and makes
  * fluent 1 false; 3 lasts 2 and makes fluent 1 true. */
 static void order(void)
@@ -388,6 +388,40 @@ static void needs(void)
     goes_on("needs, on to 2", 0);
     starts("needs, action 1 when the need is false", 1, 10);
     shows_as_fill("needs, at 2");
+}
+
+/* Shift windows, 15: after 9 and before 10, of the trial's starts and of the new one. n = 5; fluent 0 is false. Actions: 0 lasts 2 and makes
+ * fluent 1 true, with windows from 1 to 3 and from 3 to 4; 1 lasts 1, needs fluent 0 true and makes fluent 1 false, with one from 2 to 2; 2
+ * lasts 1 and is free. */
+static void shifts(void)
+{
+    const uint32_t words[] = {0x10020305u, 0x20000040u, 0x30000002u, 0x40000081u, 0x30000041u, 0x40000000u, 0x400000c1u,
+                              0x30000081u, 0xc0000043u, 0xc00000c4u, 0xc0001082u, 0x60000000u};
+    const uint32_t outside[] = {0x90000000u}, needing[] = {0x90000001u}, later[] = {0x90000002u, 0x90000080u};
+    const uint32_t clash[] = {0x90000000u, 0x90000001u}, kept[] = {0x90000002u, 0x90000040u};
+    TAKE_JOB(words);
+    begins("shifts, begin", TRIAL, 0, 0);
+    starts("shifts, one before from", 0, 15);
+    starts("shifts, 15 before 10", 1, 15);
+    starts("shifts, a free action", 2, 0);
+    goes_on("shifts, on to 1", 0);
+    starts("shifts, on from, to end on to", 0, 0);
+    starts("shifts, 9 before 15 and 10", 1, 9);
+    is("shifts, at 1", 1, kept, 2);
+    shows_as_fill("shifts, shown");
+    goes_on("shifts, on to 2", 0);
+    starts("shifts, 8 before 15", 0, 8);
+    goes_on("shifts, on to 3", 0);
+    starts("shifts, one after to", 0, 15);
+    starts("shifts, from = to is past", 1, 15);
+    goes_on("shifts, on to 4", 0);
+    starts("shifts, 7 before 15", 0, 7);
+    bad_trial("a start outside its windows", 2, outside, 1, 15);
+    bad_trial("15 before 10", 2, needing, 1, 15);
+    bad_trial("15 of the second start: two windows that touch do not add up", 3, later, 2, 15);
+    bad_trial("9 of a later start before 15", 2, clash, 2, 9);
+    take_trial(5, outside, 1);
+    goes_on("shifts, 15 before 14 at the last moment", 15);
 }
 
 /* Example 3 of 004, the scope's P3, started with the higher number first: b and c at 0, a at 2. The states are 004's six. */
@@ -481,6 +515,7 @@ int main(void)
     refused_starts();
     order();
     needs();
+    shifts();
     example3();
     door();
     large();

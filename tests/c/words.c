@@ -4,7 +4,7 @@
 #include <stdio.h>
 #include <string.h>
 
-enum { KINDS = 11, FIELDS = 6 };
+enum { KINDS = 12, FIELDS = 6 };
 
 /* The fields of a kind, in the order of its maker's parameters: highest and lowest bit. */
 struct layout {
@@ -25,6 +25,7 @@ static const struct layout layouts[KINDS + 1] = {
     {2, {{11, 6}, {5, 0}}}, /* 9: moment, action */
     {3, {{12, 7}, {6, 1}, {0, 0}}}, /* 10: moment, fluent, 0 true or 1 false */
     {3, {{17, 12}, {11, 6}, {5, 0}}}, /* 11: node, begin, end */
+    {3, {{17, 12}, {11, 6}, {5, 0}}}, /* 12: action, from, to */
 };
 
 static int faults;
@@ -48,7 +49,8 @@ static uint32_t made(unsigned kind, const unsigned *v)
     case PLANREADER_KIND_CONDITION: return planreader_condition(v[0], v[1], v[2], v[3], v[4], v[5]);
     case PLANREADER_KIND_START: return planreader_start(v[0], v[1]);
     case PLANREADER_KIND_FACT: return planreader_fact(v[0], v[1], v[2] == 0);
-    default: return planreader_reading(v[0], v[1], v[2]);
+    case PLANREADER_KIND_READING: return planreader_reading(v[0], v[1], v[2]);
+    default: return planreader_shift_window(v[0], v[1], v[2]);
     }
 }
 
@@ -71,6 +73,7 @@ static unsigned value_read(unsigned kind, int field, uint32_t w)
         {planreader_start_moment(w), planreader_start_action(w)},
         {planreader_fact_moment(w), planreader_fact_fluent(w), false_bit(planreader_fact_is_true(w))},
         {planreader_reading_node(w), planreader_reading_begin(w), planreader_reading_end(w)},
+        {planreader_shift_window_action(w), planreader_shift_window_from(w), planreader_shift_window_to(w)},
     };
     return values[kind][field];
 }
@@ -156,6 +159,7 @@ static void try_listed(void)
         {planreader_node(PLANREADER_TASK_SET, 0, 0, 0, 0), 0x68000000u},
         {planreader_member(9), 0x70000009u},
         {planreader_condition(PLANREADER_BEGIN_AFTER_BEGIN, 0, 0, 1, 0, 1), 0x80001001u},
+        {planreader_shift_window(1, 2, 3), 0xc0001083u},
     };
     for (size_t i = 0; i < sizeof pairs / sizeof *pairs; i++)
         if (pairs[i][0] != pairs[i][1]) fault("listed", pairs[i][1] >> 28, 0, pairs[i][0]);
@@ -207,25 +211,26 @@ static void try_numbers(void)
     const int refusals[] = {PLANREADER_ACCEPTED, PLANREADER_JOB_LENGTH, PLANREADER_JOB_SHAPE, PLANREADER_JOB_VALUE,
                             PLANREADER_JOB_FLUENT_TWICE, PLANREADER_JOB_NODES, PLANREADER_START_WORD, PLANREADER_START_ENDS_LATE,
                             PLANREADER_START_IN_HAND, PLANREADER_START_CLASHES, PLANREADER_START_NEEDS, PLANREADER_FACTS_DIFFER,
-                            PLANREADER_BUFFER_SHORT, PLANREADER_NO_READING, PLANREADER_TRIAL_BOUNDS};
+                            PLANREADER_BUFFER_SHORT, PLANREADER_NO_READING, PLANREADER_TRIAL_BOUNDS, PLANREADER_START_OUTSIDE_WINDOWS};
     for (int i = 0; i < 5; i++)
         if (formulas[i] != i || conditions[i] != i) fault("form", 5, i, 0);
     for (int i = 0; i < 9; i++)
         if (nodes[i] != i) fault("form", 6, i, 0);
-    for (int i = 0; i < 15; i++)
+    for (int i = 0; i < 16; i++)
         if (refusals[i] != i) fault("refusal", 0, i, 0);
+    if (PLANREADER_KIND_SHIFT_WINDOW != 12) fault("kind", 12, 0, 0);
 }
 
-/* A text for every number: for 0 to 14 each its own, beyond them one that is none of these. */
+/* A text for every number: for 0 to 15 each its own, beyond them one that is none of these. */
 static void try_texts(void)
 {
-    for (unsigned a = 0; a <= 15; a++) {
+    for (unsigned a = 0; a <= 16; a++) {
         if (strlen(planreader_refusal_text(a)) < 8) fault("no text", 0, (int)a, 0);
         for (unsigned b = 0; b < a; b++)
             if (strcmp(planreader_refusal_text(a), planreader_refusal_text(b)) == 0) fault("same text", 0, (int)a, 0);
     }
-    for (unsigned a = 16; a < 300; a++)
-        if (strcmp(planreader_refusal_text(a), planreader_refusal_text(15)) != 0) fault("text beyond 14", 0, (int)a, 0);
+    for (unsigned a = 17; a < 300; a++)
+        if (strcmp(planreader_refusal_text(a), planreader_refusal_text(16)) != 0) fault("text beyond 15", 0, (int)a, 0);
 }
 
 /* A trial's words: the moment, the number of its starts, the starts; 4,098 of them, so that 4,096 starts have room. */

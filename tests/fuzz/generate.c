@@ -57,7 +57,7 @@ bool job_passes(const struct input *in)
 void repair_starts(struct input *in)
 {
     uint64_t answer = filled(in);
-    while (planreader_number(answer) >= 6 && planreader_number(answer) <= 10) {
+    while ((planreader_number(answer) >= 6 && planreader_number(answer) <= 10) || planreader_number(answer) == 15) {
         size_t at = planreader_position(answer);
         if (at >= in->starts_len) return;
         memmove(in->starts + at, in->starts + at + 1, (in->starts_len - at - 1) * sizeof *in->starts);
@@ -70,6 +70,12 @@ uint32_t some_window(struct dice *dice)
 {
     uint32_t most = chance(dice, 8) ? 64 : 4, m = roll(dice, most), n = m + roll(dice, most);
     return m << 6 | (n < 63 ? n : 63);
+}
+
+uint32_t some_shift(struct dice *dice, unsigned actions)
+{
+    uint32_t from = chance(dice, 3) ? roll(dice, 12) : 0, length = chance(dice, 3) ? roll(dice, 6) : roll(dice, 64), to = from + length;
+    return shift_word(roll(dice, actions), from, to < 63 ? to : 63);
 }
 
 uint32_t some_formula(struct dice *dice, unsigned formulas, unsigned fluents)
@@ -171,6 +177,7 @@ void generate(struct input *in, struct dice *dice, unsigned size)
         add_job_word(in, (uint32_t)ACTION << 28 | a << 6 | (1 + roll(dice, chance(dice, 16) ? 63 : 3)));
         add_laws(&draft, a);
     }
+    for (uint32_t windows = chance(dice, 3) ? roll(dice, 8) : 0; windows > 0; windows--) add_job_word(in, some_shift(dice, draft.actions));
     if (draft.easy) draft.formulas++, add_job_word(in, (uint32_t)FORMULA << 28 | 1u << 24);
     for (; draft.formulas < formulas; draft.formulas++) add_job_word(in, some_formula(dice, draft.formulas, draft.fluents));
     add_tree(&draft, size);

@@ -37,4 +37,7 @@ uint32_t some_condition(struct dice *dice, unsigned formulas, unsigned members);
 
 /* A window of two fields, the lower not above the higher: M in bits 11..6, N in 5..0. */
 uint32_t some_window(struct dice *dice);
+
+/* A shift window of an action, mostly one that leaves room for starts. */
+uint32_t some_shift(struct dice *dice, unsigned actions);
 #endif

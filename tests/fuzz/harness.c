@@ -11,6 +11,7 @@
 #include "input.h"
 #include "planreader.h"
 #include "reading.h"
+#include "shift.h"
 #include "trial.h"
 #include <stdio.h>
 #include <stdlib.h>
@@ -95,8 +96,8 @@ void note(int call, uint64_t answer)
 static void hold_fields(int call, uint64_t answer)
 {
     unsigned number = planreader_number(answer);
-    hold(number <= 13, call, "no such number", answer);
-    hold(call != CHECK || number <= 11, call, "a number that check has not", answer);
+    hold(number <= 13 || number == 15, call, "no such number", answer);
+    hold(call != CHECK || number <= 11 || number == 15, call, "a number that check has not", answer);
     hold(call != FILL || (number != 11 && number != 13), call, "a number that fill has not", answer);
     hold(number == 0 || planreader_length(answer) == 0, call, "a refusal with a length", answer);
     hold((call == FIND && (number == 0 || number == 13)) || planreader_count(answer) == 0, call, "a count that is not to be there", answer);
@@ -117,6 +118,12 @@ static unsigned nodes_in(struct list job)
     return nodes;
 }
 
+/* Is it the number of a row on starts? */
+static bool is_of_starts(unsigned number) { return (number >= 6 && number <= 10) || number == 15; }
+
+/* The place of a number's row: 15 comes between 9 and 10. */
+static unsigned row_of(unsigned number) { return number == 15 ? 10 : number + (number > 9); }
+
 /* Row 1 is its list's length alone; the other rows' positions lie in their lists. */
 static void hold_position(int call, struct lists in, uint64_t answer)
 {
@@ -127,7 +134,7 @@ static void hold_position(int call, struct lists in, uint64_t answer)
     if (number == 2 || number == 4) hold(position < in.job.len, call, "a position beyond the job", answer);
     if (number == 3) hold(position <= in.job.len, call, "a position beyond the job's end", answer);
     if (number == 5) hold(position == 0 || position < nodes_in(in.job), call, "a position that is no node", answer);
-    if (number >= 6 && number <= 10) hold(position < in.starts.len, call, "a position beyond the starts", answer);
+    if (is_of_starts(number)) hold(position < in.starts.len, call, "a position beyond the starts", answer);
     if (number == 11) hold(position <= in.facts.len && position <= 4096, call, "a position beyond the facts", answer);
 }
 
@@ -167,6 +174,7 @@ static uint64_t held_check(struct lists in)
     uint64_t answer = call_once(CHECK, in, NULL, 0);
     hold_fields(CHECK, answer);
     hold_position(CHECK, in, answer);
+    hold_shifts(CHECK, in.job, in.starts, answer);
     note(CHECK, answer);
     return answer;
 }
@@ -179,6 +187,7 @@ static uint64_t held_write(int call, struct lists in, size_t len, uint32_t choic
     uint64_t first = call_once(call, in, buffer, len);
     hold_fields(call, first);
     hold_position(call, in, first);
+    hold_shifts(call, in.job, in.starts, first);
     hold_buffer(call, lent.contents[0], first);
     hold((planreader_number(first) == 12) == (len < 4096), call, "12 otherwise than by the buffer's length", first);
     struct list written = keep(lent.buffer.words, planreader_length(first));
@@ -247,12 +256,12 @@ static void hold_near_facts(struct lists in, struct list right)
     free(near);
 }
 
-/* Rows 2 to 4 go by a word and those before it, rows 6 to 10 likewise among the starts: cut after the refused word the answer stays, and
+/* Rows 2 to 4 go by a word and those before it, rows 6 to 10 and 15 likewise among the starts: cut after the refused word the answer stays, and
  * cut before it no row up to this one fits. */
 static void hold_first(struct lists in, uint64_t answer)
 {
     unsigned number = planreader_number(answer), position = planreader_position(answer);
-    bool of_job = number >= 2 && number <= 4 && position < in.job.len, of_starts = number >= 6 && number <= 10;
+    bool of_job = number >= 2 && number <= 4 && position < in.job.len, of_starts = is_of_starts(number);
     if (!of_job && !of_starts) return;
     struct lists cut = in;
     struct list *list = of_job ? &cut.job : &cut.starts;
@@ -261,7 +270,8 @@ static void hold_first(struct lists in, uint64_t answer)
     hold(kept == answer, CHECK, "a word after the refused one changes the answer", kept);
     list->len = position;
     uint64_t before = held_check(cut);
-    if (of_starts) hold(planreader_number(before) == 0 || planreader_number(before) > number, CHECK, "the refused start is not the first", before);
+    if (of_starts)
+        hold(planreader_number(before) == 0 || row_of(planreader_number(before)) > row_of(number), CHECK, "the refused start is not the first", before);
     if (of_job && position > 0)
         hold(planreader_number(before) > 4 || planreader_number(before) == 0 || (planreader_number(before) == 3 && planreader_position(before) == position),
              CHECK, "the refused job word is not the first", before);

@@ -73,6 +73,7 @@ static const struct {
     [CONDITION] = {6, {{27, 24}, {23, 18}, {17, 15}, {14, 12}, {11, 6}, {5, 0}}},
     [START] = {2, {{11, 6}, {5, 0}}},
     [FACT] = {3, {{12, 7}, {6, 1}, {0, 0}}},
+    [SHIFT_WINDOW] = {3, {{17, 12}, {11, 6}, {5, 0}}},
 };
 
 static uint32_t other_value(uint32_t value, uint32_t most, struct dice *dice)
@@ -128,6 +129,12 @@ static size_t after_kind(const struct input *in, uint32_t kind)
     return in->job_len;
 }
 
+/* The place after the last action, its laws, and the windows. */
+static size_t after_actions(const struct input *in)
+{
+    return after_kind(in, number_of(in, SHIFT_WINDOW) ? SHIFT_WINDOW : number_of(in, LAW) ? LAW : ACTION);
+}
+
 /* A law for an action, a known fluent, or a formula that nothing refers to yet. */
 static void add_declaration(struct input *in, struct dice *dice)
 {
@@ -140,7 +147,7 @@ static void add_declaration(struct input *in, struct dice *dice)
         insert(open_job(in), after_kind(in, number_of(in, LAW) ? LAW : ACTION), (uint32_t)ACTION << 28 | (number_of(in, ACTION) & 63u) << 6 | (1 + roll(dice, 3)));
         break;
     default:
-        insert(open_job(in), after_kind(in, formulas ? FORMULA : number_of(in, LAW) ? LAW : ACTION), some_formula(dice, formulas < 64 ? formulas : 64, fluents_of(in)));
+        insert(open_job(in), formulas ? after_kind(in, FORMULA) : after_actions(in), some_formula(dice, formulas < 64 ? formulas : 64, fluents_of(in)));
         break;
     }
 }
@@ -154,6 +161,22 @@ static void add_law(struct input *in, struct dice *dice)
         insert(open_job(in), i + 1, (uint32_t)LAW << 28 | roll(dice, 4) << 6 | (roll(dice, fluents_of(in)) & 63u));
         return;
     }
+}
+
+/* A shift window: any, or one around a start of the plan, as long as its action or one moment shorter or longer on either side. */
+static void add_shift(struct input *in, struct dice *dice)
+{
+    unsigned actions = number_of(in, ACTION);
+    if (actions == 0) return;
+    uint32_t word = some_shift(dice, actions & 63u);
+    if (in->starts_len && !chance(dice, 4)) {
+        uint32_t start = in->starts[roll(dice, (uint32_t)in->starts_len)], from = field(start, 11, 6), to = from;
+        for (size_t i = 0; i < in->job_len; i++)
+            if (kind_of(in->job[i]) == ACTION && field(in->job[i], 11, 6) == field(start, 5, 0)) to = from + field(in->job[i], 5, 0);
+        from += roll(dice, 3), to += roll(dice, 3);
+        word = shift_word(field(start, 5, 0), from ? from - 1 : 0, (to ? to - 1 : 0) & 63u);
+    }
+    insert(open_job(in), after_actions(in), word);
 }
 
 /* A new root over the old one: a set, a loop, or a form with a new leaf beside the old root. */
@@ -301,7 +324,8 @@ static mutation *const mutations[] = {
     flip_bit,     change_field, change_field, change_field,  change_field, delete_word,    delete_word,     copy_word,
     swap_words,   add_declaration, add_law,   wrap_root,     wrap_root,    add_condition,  add_condition,   change_form,
     put_start,    put_start,    shift_starts, change_last,   write_facts,  facts_by_fill,  change_choices,  carry_out_again,
-    carry_out_again, repair_numbers, repair_plan, repair_job, lengthen_job, change_trial, change_trial,
+    carry_out_again, repair_numbers, repair_plan, repair_job, lengthen_job, change_trial, change_trial,   add_shift,
+    add_shift,
 };
 enum { MUTATIONS = sizeof mutations / sizeof *mutations };
 

@@ -4,7 +4,7 @@
 #include <stddef.h>
 #include <stdint.h>
 
-enum kind { HEAD = 1, INITIALLY, ACTION, LAW, FORMULA, NODE, MEMBER, CONDITION, START, FACT, READING };
+enum kind { HEAD = 1, INITIALLY, ACTION, LAW, FORMULA, NODE, MEMBER, CONDITION, START, FACT, READING, SHIFT_WINDOW };
 enum form { ACT, TEST, SEQUENCE, CHOICE, BRANCH, LOOP, START_WINDOW, END_WINDOW, TASK_SET };
 
 struct list {
@@ -40,4 +40,13 @@ static inline uint32_t start_word(uint32_t moment, uint32_t action)
 {
     return (uint32_t)START << 28 | moment << 6 | action;
 }
+
+static inline uint32_t shift_word(uint32_t action, uint32_t from, uint32_t to)
+{
+    return (uint32_t)SHIFT_WINDOW << 28 | action << 12 | from << 6 | to;
+}
+
+static inline uint32_t shift_action(uint32_t word) { return field(word, 17, 12); }
+static inline uint32_t shift_from(uint32_t word) { return field(word, 11, 6); }
+static inline uint32_t shift_to(uint32_t word) { return field(word, 5, 0); }
 #endif

@@ -1,106 +1,20 @@
 /* Wrong hosts' libraries: the proved calls, under the names right_check, right_fill and so on, with the fault that the environment's FAULT
  * numbers. The harness must catch each: tests/fuzz/gate tries all of them, from 1 to the number that FAULT=count prints. */
-#include "planreader.h"
-#include <stdbool.h>
+#include "wrong.h"
 #include <stdio.h>
 #include <stdlib.h>
 #include <string.h>
 
-uint64_t right_check(const uint32_t *job, size_t job_len, const uint32_t *starts, size_t starts_len, const uint32_t *facts, size_t facts_len);
-uint64_t right_fill(const uint32_t *job, size_t job_len, const uint32_t *starts, size_t starts_len, uint32_t *buffer, size_t buffer_len);
-uint64_t right_find(const uint32_t *job, size_t job_len, const uint32_t *starts, size_t starts_len, const uint32_t *facts, size_t facts_len,
-                    uint32_t *buffer, size_t buffer_len);
-uint64_t right_trial_begin(const uint32_t *job, size_t job_len, uint32_t *trial, size_t trial_len);
-uint64_t right_trial_start(const uint32_t *job, size_t job_len, uint32_t *trial, size_t trial_len, uint32_t action);
-uint64_t right_trial_on(const uint32_t *job, size_t job_len, uint32_t *trial, size_t trial_len);
-uint64_t right_trial_show(const uint32_t *job, size_t job_len, const uint32_t *trial, size_t trial_len, uint32_t *buffer, size_t buffer_len);
-
-enum fault {
-    CHECK_PASSES_ALL = 1,
-    CHECK_NEVER_PASSES,
-    CHECK_READS_AFTER_JOB,
-    CHECK_READS_BEFORE_STARTS,
-    CHECK_WRITES_TO_JOB,
-    CHECK_11_ONE_LATER,
-    CHECK_JOB_POSITION_0,
-    CHECK_START_ONE_LATER,
-    CHECK_NO_SUCH_NUMBER,
-    CHECK_LENGTH_LEFT,
-    CHECK_FORGETS,
-    FILL_ONE_FACT_SHORT,
-    FILL_WRITES_AFTER_LIST,
-    FILL_WRITES_AFTER_BUFFER,
-    FILL_WRITES_BEFORE_BUFFER,
-    FILL_LEAVES_BUFFER,
-    FILL_TAKES_BUFFER_IN,
-    FILL_12_AT_4096,
-    FILL_ACCEPTS_4095,
-    FILL_REFUSAL_WRITES,
-    FILL_FINISHES_EARLY,
-    FILL_HIDES_AT_FINISH,
-    FILL_HIDES_AT_OWN_MOMENT,
-    FILL_LAST_NOT_ADDED,
-    FIND_13_FOR_ALL,
-    FIND_13_WRITES,
-    FIND_WRITES_NOTHING,
-    FIND_END_ONE_LATER,
-    FIND_STORED_READING,
-    FIND_COPIES_PASS,
-    FIND_ONE_WORD_SHORT,
-    FIND_COUNT_1,
-    FIND_COUNT_ONE_MORE,
-    FIND_SKIPS_CHECK,
-    FIND_READS_AFTER_FACTS,
-    FIND_WRITES_AFTER_READING,
-    FIND_WRITES_AFTER_BUFFER,
-    FIND_WAITS_THROUGH_START,
-    FIND_WAITS_THROUGH_START_AT_K,
-    FIND_WAITS_THROUGH_UNUSED_START,
-    BEGIN_KEEPS_MOMENT,
-    BEGIN_CLEARS_MORE,
-    BEGIN_REFUSAL_WRITES,
-    BEGIN_ACCEPTS_4097,
-    BEGIN_14_BEFORE_JOB,
-    START_APPENDS,
-    START_AGAIN_6,
-    START_AGAIN_ACCEPTED,
-    START_ACTION_OF_SIX_BITS,
-    START_CLASH_WITH_LOWER_ALONE,
-    START_OF_THE_NEXT_MOMENT,
-    START_10_BEFORE_9,
-    START_KEEPS_POSITION,
-    START_JOB_POSITION_0,
-    START_REFUSAL_COUNTS,
-    START_WRITES_AFTER_STARTS,
-    START_WRITES_BEFORE_TRIAL,
-    START_READS_AFTER_TRIAL,
-    ON_AFTER_LAST,
-    ON_BY_TWO,
-    ON_DROPS_STARTS,
-    ON_SKIPS_STARTS,
-    ON_14_BEFORE_STARTS,
-    ON_LATE_START_6,
-    ON_REFUSAL_MOVES,
-    SHOW_ALL,
-    SHOW_WITHOUT_PRESENT,
-    SHOW_PRESENT_ALONE,
-    SHOW_JOB_BEFORE_12,
-    SHOW_ACCEPTS_4095,
-    SHOW_KEEPS_POSITION,
-    SHOW_COUNTS,
-    SHOW_WRITES_AFTER_FACTS,
-    SHOW_WRITES_TO_TRIAL,
-    SHOW_REFUSAL_WRITES,
-    FAULTS = SHOW_REFUSAL_WRITES
-};
-
-static int fault(void)
+int fault(void)
 {
     static int number = -1;
     const char *text = getenv("FAULT");
     if (number < 0) number = text ? atoi(text) : 0;
     return number;
 }
+
+/* Is it the number of a row on starts? */
+static bool of_starts(unsigned number) { return (number >= 6 && number <= 10) || number == 15; }
 
 /* For FAULT=count. */
 __attribute__((constructor)) static void count_faults(void)
@@ -123,7 +37,10 @@ static volatile uint32_t sink;
 uint64_t check(const uint32_t *job, size_t job_len, const uint32_t *starts, size_t starts_len, const uint32_t *facts, size_t facts_len)
 {
     static unsigned calls;
-    uint64_t answer = right_check(job, job_len, starts, starts_len, facts, facts_len);
+    job = shifted(job, job_len);
+    uint64_t refusal = shift_refusal(job, job_len), answer = right_check(job, job_len, starts, starts_len, facts, facts_len);
+    if (refusal) return refusal;
+    answer = shift_check(job, job_len, starts, starts_len, answer);
     switch (fault()) {
     case CHECK_PASSES_ALL: return 0;
     case CHECK_NEVER_PASSES: return answer ? answer : UINT64_C(11) << 56;
@@ -134,7 +51,7 @@ uint64_t check(const uint32_t *job, size_t job_len, const uint32_t *starts, size
         return answer;
     case CHECK_11_ONE_LATER: return moved(answer, 11, 11, one_position);
     case CHECK_JOB_POSITION_0: return planreader_number(answer) == 2 ? UINT64_C(2) << 56 : answer;
-    case CHECK_START_ONE_LATER: return planreader_position(answer) + 1u < starts_len ? moved(answer, 6, 10, one_position) : answer;
+    case CHECK_START_ONE_LATER: return planreader_position(answer) + 1u < starts_len && of_starts(planreader_number(answer)) ? answer + one_position : answer;
     case CHECK_NO_SUCH_NUMBER: return answer == 0 ? UINT64_C(14) << 56 : answer;
     case CHECK_LENGTH_LEFT: return answer == 0 ? (uint64_t)facts_len << 24 : answer;
     case CHECK_FORGETS: return ++calls % 64 == 0 ? 0 : answer;
@@ -208,12 +125,16 @@ static uint64_t fill_with_slip(const uint32_t *job, size_t job_len, const uint32
 uint64_t fill(const uint32_t *job, size_t job_len, const uint32_t *starts, size_t starts_len, uint32_t *buffer, size_t buffer_len)
 {
     static uint32_t room[4096];
+    job = shifted(job, job_len);
+    uint64_t refusal = buffer_len < 4096 ? 0 : shift_refusal(job, job_len);
+    if (refusal) return refusal;
     if (fault() >= FILL_FINISHES_EARLY && fault() <= FILL_LAST_NOT_ADDED && job_len >= 1 && job_len <= 2048 && buffer_len >= 4096)
         return fill_with_slip(job, job_len, starts, starts_len, buffer);
     uint32_t first = buffer_len ? buffer[0] : 0;
     if (fault() == FILL_12_AT_4096 && buffer_len == 4096) return UINT64_C(12) << 56;
     if (fault() == FILL_ACCEPTS_4095 && buffer_len == 4095) return right_fill(job, job_len, starts, starts_len, room, 4096);
     uint64_t answer = right_fill(job, job_len, starts, starts_len, buffer, buffer_len);
+    if (fault() == FILL_FREE_ACTION_15) return shift_fill(job, job_len, starts, starts_len, answer);
     if (planreader_number(answer) == 0) return spoil_fill(answer, buffer, buffer_len, first);
     if (fault() == FILL_REFUSAL_WRITES && buffer_len) buffer[buffer_len - 1] = 0;
     return answer;
@@ -309,6 +230,9 @@ uint64_t find(const uint32_t *job, size_t job_len, const uint32_t *starts, size_
               uint32_t *buffer, size_t buffer_len)
 {
     uint32_t first = buffer_len ? buffer[0] : 0;
+    job = shifted(job, job_len);
+    uint64_t refusal = buffer_len < 4096 ? 0 : shift_refusal(job, job_len);
+    if (refusal) return refusal;
     uint64_t answer = right_find(job, job_len, starts, starts_len, facts, facts_len, buffer, buffer_len);
     unsigned number = planreader_number(answer);
     if (number == 0) answer = spoil_find(answer, buffer, buffer_len, first);
@@ -316,6 +240,8 @@ uint64_t find(const uint32_t *job, size_t job_len, const uint32_t *starts, size_
         return wait_through(job, job_len, starts, starts_len, facts, facts_len, buffer, answer);
     if (fault() == FIND_13_WRITES && number == 13) buffer[0] = ~first;
     if (fault() == FIND_READS_AFTER_FACTS && facts_len) sink = facts[facts_len];
+    if (fault() == FIND_SKIPS_SHIFTS && number == 15)
+        return right_find(freed(job, job_len), job_len, starts, starts_len, facts, facts_len, buffer, buffer_len);
     if (fault() == FIND_SKIPS_CHECK && number == 11) return UINT64_C(13) << 56;
     if (fault() == FIND_COUNT_ONE_MORE && (number == 0 || number == 13)) return answer + 1;
     return answer;
@@ -335,6 +261,7 @@ static bool copied(const uint32_t *trial, size_t trial_len)
 uint64_t trial_begin(const uint32_t *job, size_t job_len, uint32_t *trial, size_t trial_len)
 {
     uint32_t moment = trial_len ? trial[0] : 0;
+    job = shifted(job, job_len);
     if (fault() == BEGIN_14_BEFORE_JOB && trial_len < TRIAL_LEAST) return UINT64_C(14) << 56;
     if (fault() == BEGIN_ACCEPTS_4097 && trial_len == TRIAL_LEAST - 1) return right_trial_begin(job, job_len, copy, TRIAL_LEAST);
     uint64_t answer = right_trial_begin(job, job_len, trial, trial_len);
@@ -387,14 +314,16 @@ static uint64_t spoil_refused_start(const uint32_t *job, size_t job_len, uint32_
 uint64_t trial_start(const uint32_t *job, size_t job_len, uint32_t *trial, size_t trial_len, uint32_t action)
 {
     bool whole = copied(trial, trial_len);
+    job = shifted(job, job_len);
     if (fault() == START_READS_AFTER_TRIAL && trial_len) sink = trial[trial_len];
     uint64_t answer = right_trial_start(job, job_len, trial, trial_len, action);
     unsigned number = planreader_number(answer);
     if (fault() == START_JOB_POSITION_0 && number >= 1 && number <= 5) return (uint64_t)number << 56;
-    if (number >= 6 && number <= 10) {
+    if (of_starts(number)) {
         uint64_t checked = right_check(job, job_len, trial + 2, trial[1], NULL, 0);
         bool sound = planreader_number(checked) == 0 || planreader_number(checked) == 11;
         if (fault() == START_KEEPS_POSITION && !sound) return checked;
+        if (sound && fault() >= START_15_BEFORE_9) return shift_start(job, job_len, trial, action, answer);
         return sound ? spoil_refused_start(job, job_len, trial, action, answer) : answer;
     }
     if (number || !whole) return answer;
@@ -423,10 +352,10 @@ static uint64_t spoil_refused_on(const uint32_t *job, uint32_t *trial, uint64_t 
         trial[0]++;
         return 0;
     case ON_SKIPS_STARTS:
-        if (number < 6 || number > 10 || at_last) return answer;
+        if (!of_starts(number) || at_last) return answer;
         trial[0]++;
         return 0;
-    case ON_14_BEFORE_STARTS: return number >= 6 && number <= 10 && at_last ? UINT64_C(14) << 56 : answer;
+    case ON_14_BEFORE_STARTS: return of_starts(number) && at_last ? UINT64_C(14) << 56 : answer;
     case ON_LATE_START_6: return number == 14 && !at_last ? UINT64_C(6) << 56 : answer;
     case ON_REFUSAL_MOVES: trial[0]++; return answer;
     default: return answer;
@@ -435,7 +364,9 @@ static uint64_t spoil_refused_on(const uint32_t *job, uint32_t *trial, uint64_t 
 
 uint64_t trial_on(const uint32_t *job, size_t job_len, uint32_t *trial, size_t trial_len)
 {
+    job = shifted(job, job_len);
     uint64_t answer = right_trial_on(job, job_len, trial, trial_len);
+    if (fault() == ON_SKIPS_SHIFTS && planreader_number(answer) == 15) return right_trial_on(freed(job, job_len), job_len, trial, trial_len);
     if (planreader_number(answer) > 5 && trial_len >= TRIAL_LEAST) return spoil_refused_on(job, trial, answer);
     if (answer) return answer;
     if (fault() == ON_BY_TWO) trial[0]++;
@@ -468,15 +399,17 @@ static uint64_t spoil_show(const uint32_t *job, size_t job_len, const uint32_t *
 uint64_t trial_show(const uint32_t *job, size_t job_len, const uint32_t *trial, size_t trial_len, uint32_t *buffer, size_t buffer_len)
 {
     static uint32_t room[4096];
+    job = shifted(job, job_len);
     uint64_t answer = right_trial_show(job, job_len, trial, trial_len, buffer, buffer_len);
     unsigned number = planreader_number(answer);
+    if (fault() == SHOW_SKIPS_SHIFTS && number == 15) return right_trial_show(freed(job, job_len), job_len, trial, trial_len, buffer, buffer_len);
     if (number == 0) return spoil_show(job, job_len, trial, buffer, buffer_len, answer);
     if (number == 12 && fault() == SHOW_JOB_BEFORE_12) {
         uint64_t other = right_trial_show(job, job_len, trial, trial_len, room, 4096);
         return planreader_number(other) >= 1 && planreader_number(other) <= 5 ? other : answer;
     }
     if (number == 12 && fault() == SHOW_ACCEPTS_4095 && buffer_len == 4095) return right_trial_show(job, job_len, trial, trial_len, room, 4096);
-    if (number >= 6 && number <= 10 && fault() == SHOW_KEEPS_POSITION) return right_check(job, job_len, trial + 2, trial[1], NULL, 0);
+    if (of_starts(number) && fault() == SHOW_KEEPS_POSITION) return right_check(job, job_len, trial + 2, trial[1], NULL, 0);
     if (fault() == SHOW_REFUSAL_WRITES && buffer_len) buffer[buffer_len - 1] = 0;
     return answer;
 }

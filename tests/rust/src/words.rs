@@ -1,4 +1,4 @@
-//! The words of document 01: fields by bit range, and one maker for each kind.
+//! The words of documents 01 and 02: fields by bit range, and one maker for each kind.
 
 /// The bits high..low of a word.
 pub fn field(word: u32, high: u32, low: u32) -> usize {
@@ -68,6 +68,11 @@ pub fn reading(node: usize, begin: usize, end: usize) -> u32 {
     made(11, &[(node, 12), (begin, 6), (end, 0)])
 }
 
+/// L4's kind 12.
+pub fn shift_window(action: usize, from: usize, to: usize) -> u32 {
+    made(12, &[(action, 12), (from, 6), (to, 0)])
+}
+
 #[cfg(test)]
 mod tests {
     use super::*;
@@ -79,6 +84,7 @@ mod tests {
         let plan = [start(0, 0), fact(0, 0, false), fact(1, 0, true)];
         assert_eq!(plan, [0x90000000, 0xa0000001, 0xa0000080]);
         assert_eq!(reading(0, 0, 1), 0xb0000001);
+        assert_eq!(shift_window(1, 2, 3), 0xc0001083);
     }
 
     #[test]

@@ -11,8 +11,15 @@ use std::fs;
 use std::path::{Path, PathBuf};
 
 /// Each with the folder that lists its job.
-const FOLDERS: [(&str, &str); 5] =
-    [("door", "door"), ("too-soon", "door"), ("no-pause", "door"), ("curtain", "curtain"), ("in-pause", "curtain")];
+const FOLDERS: [(&str, &str); 7] = [
+    ("door", "door"),
+    ("too-soon", "door"),
+    ("no-pause", "door"),
+    ("curtain", "curtain"),
+    ("in-pause", "curtain"),
+    ("shift", "shift"),
+    ("after-shift", "shift"),
+];
 
 fn root() -> PathBuf {
     Path::new(env!("CARGO_MANIFEST_DIR")).join("../..")
@@ -108,13 +115,34 @@ fn curtain_starts(loader: usize) -> Vec<u32> {
     vec![start(0, 0), start(1, 1), start(loader, 3), start(5, 2)]
 }
 
+/// The job with a setter, likewise: the windows are of the two actions that bend.
+fn shift() -> Vec<u32> {
+    let facts = [0, 1, 2, 3].map(|fluent| initially(fluent, false));
+    let actions = actions(&[
+        (1, &[(1, 0), (2, 0)]),
+        (5, &[(0, 0), (1, 1), (2, 1)]),
+        (2, &[(0, 1), (2, 2)]),
+        (4, &[(0, 2), (2, 3)]),
+        (1, &[(0, 3), (3, 0)]),
+    ]);
+    let window = |action: u32, from: u32, to: u32| 12 << 28 | action << 12 | from << 6 | to;
+    let windows = [window(1, 0, 6), window(1, 9, 15), window(3, 0, 6), window(3, 9, 15)];
+    let bending = [act(0), act(1), node(7, 0, 1, 0, 3), act(2), act(3), node(7, 3, 4, 0, 3)];
+    [&[head(4, 5, 14)], &facts[..], &actions, &windows, &bending, &[act(4), sequence(5, 6), sequence(2, 7)]].concat()
+}
+
+/// Its starts, with flange A at a moment, and the blank turned over as soon as it is bent, 5 moments later.
+fn shift_starts(bend: usize) -> Vec<u32> {
+    vec![start(0, 0), start(bend, 1), start(bend + 5, 2), start(9, 3), start(13, 4)]
+}
+
 /// The job that an example is about.
 fn job(folder: &str) -> Vec<u32> {
     let (_, listing) = FOLDERS.into_iter().find(|&(name, _)| name == folder).expect("an example");
-    if listing == "door" {
-        door()
-    } else {
-        curtain()
+    match listing {
+        "door" => door(),
+        "curtain" => curtain(),
+        _ => shift(),
     }
 }
 
@@ -143,8 +171,15 @@ fn the_curtain_s_words_say_what_is_meant() {
 }
 
 #[test]
+fn the_shift_s_words_say_what_is_meant() {
+    assert_eq!(listed("shift", "job.txt"), shift());
+    assert_eq!(plan("shift").0, shift_starts(1));
+    assert_eq!(plan("after-shift").0, shift_starts(2));
+}
+
+#[test]
 fn the_facts_are_those_of_the_rules() {
-    for folder in ["door", "no-pause", "curtain", "in-pause"] {
+    for folder in ["door", "no-pause", "curtain", "in-pause", "shift"] {
         let (starts, facts) = plan(folder);
         assert_eq!(calls::fill(&job(folder), &starts, 4_096).1, facts, "{folder}");
     }
@@ -163,7 +198,7 @@ fn the_program_and_the_checker_print_what_is_expected() {
 /// So that every run prints the same words.
 #[test]
 fn the_only_reading_is_the_listed_one() {
-    for folder in ["door", "curtain"] {
+    for folder in ["door", "curtain", "shift"] {
         let (starts, facts) = plan(folder);
         let Outcome::Read { world, decision } = calls::find(&job(folder), &starts, &facts, 4_096) else {
             panic!("{folder} has a reading");
@@ -183,5 +218,17 @@ fn the_loader_disturbs_the_pause_and_no_other_moment() {
         let facts = calls::fill(&curtain(), &starts, 4_096).1;
         let found = host::find(&curtain(), &starts, &facts, &mut vec![0; 4_096]);
         assert_eq!((found.number, found.count), (number, count), "the loader at {moment}");
+    }
+}
+
+/// As the table in the README of the example says, for each moment at which the action would finish by n. A start that a window holds is
+/// refused too, since its needs are not met: by 10, which comes after 15.
+#[test]
+fn a_flange_may_begin_where_its_readme_says() {
+    for (action, duration, moments) in [(1, 5, &[0, 1, 9][..]), (3, 4, &[0, 1, 2, 9, 10])] {
+        for moment in 0..=14 - duration {
+            let outside = host::check(&shift(), &[start(moment, action)], &[]).number == 15;
+            assert_eq!(!outside, moments.contains(&moment), "action {action} at {moment}");
+        }
     }
 }

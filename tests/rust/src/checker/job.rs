@@ -1,4 +1,4 @@
-//! Document 01, "Job words", and the rows on the job in "Where each check is made".
+//! Document 01, "Job words", and the rows on the job in "Where each check is made"; document 02, L4, "Shift windows".
 
 use crate::checker::answer::{refuse, Refusal};
 use crate::words::{bits, field, form, kind};
@@ -30,6 +30,15 @@ pub struct Action {
     pub duration: usize,
     pub needs: Vec<Known>,
     pub makes: Vec<Known>,
+    /// Its kind 12 words, in their order. "An action without windows is free."
+    pub shifts: Vec<Shift>,
+}
+
+/// L4: "17..12 action, 11..6 from, 5..0 to"
+#[derive(Clone, Copy, Debug, PartialEq, Eq)]
+pub struct Shift {
+    pub from: usize,
+    pub to: usize,
 }
 
 #[derive(Clone, Copy, Debug, PartialEq, Eq)]
@@ -101,7 +110,7 @@ fn not_allowed(before: Option<u32>, word: u32) -> bool {
 
 fn kind_and_form_allowed(word: u32) -> bool {
     match kind(word) {
-        1 | 2 | 3 | 4 | 7 => true,
+        1 | 2 | 3 | 4 | 7 | 12 => true,
         5 => form(word) <= 4,
         6 => form(word) <= 8,
         8 => form(word) <= 4,
@@ -109,7 +118,8 @@ fn kind_and_form_allowed(word: u32) -> bool {
     }
 }
 
-/// The sentences "Follows ..". Kind 1 is "only and always word 0".
+/// The sentences "Follows ..". Kind 1 is "only and always word 0". Of kind 12: "it follows kinds 3, 4 or 12, and kinds 5
+/// and 6 may follow it".
 fn may_follow(before: Option<u32>, word: u32) -> bool {
     let Some(before) = before else {
         return kind(word) == 1;
@@ -119,10 +129,11 @@ fn may_follow(before: Option<u32>, word: u32) -> bool {
         2 => matches!(kind(before), 1 | 2),
         3 => matches!(kind(before), 1..=4),
         4 => matches!(kind(before), 3 | 4),
-        5 => matches!(kind(before), 1..=5),
-        6 => matches!(kind(before), 1..=8) && !after_set,
+        5 => matches!(kind(before), 1..=5 | 12),
+        6 => matches!(kind(before), 1..=8 | 12) && !after_set,
         7 => after_set || kind(before) == 7,
         8 => matches!(kind(before), 7 | 8),
+        12 => matches!(kind(before), 3 | 4 | 12),
         _ => false,
     }
 }
@@ -148,6 +159,7 @@ fn used_bits(word: u32) -> u32 {
         (7, _) => bits(5, 0),
         (8, 0) | (8, 1) => bits(27, 24) | bits(17, 15) | bits(14, 12) | m_n,
         (8, 2) | (8, 3) => bits(27, 24) | bits(23, 18) | bits(17, 15) | m_n,
+        (12, _) => bits(17, 12) | bits(11, 6) | bits(5, 0),
         _ => bits(27, 24) | bits(23, 18) | bits(17, 15) | bits(14, 12) | m_n,
     };
     bits(31, 28) | fields
@@ -163,7 +175,8 @@ fn wrong(job: &Job, word: u32) -> bool {
         5 => job.formulas.len() == 64 || wrong_formula(job, word),
         6 => job.nodes.len() == 64 || wrong_node(job, word),
         7 => wrong_member(job, word),
-        _ => wrong_condition(job, word),
+        8 => wrong_condition(job, word),
+        _ => wrong_shift(job, word),
     }
 }
 
@@ -227,6 +240,11 @@ fn wrong_condition(job: &Job, word: u32) -> bool {
         || (uses_j && condition.j >= members.len())
         || (uses_formula && condition.formula >= job.formulas.len())
         || (condition.form <= 3 && condition.window.m > condition.window.n)
+}
+
+/// "from ≤ to or refusal 3"; an action not declared so far is a wrong reference.
+fn wrong_shift(job: &Job, word: u32) -> bool {
+    field(word, 17, 12) >= job.actions.len() || field(word, 11, 6) > field(word, 5, 0)
 }
 
 // Row 4: "fluent twice in kind 2; or twice in roles 0, 1, or in 2, 3, of one action"
@@ -324,10 +342,11 @@ impl Job {
         match kind(word) {
             1 => self.take_head(word),
             2 => self.initially.push(Known { fluent: field(word, 5, 0), value: field(word, 6, 6) == 0 }),
-            3 => self.actions.push(Action { duration: field(word, 5, 0), needs: vec![], makes: vec![] }),
+            3 => self.take_action(word),
             4 => self.take_law(word),
             5 => self.formulas.push(formula_of(word)),
             6 => self.nodes.push(node_of(word)),
+            12 => self.take_shift(word),
             _ => self.take_set_word(word),
         }
     }
@@ -336,6 +355,16 @@ impl Job {
         self.fluents = field(word, 23, 16);
         self.head_actions = field(word, 15, 8);
         self.last = field(word, 7, 0);
+    }
+
+    fn take_action(&mut self, word: u32) {
+        self.actions.push(Action { duration: field(word, 5, 0), needs: vec![], makes: vec![], shifts: vec![] });
+    }
+
+    /// The action that the word names, whichever was declared last.
+    fn take_shift(&mut self, word: u32) {
+        let shift = Shift { from: field(word, 11, 6), to: field(word, 5, 0) };
+        self.actions[field(word, 17, 12)].shifts.push(shift);
     }
 
     /// "role (0 needs true, 1 needs false, 2 makes true, 3 makes false)"

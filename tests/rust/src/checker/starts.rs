@@ -1,4 +1,5 @@
-//! Document 01, "Starts and known facts": start words, and rows 6 to 9. Each row is a pass over all words.
+//! Document 01, "Starts and known facts": start words, and rows 6 to 9; then L4's row 15. Each row is a pass over all
+//! words.
 
 use crate::checker::answer::{refuse, Refusal};
 use crate::checker::job::{Action, Job};
@@ -26,23 +27,24 @@ impl Start {
     }
 }
 
-/// Rows 6 to 9 over all start words.
+/// Rows 6 to 9 and 15 over all start words.
 pub fn read_starts(job: &Job, words: &[u32]) -> Result<Vec<Start>, Refusal> {
     row_6(job, words)?;
     let starts: Vec<Start> = words.iter().map(|&word| start_of(job, word)).collect();
     row_7(job, &starts)?;
     row_8(&starts)?;
     row_9(job, &starts)?;
+    row_15(job, &starts)?;
     Ok(starts)
 }
 
-fn start_of(job: &Job, word: u32) -> Start {
+pub fn start_of(job: &Job, word: u32) -> Start {
     let action = field(word, 5, 0);
     Start { moment: field(word, 11, 6), action, duration: job.actions[action].duration }
 }
 
 /// "kind or spare bit wrong, u > n, no such action, or not above the word before"
-fn row_6(job: &Job, words: &[u32]) -> Result<(), Refusal> {
+pub fn row_6(job: &Job, words: &[u32]) -> Result<(), Refusal> {
     for (position, &word) in words.iter().enumerate() {
         let spare = word & !(bits(31, 28) | bits(11, 6) | bits(5, 0));
         let not_above = position > 0 && word <= words[position - 1];
@@ -56,7 +58,7 @@ fn row_6(job: &Job, words: &[u32]) -> Result<(), Refusal> {
 }
 
 /// "u + d > n"
-fn row_7(job: &Job, starts: &[Start]) -> Result<(), Refusal> {
+pub fn row_7(job: &Job, starts: &[Start]) -> Result<(), Refusal> {
     match starts.iter().position(|start| start.moment + start.duration > job.last) {
         Some(position) => refuse(7, position),
         None => Ok(()),
@@ -64,7 +66,7 @@ fn row_7(job: &Job, starts: &[Start]) -> Result<(), Refusal> {
 }
 
 /// "an earlier start of it at v with v < u < v + d"
-fn row_8(starts: &[Start]) -> Result<(), Refusal> {
+pub fn row_8(starts: &[Start]) -> Result<(), Refusal> {
     for (position, start) in starts.iter().enumerate() {
         let again = |earlier: &Start| {
             earlier.action == start.action
@@ -79,7 +81,7 @@ fn row_8(starts: &[Start]) -> Result<(), Refusal> {
 }
 
 /// "clashes with the start of an earlier word, both in hand at some moment"
-fn row_9(job: &Job, starts: &[Start]) -> Result<(), Refusal> {
+pub fn row_9(job: &Job, starts: &[Start]) -> Result<(), Refusal> {
     for (position, start) in starts.iter().enumerate() {
         let clashes = |earlier: &Start| clash(&job.actions[start.action], &job.actions[earlier.action]);
         let both_in_hand = |earlier: &Start| (0..=job.last).any(|t| start.in_hand(t) && earlier.in_hand(t));
@@ -88,6 +90,22 @@ fn row_9(job: &Job, starts: &[Start]) -> Result<(), Refusal> {
         }
     }
     Ok(())
+}
+
+/// "a start outside its windows, position its word, after 9 and before 10"
+pub fn row_15(job: &Job, starts: &[Start]) -> Result<(), Refusal> {
+    match starts.iter().position(|start| !keeps_windows(job, start)) {
+        Some(position) => refuse(15, position),
+        None => Ok(()),
+    }
+}
+
+/// "An action with windows may start at u only if one of them has from ≤ u and u + d ≤ to." "An action without windows is
+/// free."
+pub fn keeps_windows(job: &Job, start: &Start) -> bool {
+    let shifts = &job.actions[start.action].shifts;
+    let held = shifts.iter().any(|shift| shift.from <= start.moment && start.moment + start.duration <= shift.to);
+    shifts.is_empty() || held
 }
 
 /// "Two actions clash if one makes true what the other makes false."

@@ -61,7 +61,7 @@ fn sort(word: u32) -> u32 {
 fn label(word: u32) -> String {
     let forms = [0, 0, 0, 0, 0, 5, 9, 0, 5];
     match kind(word) {
-        kind @ (1..=4 | 7) => format!("kind {kind}"),
+        kind @ (1..=4 | 7 | 12) => format!("kind {kind}"),
         kind @ (5 | 6 | 8) if form(word) < forms[kind] => format!("kind {kind} form {}", form(word)),
         kind @ (5 | 6 | 8) => format!("kind {kind} no such form"),
         _ => "no kind of a job".to_string(),
@@ -89,7 +89,7 @@ fn node_end(job: &[u32], node: usize) -> String {
     format!("end: {why}")
 }
 
-/// All places that document 01 makes possible.
+/// All places that documents 01 and 02 make possible.
 pub fn possible() -> Vec<(String, String)> {
     let mut places = vec![];
     let mut add = |row: &str, columns: &[&str]| {
@@ -101,7 +101,7 @@ pub fn possible() -> Vec<(String, String)> {
         }
         add(&format!("kind {kind} no such form"), &["2"]);
     }
-    for kind in [1, 3, 7] {
+    for kind in [1, 3, 7, 12] {
         add(&format!("kind {kind}"), &["accepted", "2", "3"]);
     }
     for kind in [2, 4] {

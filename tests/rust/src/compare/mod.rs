@@ -23,3 +23,8 @@ pub mod wait_features;
 pub mod wait_rules;
 pub mod wait_tiny;
 pub mod waits;
+pub mod window_case;
+pub mod window_features;
+pub mod window_rules;
+pub mod window_tiny;
+pub mod windows;

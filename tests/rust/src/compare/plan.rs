@@ -114,24 +114,24 @@ fn count(report: &mut Report, call: &str, answer: Answer) {
     }
 }
 
-pub const COLUMNS: [&str; 13] = ["0", "1", "2", "3", "4", "5", "6", "7", "8", "9", "10", "11", "12"];
+pub const COLUMNS: [&str; 14] = ["0", "1", "2", "3", "4", "5", "6", "7", "8", "9", "10", "11", "12", "15"];
 
-/// All outcomes that document 01 makes possible, and the situations that a run must have met.
+/// All outcomes that documents 01 and 02 make possible, and the situations that a run must have met.
 pub fn possible() -> Vec<(String, String)> {
     let mut places = vec![];
     let mut add = |row: &str, numbers: &[usize]| {
         numbers.iter().for_each(|number| places.push((row.to_string(), number.to_string())));
     };
-    add("check", &[0, 1, 2, 3, 4, 5, 6, 7, 8, 9, 10, 11]);
-    add("fill", &[0, 1, 2, 3, 4, 5, 6, 7, 8, 9, 10, 12]);
-    add("check, at the first word", &[6, 7, 10, 11]);
-    add("check, at the later word", &[6, 7, 8, 9, 10, 11]);
-    add("fill, at the later word", &[6, 7, 8, 9, 10]);
+    add("check", &[0, 1, 2, 3, 4, 5, 6, 7, 8, 9, 10, 11, 15]);
+    add("fill", &[0, 1, 2, 3, 4, 5, 6, 7, 8, 9, 10, 12, 15]);
+    add("check, at the first word", &[6, 7, 10, 11, 15]);
+    add("check, at the later word", &[6, 7, 8, 9, 10, 11, 15]);
+    add("fill, at the later word", &[6, 7, 8, 9, 10, 15]);
     for length in [0, 1, 4_095] {
         add(&format!("fill with {length} words"), &[12]);
     }
     for length in [4_096, 4_097, 5_000] {
-        add(&format!("fill with {length} words"), &[0, 6, 7, 8, 9, 10]);
+        add(&format!("fill with {length} words"), &[0, 6, 7, 8, 9, 10, 15]);
     }
     for feature in plan_features::LAWFUL {
         add(feature, &[0]);

@@ -36,6 +36,7 @@ fn fields(word: u32) -> &'static [(u32, u32)] {
         6 => &[(23, 18), (17, 12), (11, 6), (5, 0)],
         7 => &[(5, 0)],
         8 => &[(23, 18), (17, 15), (14, 12), (11, 6), (5, 0)],
+        12 => &[(17, 12), (11, 6), (5, 0)],
         _ => &[(11, 6), (5, 0)],
     }
 }
@@ -135,10 +136,10 @@ pub fn child_fields(job: &[u32]) -> Vec<(usize, u32)> {
     places
 }
 
-/// A window with its limits exchanged: M > N wherever they differed.
+/// A window with M > N, or from > to.
 pub fn window(random: &mut Random, job: &[u32]) -> Vec<u32> {
     let mut job = job.to_vec();
-    let windowed = |word: u32| kind(word) == 8 || (kind(word) == 6 && matches!(form(word), 6 | 7));
+    let windowed = |word: u32| matches!(kind(word), 8 | 12) || (kind(word) == 6 && matches!(form(word), 6 | 7));
     let places: Vec<usize> = (0..job.len()).filter(|&index| windowed(job[index])).collect();
     if let Some(&word) = places.get(random.below(places.len().max(1))) {
         let m = random.between(1, 63);

@@ -9,6 +9,8 @@ pub struct Draft {
     pub initially: Vec<u32>,
     /// Each action word with its laws.
     pub actions: Vec<Vec<u32>>,
+    /// Shift windows (L4), of any actions in any order.
+    pub windows: Vec<u32>,
     pub formulas: Vec<u32>,
     /// Each node word with its members and conditions.
     pub nodes: Vec<Vec<u32>>,
@@ -20,6 +22,7 @@ impl Draft {
         let mut job = vec![words::head(self.fluents, self.actions.len(), self.last)];
         job.extend(&self.initially);
         job.extend(self.actions.concat());
+        job.extend(&self.windows);
         job.extend(&self.formulas);
         job.extend(self.nodes.concat());
         job

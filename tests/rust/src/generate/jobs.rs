@@ -1,6 +1,7 @@
 //! Well-formed jobs of all kinds and forms.
 
 use crate::generate::draft::Draft;
+use crate::generate::windows;
 use crate::random::Random;
 use crate::words;
 
@@ -11,6 +12,7 @@ pub fn well_formed(random: &mut Random) -> Draft {
     draft.initially = initial_words(random, draft.fluents, known);
     let actions = size(random, 64);
     draft.actions = (0..actions).map(|number| action_words(random, draft.fluents, number)).collect();
+    windows::add_any(&mut draft);
     let formulas = size(random, 65) - 1;
     for number in 0..formulas {
         let form = formula_form(random, number);
@@ -22,7 +24,7 @@ pub fn well_formed(random: &mut Random) -> Draft {
 }
 
 /// 1 to most: mostly small, sometimes the most, sometimes anything.
-fn size(random: &mut Random, most: usize) -> usize {
+pub fn size(random: &mut Random, most: usize) -> usize {
     match random.below(20) {
         0 => 1,
         1 => most,

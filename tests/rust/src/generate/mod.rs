@@ -17,3 +17,5 @@ pub mod set_draws;
 pub mod sets;
 pub mod trials;
 pub mod waits;
+pub mod window_plans;
+pub mod windows;

@@ -1,6 +1,7 @@
 //! Words that no job writer meant.
 
 use crate::generate::draft::Draft;
+use crate::generate::windows;
 use crate::random::Random;
 use crate::words;
 
@@ -28,6 +29,7 @@ pub fn plausible(random: &mut Random) -> Vec<u32> {
         }
         draft.actions.push(action);
     }
+    windows::add_plausible(&mut draft);
     for _ in 0..low(random) {
         draft.formulas.push(words::formula(random.below(6), low(random), low(random) * random.below(2)));
     }

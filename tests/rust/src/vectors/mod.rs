@@ -7,3 +7,6 @@ pub mod plan;
 pub mod proved;
 pub mod trial;
 pub mod waits;
+pub mod window_jobs;
+pub mod window_trials;
+pub mod windows;

@@ -2,6 +2,7 @@
 
 use crate::generate::trials::{self, Call};
 use crate::vectors::plan::{job, DROP, FOLD, LIFT, PRESS};
+use crate::vectors::window_trials;
 use crate::words::*;
 
 /// What comes back; after a refusal all words are as they were.
@@ -37,11 +38,12 @@ pub fn vectors() -> Vec<Vector> {
         starts_of_trial(),
         order(),
         limits(),
+        window_trials::vectors(),
     ];
     groups.into_iter().flatten().collect()
 }
 
-fn trial(moment: u32, starts: &[u32]) -> Vec<u32> {
+pub(super) fn trial(moment: u32, starts: &[u32]) -> Vec<u32> {
     [&[moment, starts.len() as u32], starts].concat()
 }
 

@@ -1,0 +1,138 @@
+/* The proved calls under other names, and the faults of wrong.c and wrong_shift.c. */
+#ifndef WRONG_H
+#define WRONG_H
+#include "planreader.h"
+#include <stdbool.h>
+
+uint64_t right_check(const uint32_t *job, size_t job_len, const uint32_t *starts, size_t starts_len, const uint32_t *facts, size_t facts_len);
+uint64_t right_fill(const uint32_t *job, size_t job_len, const uint32_t *starts, size_t starts_len, uint32_t *buffer, size_t buffer_len);
+uint64_t right_find(const uint32_t *job, size_t job_len, const uint32_t *starts, size_t starts_len, const uint32_t *facts, size_t facts_len,
+                    uint32_t *buffer, size_t buffer_len);
+uint64_t right_trial_begin(const uint32_t *job, size_t job_len, uint32_t *trial, size_t trial_len);
+uint64_t right_trial_start(const uint32_t *job, size_t job_len, uint32_t *trial, size_t trial_len, uint32_t action);
+uint64_t right_trial_on(const uint32_t *job, size_t job_len, uint32_t *trial, size_t trial_len);
+uint64_t right_trial_show(const uint32_t *job, size_t job_len, const uint32_t *trial, size_t trial_len, uint32_t *buffer, size_t buffer_len);
+
+enum fault {
+    CHECK_PASSES_ALL = 1,
+    CHECK_NEVER_PASSES,
+    CHECK_READS_AFTER_JOB,
+    CHECK_READS_BEFORE_STARTS,
+    CHECK_WRITES_TO_JOB,
+    CHECK_11_ONE_LATER,
+    CHECK_JOB_POSITION_0,
+    CHECK_START_ONE_LATER,
+    CHECK_NO_SUCH_NUMBER,
+    CHECK_LENGTH_LEFT,
+    CHECK_FORGETS,
+    FILL_ONE_FACT_SHORT,
+    FILL_WRITES_AFTER_LIST,
+    FILL_WRITES_AFTER_BUFFER,
+    FILL_WRITES_BEFORE_BUFFER,
+    FILL_LEAVES_BUFFER,
+    FILL_TAKES_BUFFER_IN,
+    FILL_12_AT_4096,
+    FILL_ACCEPTS_4095,
+    FILL_REFUSAL_WRITES,
+    FILL_FINISHES_EARLY,
+    FILL_HIDES_AT_FINISH,
+    FILL_HIDES_AT_OWN_MOMENT,
+    FILL_LAST_NOT_ADDED,
+    FIND_13_FOR_ALL,
+    FIND_13_WRITES,
+    FIND_WRITES_NOTHING,
+    FIND_END_ONE_LATER,
+    FIND_STORED_READING,
+    FIND_COPIES_PASS,
+    FIND_ONE_WORD_SHORT,
+    FIND_COUNT_1,
+    FIND_COUNT_ONE_MORE,
+    FIND_SKIPS_CHECK,
+    FIND_READS_AFTER_FACTS,
+    FIND_WRITES_AFTER_READING,
+    FIND_WRITES_AFTER_BUFFER,
+    FIND_WAITS_THROUGH_START,
+    FIND_WAITS_THROUGH_START_AT_K,
+    FIND_WAITS_THROUGH_UNUSED_START,
+    BEGIN_KEEPS_MOMENT,
+    BEGIN_CLEARS_MORE,
+    BEGIN_REFUSAL_WRITES,
+    BEGIN_ACCEPTS_4097,
+    BEGIN_14_BEFORE_JOB,
+    START_APPENDS,
+    START_AGAIN_6,
+    START_AGAIN_ACCEPTED,
+    START_ACTION_OF_SIX_BITS,
+    START_CLASH_WITH_LOWER_ALONE,
+    START_OF_THE_NEXT_MOMENT,
+    START_10_BEFORE_9,
+    START_KEEPS_POSITION,
+    START_JOB_POSITION_0,
+    START_REFUSAL_COUNTS,
+    START_WRITES_AFTER_STARTS,
+    START_WRITES_BEFORE_TRIAL,
+    START_READS_AFTER_TRIAL,
+    ON_AFTER_LAST,
+    ON_BY_TWO,
+    ON_DROPS_STARTS,
+    ON_SKIPS_STARTS,
+    ON_14_BEFORE_STARTS,
+    ON_LATE_START_6,
+    ON_REFUSAL_MOVES,
+    SHOW_ALL,
+    SHOW_WITHOUT_PRESENT,
+    SHOW_PRESENT_ALONE,
+    SHOW_JOB_BEFORE_12,
+    SHOW_ACCEPTS_4095,
+    SHOW_KEEPS_POSITION,
+    SHOW_COUNTS,
+    SHOW_WRITES_AFTER_FACTS,
+    SHOW_WRITES_TO_TRIAL,
+    SHOW_REFUSAL_WRITES,
+    SHIFTS_NOT_KEPT,
+    SHIFT_START_ON_FROM_REFUSED,
+    SHIFT_FINISH_ON_TO_REFUSED,
+    SHIFT_START_BEFORE_FROM,
+    SHIFT_FINISH_AFTER_TO,
+    SHIFT_FINISH_NOT_LOOKED_AT,
+    SHIFT_FIRST_ALONE,
+    SHIFT_LAST_ALONE,
+    SHIFTS_ADD_UP,
+    SHIFT_OF_NEXT_ACTION,
+    SHIFT_EMPTY_IS_NONE,
+    SHIFT_AFTER_LAST_IS_NONE,
+    SHIFT_LIMITS_SWAPPED,
+    SHIFT_ACTION_NOT_DECLARED,
+    SHIFT_SPARE_BITS,
+    SHIFT_TWICE_4,
+    SHIFT_TO_AFTER_LAST_3,
+    CHECK_15_BEFORE_9,
+    CHECK_10_BEFORE_15,
+    CHECK_15_AT_LAST,
+    FILL_FREE_ACTION_15,
+    FIND_SKIPS_SHIFTS,
+    START_15_BEFORE_9,
+    START_10_BEFORE_15,
+    START_SKIPS_SHIFTS,
+    ON_SKIPS_SHIFTS,
+    SHOW_SKIPS_SHIFTS,
+    FAULTS = SHOW_SKIPS_SHIFTS
+};
+
+/* The fault that the environment's FAULT numbers. */
+int fault(void);
+
+/* wrong_shift.c: the job as the faults of shift windows see it, for all calls; and as if its windows held every start. */
+const uint32_t *shifted(const uint32_t *job, size_t job_len);
+const uint32_t *freed(const uint32_t *job, size_t job_len);
+
+/* A refusal of the job for its windows, by the fault; 0 for none. */
+uint64_t shift_refusal(const uint32_t *job, size_t job_len);
+
+/* Other answers of check and fill, with faults in 15; the answer itself without. */
+uint64_t shift_check(const uint32_t *job, size_t job_len, const uint32_t *starts, size_t starts_len, uint64_t answer);
+uint64_t shift_fill(const uint32_t *job, size_t job_len, const uint32_t *starts, size_t starts_len, uint64_t answer);
+
+/* A new start that is refused, of a trial that is sound: another answer. */
+uint64_t shift_start(const uint32_t *job, size_t job_len, uint32_t *trial, uint32_t action, uint64_t answer);
+#endif
