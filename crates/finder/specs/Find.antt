@@ -14,7 +14,7 @@ use Rattle.job.specs.Procedure.{procedureOf}
 use Rattle.reading.specs.Reading.{whole, Reading}
 use Rattle.reading.specs.Count.{Counted}
 
--- rows 12 and 1 to 11
+-- row 12, and those of check
 abbrev pub findRows : ℕ → List ℕ → List ℕ → List ℕ → List Refusal
 findRows room job starts facts = bufferRefusal room ∷ checkRows job starts facts
 

@@ -39,7 +39,7 @@ refused c = c .before .before .before
 room : (c : tie.After-judge-facts) → 4096 ≤ length (entry c .args .buffer .now)
 room c = has-room _ (sized c .buffer-refusal .ensures) (c .before .if1 .left)
 
--- a plan that passes rows 1 to 11
+-- a plan that passes the rows of check
 clear : (c : tie.Else2) → let s = entry (judged c) .args in checkRefusal (s .job .now) (s .starts .now) (s .facts .now) .number ≡ 0
 clear c = sym (ap (λ (r : Refusal). r .number) (judged c .judge-facts .ensures .refusal)) ∙ c .if2 .left
 
