@@ -37,7 +37,7 @@ carried-start {job} {S} lasting s {first} held begin room = record {
 }
 
 -- starts that pass a test name actions of the job as the others do
-pub named-filter : {job S : List ℕ} (test : ℕ → Bool) → Named job S → Named job (filter test S)
+named-filter : {job S : List ℕ} (test : ℕ → Bool) → Named job S → Named job (filter test S)
 named-filter {job} {S} test n = record { action = each-at {P = λ s. startAction s < actions job} (each-filter test (each-of S (n .action))) }
 
 -- a walk at moment t: the words of its held list name actions of the job, and there is room for the starts of the next moment

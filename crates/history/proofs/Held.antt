@@ -14,7 +14,8 @@ use Rattle.words.specs.Lists.{each-none, each-more, pairs-none, pairs-more}
 use Rattle.words.specs.Scan.{any, findOr, filter}
 use Rattle.words.proofs.Choices.{both-true, same-test}
 use Rattle.words.proofs.Lists.{each-map}
-use Rattle.words.proofs.Filter.{any-filter, findOr-filter, any-agree, findOr-agree, filter-agree, filter-none, mem-filter}
+use Rattle.words.proofs.Scan.{any-agree, findOr-agree}
+use Rattle.words.proofs.Filter.{any-filter, findOr-filter, filter-agree, filter-none, mem-filter}
 use Rattle.job.specs.Parts.{duration}
 use Rattle.history.specs.Actions.{finish, inHand, hides, finishes, affects}
 use Rattle.history.specs.Values.{hidesFluent, givesFluent, givenValue, nextValue}

@@ -1,10 +1,10 @@
--- What a well-formed job says, part by part: its head, actions, formulas and nodes. Words of a kind are numbered from 0 as they stand.
+-- What a well-formed job says, part by part: its head, actions with their shift windows, formulas and nodes. Words of a kind are numbered from 0 as they stand.
 use mathlib.Core.Bool.{Bool, _&&_}
 use mathlib.Core.List.{List}
 use Prim.Native.Nat.{ℕ}
 use lib.Dec.{eqb}
 use lib.ListN.{getD, length, drop}
-use Rattle.words.specs.Fields.{ofKind, fluentsOf, actionsOf, lastOf, durationOf, shiftAction}
+use Rattle.words.specs.Fields.{ofKind, fluentsOf, actionsOf, lastOf, durationOf, shiftWindowAction}
 use Rattle.words.specs.Scan.{filter, takeWhile, dropWhile, fromNth}
 use Rattle.job.specs.Before.{before, countOfKind}
 
@@ -30,10 +30,6 @@ wordsFrom k job j = fromNth (ofKind k) j job
 abbrev pub wordOfKind : ℕ → List ℕ → ℕ → ℕ
 wordOfKind k job j = getD (wordsFrom k job j) 0 0
 
--- a shift window of action a
-abbrev pub shiftOf : ℕ → ℕ → Bool
-shiftOf a w = ofKind 12 w && eqb a (shiftAction w)
-
 -- action a: its duration, and its laws, the words of kind 4 after its own
 unfoldable pub duration : List ℕ → ℕ → ℕ
 duration job a = durationOf (wordOfKind 3 job a)
@@ -42,8 +38,11 @@ unfoldable pub lawsOf : List ℕ → ℕ → List ℕ
 lawsOf job a = takeWhile (ofKind 4) (drop 1 (wordsFrom 3 job a))
 
 -- its shift windows, the words of kind 12 that name it
-unfoldable pub shiftsOf : List ℕ → ℕ → List ℕ
-shiftsOf job a = filter (shiftOf a) job
+abbrev pub isShiftWindowOf : ℕ → ℕ → Bool
+isShiftWindowOf a w = ofKind 12 w && eqb a (shiftWindowAction w)
+
+unfoldable pub shiftWindowsOf : List ℕ → ℕ → List ℕ
+shiftWindowsOf job a = filter (isShiftWindowOf a) job
 
 -- the word of formula k
 unfoldable pub formulaWord : List ℕ → ℕ → ℕ

@@ -7,7 +7,7 @@ use lib.ListN.{getD, length}
 use Rattle.words.specs.Tests.{within}
 use Rattle.words.specs.Fields.{kind, form, actionsOf}
 use Rattle.words.specs.Scan.{any}
-use Rattle.job.specs.Rules.{headRefusal, knownRefusal, actionRefusal, lawRefusal, sameFluent, formulaRefusal, nodeRefusal, memberRefusal, conditionRefusal, shiftRefusal}
+use Rattle.job.specs.Rules.{headRefusal, knownRefusal, actionRefusal, lawRefusal, sameFluent, formulaRefusal, nodeRefusal, memberRefusal, conditionRefusal, shiftWindowRefusal}
 use Rattle.job.specs.Before.{before, countOfKind, since, latest, named}
 use Rattle.job.specs.Follow.{byKind, predecessor, mayFollow}
 use Rattle.answers.specs.declared.Refusal.{Refusal}
@@ -24,7 +24,7 @@ rules head p w =
     ∷ (6, nodeRefusal (countOfKind 3 p) (countOfKind 5 p) (countOfKind 6 p) w)
     ∷ (7, memberRefusal (countOfKind 6 p) (countOfKind 7 (since 6 p)) w)
     ∷ (8, conditionRefusal (countOfKind 5 p) (countOfKind 7 (since 6 p)) (countOfKind 8 (since 6 p)) w)
-    ∷ (12, shiftRefusal (countOfKind 3 p) w)
+    ∷ (12, shiftWindowRefusal (countOfKind 3 p) w)
     ∷ []
 
 -- 2 for a word that may not follow the one before, or of a kind that a job does not have; else by its rule

@@ -4,7 +4,7 @@ use mathlib.Core.Bool.{Bool, true, not, cond, _&&_, _||_}
 use Prim.Native.Nat.{ℕ, _+_, _/_}
 use lib.Dec.{leb, ltb, eqb}
 use Rattle.words.specs.Tests.{implies, within}
-use Rattle.words.specs.Fields.{spare, kind, form, headSpare, fluentsOf, actionsOf, lastOf, fluentOf, knownSpare, actionSpare, actionNumber, durationOf, roleOf, lawSpare, formulaX, formulaY, atomFluent, atomSpare, nodeX, nodeM, nodeN, memberSpare, memberNode, conditionFormula, conditionI, conditionJ, conditionM, conditionN, shiftSpare, shiftAction, shiftFrom, shiftTo}
+use Rattle.words.specs.Fields.{spare, kind, form, headSpare, fluentsOf, actionsOf, lastOf, fluentOf, knownSpare, actionSpare, actionNumber, durationOf, roleOf, lawSpare, formulaX, formulaY, atomFluent, atomSpare, nodeX, nodeM, nodeN, memberSpare, memberNode, conditionFormula, conditionI, conditionJ, conditionM, conditionN, shiftWindowSpare, shiftWindowAction, shiftWindowFrom, shiftWindowTo}
 use Rattle.words.specs.Scan.{every}
 use Rattle.job.specs.Children.{nodeChildren}
 
@@ -106,5 +106,5 @@ abbrev pub conditionRefusal : ℕ → ℕ → ℕ → ℕ → ℕ
 conditionRefusal formulas members conditions w = limited 8 conditions (conditionShape w) (conditionRange formulas members w)
 
 -- kind 12, shift window: its action is declared, and from ≤ to
-abbrev pub shiftRefusal : ℕ → ℕ → ℕ
-shiftRefusal actions w = wordRefusalOf (shiftSpare w) (ltb (shiftAction w) actions && leb (shiftFrom w) (shiftTo w)) true
+abbrev pub shiftWindowRefusal : ℕ → ℕ → ℕ
+shiftWindowRefusal actions w = wordRefusalOf (shiftWindowSpare w) (ltb (shiftWindowAction w) actions && leb (shiftWindowFrom w) (shiftWindowTo w)) true

@@ -29,7 +29,7 @@ pub const MEMBER: u32 = words::MEMBER;
 
 pub const CONDITION: u32 = words::CONDITION;
 
-pub const SHIFT: u32 = words::SHIFT;
+pub const SHIFT_WINDOW: u32 = words::SHIFT_WINDOW;
 
 pub const TASK_SET: u32 = 16;
 

@@ -18,7 +18,7 @@ use crate::LAW;
 use crate::MEMBER;
 use crate::NODE;
 use crate::NOTHING;
-use crate::SHIFT;
+use crate::SHIFT_WINDOW;
 use crate::Scanned;
 use crate::State;
 use crate::TASK_SET;
@@ -74,7 +74,7 @@ fn word_refusal(job: &[u32], i: usize, s: State) -> u32
         NODE => rules::node(s.actions, s.formulas, s.nodes, w),
         MEMBER => rules::member(s.nodes, s.members, w),
         CONDITION => rules::condition(s.formulas, s.members, s.conditions, w),
-        SHIFT => rules::shift(s.actions, w),
+        SHIFT_WINDOW => rules::shift_window(s.actions, w),
         _ => 2,
     }
 }

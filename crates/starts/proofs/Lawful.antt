@@ -6,7 +6,7 @@ use Prim.Native.Nat.{ℕ, zero, suc, _-_, _<_}
 use native.Mathlib.Omega.{arith}
 use borrow.Author.Tests.{not-false, ltb-false, le-ltb, lt-ltb, ne-eqb}
 use lib.ListN.{length}
-use Rattle.starts.specs.Rows.{ascends, wrongWord, endsLate, inHandAlready, clashes, outsideShifts, needsUnmet, startRows, startsRefusal}
+use Rattle.starts.specs.Rows.{ascends, wrongWord, endsLate, inHandAlready, clashes, outsideWindows, needsUnmet, startRows, startsRefusal}
 use Rattle.starts.specs.Code.Given.{StartsFormed}
 use Rattle.starts.specs.Lawful.{Lawful, LawfulExactly}
 use Rattle.words.proofs.AnyBelow.{some-none, none-below}
@@ -26,7 +26,7 @@ module _ (job starts : List ℕ) where
           rw (ne-eqb (suc i) 0 (λ z. omega arith), same) (lt-ltb _ _ (pairs-at (h .order) (suc i) i (omega arith) l))
 
   from : NoneFits (length starts) (startRows job starts) → Lawful job starts
-  unfolding endsLate inHandAlready clashes outsideShifts needsUnmet
+  unfolding endsLate inHandAlready clashes outsideWindows needsUnmet
   from (and-row row6 (and-row row7 (and-row row8 (and-row row9 (and-row row15 (and-row row10 no-row)))))) = record {
     words = each-of starts (λ i l. is-start-at job starts i (row6 i l));
     order = pairs-of starts (words-ascend (record { right = row6 }));
@@ -38,7 +38,7 @@ module _ (job starts : List ℕ) where
   }
 
   to : Lawful job starts → NoneFits (length starts) (startRows job starts)
-  unfolding endsLate inHandAlready clashes outsideShifts needsUnmet
+  unfolding endsLate inHandAlready clashes outsideWindows needsUnmet
   to h =
       and-row (lawful-formed h .right)
       (and-row (λ i l. le-ltb _ _ (each-at (h .ends) i l))

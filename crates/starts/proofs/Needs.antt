@@ -10,8 +10,7 @@ use lib.Seq.{getD-drop}
 use Rattle.words.specs.Fields.{ofKind, kind, fluentOf, startMoment, startAction}
 use Rattle.words.specs.Scan.{any, takeWhile}
 use Rattle.words.specs.Lists.{insert}
-use Rattle.words.proofs.Scan.{takeWhile-entry}
-use Rattle.words.proofs.Filter.{any-agree}
+use Rattle.words.proofs.Scan.{takeWhile-entry, any-agree}
 use Rattle.words.proofs.Lists.{each-of}
 use Rattle.job.specs.Parts.{headWord, fluents, actions, duration, lawsOf}
 use Rattle.job.proofs.ByPlace.{action-counted, laws-place}

@@ -1,5 +1,5 @@
 -- The shift windows of all actions, one word of the job after the other, and what their sets of moments tell. Assumes nothing.
-use mathlib.Core.Bool.{Bool, false, not, _&&_, _||_, or-comm, and-false}
+use mathlib.Core.Bool.{Bool, not, _&&_, _||_, or-comm, and-false}
 use mathlib.Core.List.{List}
 use mathlib.Core.Path.{_≡_, refl, sym, _∙_}
 use Prim.Native.Nat.{ℕ, _+_, _-_, _<_, _≤_}
@@ -12,41 +12,41 @@ use lib.Seq.{getD-set-same, getD-set-other}
 use Rattle.bitset.specs.Code.Members.{has, IsSetOf}
 use Rattle.bitset.proofs.Digits.{has-zero}
 use Rattle.bitset.proofs.In.{empty-entry}
-use Rattle.words.specs.Fields.{kind, shiftAction, shiftFrom, shiftTo}
+use Rattle.words.specs.Fields.{kind, shiftWindowAction, shiftWindowFrom, shiftWindowTo}
 use Rattle.words.specs.Scan.{any}
 use Rattle.words.proofs.Scan.{drop-next, any-end}
 use Rattle.words.proofs.Filter.{none-kept, any-filter}
-use Rattle.job.specs.Parts.{actions, duration, shiftOf, shiftsOf}
+use Rattle.job.specs.Parts.{actions, duration, isShiftWindowOf, shiftWindowsOf}
 use Rattle.history.specs.Code.Tables.{Durations}
-use Rattle.starts.specs.Rows.{insideShift, mayStart}
-use Rattle.starts.specs.Code.ShiftSets.{ShiftsOf}
+use Rattle.starts.specs.Rows.{insideWindow, mayStart}
+use Rattle.starts.specs.Code.ShiftSets.{ShiftTable}
 use Rattle.starts.specs.declared.shifts.Shifts.{Shifts}
 
--- the moments at which an action of duration d may start in a window: none where the window is shorter
+-- the moments at which an action of duration d may start in a window: none where it ends before moment d
 module _ (d w : ℕ) where
-  pub starts-none : shiftTo w < d → IsSetOf 0 (λ u. insideShift d u w)
-  starts-none l u = rw (has-zero u, lt-leb (u + d) (shiftTo w) (omega arith)) (sym (and-false (leb (shiftFrom w) u)))
+  pub moments-none : shiftWindowTo w < d → IsSetOf 0 (λ u. insideWindow d u w)
+  moments-none l u = rw (has-zero u, lt-leb (u + d) (shiftWindowTo w) (omega arith)) (sym (and-false (leb (shiftWindowFrom w) u)))
 
-  pub starts-between : (r : ℕ) {from last : ℕ} → d ≤ shiftTo w → from ≡ shiftFrom w → last ≡ shiftTo w - d → IsSetOf r (λ u. leb from u && leb u last)
-      → IsSetOf r (λ u. insideShift d u w)
-  starts-between r {from} {last} l ef el h u = h u ∙ rw (ef, cases (decLt last u))
+  pub moments-between : (r : ℕ) {from last : ℕ} → d ≤ shiftWindowTo w → from ≡ shiftWindowFrom w → last ≡ shiftWindowTo w - d → IsSetOf r (λ u. leb from u && leb u last)
+      → IsSetOf r (λ u. insideWindow d u w)
+  moments-between r {from} {last} l ef el h u = h u ∙ rw (ef, cases (decLt last u))
     where
-      cases : Dec (last < u) → leb u last ≡ leb (u + d) (shiftTo w)
-      cases (yes m) = rw (lt-leb u last m, lt-leb (u + d) (shiftTo w) (omega arith))
-      cases (no m) = rw (le-leb u last (omega arith), le-leb (u + d) (shiftTo w) (omega arith))
+      cases : Dec (last < u) → leb u last ≡ leb (u + d) (shiftWindowTo w)
+      cases (yes m) = rw (lt-leb u last m, lt-leb (u + d) (shiftWindowTo w) (omega arith))
+      cases (no m) = rw (le-leb u last (omega arith), le-leb (u + d) (shiftWindowTo w) (omega arith))
 
 -- the sets of the windows among the words ws of a job whose actions last as long as `durations` says
 pub record ShiftsIn (durations ws : List ℕ) (windowed : ℕ) (inside : List ℕ) : Type 0 where
   pub size : length inside ≡ 64
-  pub some : (a : ℕ) → has windowed a ≡ any (shiftOf a) ws
-  pub moments : (a u : ℕ) → has (getD inside a 0) u ≡ any (λ w. shiftOf a w && insideShift (getD durations a 0) u w) ws
+  pub some : (a : ℕ) → has windowed a ≡ any (isShiftWindowOf a) ws
+  pub moments : (a u : ℕ) → has (getD inside a 0) u ≡ any (λ w. isShiftWindowOf a w && insideWindow (getD durations a 0) u w) ws
 
 module _ {durations : List ℕ} (job : List ℕ) where
   pub shifts-none : ShiftsIn durations (drop (length job) job) 0 (replicate 64 0)
   shifts-none = record {
     size = refl;
-    some = λ a. rw (has-zero a, any-end job (length job) (shiftOf a) (omega arith));
-    moments = λ a u. rw (empty-entry 64 a, has-zero u, any-end job (length job) (λ w. shiftOf a w && insideShift (getD durations a 0) u w) (omega arith));
+    some = λ a. rw (has-zero a, any-end job (length job) (isShiftWindowOf a) (omega arith));
+    moments = λ a u. rw (empty-entry 64 a, has-zero u, any-end job (length job) (λ w. isShiftWindowOf a w && insideWindow (getD durations a 0) u w) (omega arith));
   }
 
   -- one word more in front; it is no window, or one of action x, whose set gains the moments that it allows
@@ -59,9 +59,9 @@ module _ {durations : List ℕ} (job : List ℕ) where
       moments = λ a u. rw (drop-next job i l, ← next, ne-eqb (kind (getD job i 0)) 12 n) (h .moments a u);
     }
 
-    pub shifts-more : {x : ℕ} (one all add sum : ℕ) → kind (getD job i 0) ≡ 12 → x ≡ shiftAction (getD job i 0) → x < 64
+    pub shifts-more : {x : ℕ} (one all add sum : ℕ) → kind (getD job i 0) ≡ 12 → x ≡ shiftWindowAction (getD job i 0) → x < 64
         → IsSetOf one (λ a. eqb a x) → IsSetOf all (λ a. has windowed a || has one a)
-        → IsSetOf add (λ u. insideShift (getD durations x 0) u (getD job i 0)) → IsSetOf sum (λ u. has (getD inside x 0) u || has add u)
+        → IsSetOf add (λ u. insideWindow (getD durations x 0) u (getD job i 0)) → IsSetOf sum (λ u. has (getD inside x 0) u || has add u)
         → ShiftsIn durations (drop i job) all (set inside x sum)
     unfolding any
     shifts-more {x} one all add sum k ex small is-one is-all is-add is-sum = record {
@@ -71,21 +71,21 @@ module _ {durations : List ℕ} (job : List ℕ) where
     }
       where
         cases : (a u : ℕ) → Dec (a ≡ x)
-            → has (getD (set inside x sum) a 0) u ≡ ((eqb a x && insideShift (getD durations a 0) u (getD job i 0)) || has (getD inside a 0) u)
+            → has (getD (set inside x sum) a 0) u ≡ ((eqb a x && insideWindow (getD durations a 0) u (getD job i 0)) || has (getD inside a 0) u)
         cases a u (yes e) =
             rw (e, getD-set-same inside x sum 0 (omega (arith, h .size)), is-sum u, is-add u, eq-eqb x x refl)
-            (or-comm (has (getD inside x 0) u) (insideShift (getD durations x 0) u (getD job i 0)))
+            (or-comm (has (getD inside x 0) u) (insideWindow (getD durations x 0) u (getD job i 0)))
         cases a u (no n) = rw (getD-set-other inside x a sum 0 n, ne-eqb a x n)
 
 -- of all words of the job
 pub shifts-all : {job durations inside : List ℕ} {windowed : ℕ} → Durations job durations → ShiftsIn durations job windowed inside
-    → ShiftsOf job (record { windowed = windowed; inside = inside })
-unfolding mayStart shiftsOf
+    → ShiftTable job (record { windowed = windowed; inside = inside })
+unfolding mayStart shiftWindowsOf
 shifts-all {job} d h = record {
-  entry = λ u a l. rw (h .some a, h .moments a u, d .entry a l, none-kept (shiftOf a) job, any-filter (insideShift (duration job a) u) (shiftOf a) job);
+  entry = λ u a l. rw (h .some a, h .moments a u, d .entry a l, none-kept (isShiftWindowOf a) job, any-filter (insideWindow (duration job a) u) (isShiftWindowOf a) job);
 }
 
--- whether action a may start at u, of which the code has read b and x
-pub may-start-read : {job : List ℕ} {shifts : Shifts} → ShiftsOf job shifts → {r : Bool} (x b : ℕ) {u a : ℕ}
+-- whether action a may start at u, where the code has read b for a and x for u
+pub may-start-read : {job : List ℕ} {shifts : Shifts} → ShiftTable job shifts → {r : Bool} (x b : ℕ) {u a : ℕ}
     → r ≡ (not (has (shifts .windowed) b) || has (getD (shifts .inside) b 0) x) → x ≡ u → b ≡ a → a < actions job → r ≡ mayStart job u a
 may-start-read h x b {u} {a} e eu ea l = e ∙ rw (eu, ea) (h .entry u a l)

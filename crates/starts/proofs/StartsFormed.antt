@@ -60,7 +60,7 @@ module _ (job starts : List ℕ) (i : ℕ) (h : wrongWord job starts i ≡ false
       let e : eqb i 0 ≡ false = ne-eqb i 0 (λ z. omega arith) in
       ltb-true _ _ (rw e at (parts .1))
 
--- once row 6, or the rows that read no state, give no number
+-- once row 6, or rows 6 to 9, give no number
 pub row-passed : {job starts : List ℕ} {r : Refusal} → r ≡ firstOf (numbered 6 (wrongWord job starts)) (length starts) → r .number ≡ 0 → StartsFormed job starts
 row-passed {job} {starts} is e = record { right = row-clear 6 (wrongWord job starts) (length starts) (omega arith) (rw is at e) }
 

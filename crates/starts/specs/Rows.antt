@@ -4,11 +4,11 @@ use mathlib.Core.List.{List, [], _∷_}
 use Prim.Native.Nat.{ℕ, _+_, _-_}
 use lib.Dec.{eqb, leb, ltb}
 use lib.ListN.{getD, length}
-use Rattle.words.specs.Fields.{kind, fails, holds, fluentOf, roleOf, startMoment, startAction, startSpare, shiftFrom, shiftTo}
+use Rattle.words.specs.Fields.{kind, fails, holds, fluentOf, roleOf, startMoment, startAction, startSpare, shiftWindowFrom, shiftWindowTo}
 use Rattle.words.specs.Scan.{any, anyBelow}
 use Rattle.answers.specs.declared.Refusal.{Refusal}
 use Rattle.answers.specs.Rows.{passed, firstRefusal, firstOf}
-use Rattle.job.specs.Parts.{headWord, fluents, actions, lastMoment, duration, lawsOf, shiftsOf}
+use Rattle.job.specs.Parts.{headWord, fluents, actions, lastMoment, duration, lawsOf, shiftWindowsOf}
 use Rattle.history.specs.Actions.{effect, finish, inHand}
 use Rattle.history.specs.Values.{valueAt}
 
@@ -55,15 +55,16 @@ clashing job earlier s = together job earlier s && clash job (startAction earlie
 unfoldable pub clashes : List ℕ → List ℕ → ℕ → Bool
 clashes job starts i = anyBelow (λ j. clashing job (getD starts j 0) (getD starts i 0)) i
 
--- row 15: outside the shift windows of its action. An action that has some may start at u only if one of them has from ≤ u and u + d ≤ to.
-abbrev pub insideShift : ℕ → ℕ → ℕ → Bool
-insideShift d u w = leb (shiftFrom w) u && leb (u + d) (shiftTo w)
+-- row 15: outside the shift windows of its action. An action that has some may start at u only if one of them has from ≤ u and u + d ≤ to;
+-- an action without windows is free.
+abbrev pub insideWindow : ℕ → ℕ → ℕ → Bool
+insideWindow d u w = leb (shiftWindowFrom w) u && leb (u + d) (shiftWindowTo w)
 
 unfoldable pub mayStart : List ℕ → ℕ → ℕ → Bool
-mayStart job u a = eqb (length (shiftsOf job a)) 0 || any (insideShift (duration job a) u) (shiftsOf job a)
+mayStart job u a = eqb (length (shiftWindowsOf job a)) 0 || any (insideWindow (duration job a) u) (shiftWindowsOf job a)
 
-unfoldable pub outsideShifts : List ℕ → List ℕ → ℕ → Bool
-outsideShifts job starts i = not (mayStart job (startMoment (getD starts i 0)) (startAction (getD starts i 0)))
+unfoldable pub outsideWindows : List ℕ → List ℕ → ℕ → Bool
+outsideWindows job starts i = not (mayStart job (startMoment (getD starts i 0)) (startAction (getD starts i 0)))
 
 -- row 10: needs not known, in the state of its own moment
 abbrev pub unmet : ℕ → (ℕ → ℕ) → ℕ → Bool
@@ -84,7 +85,7 @@ startRows job starts =
     ∷ (7, endsLate job starts)
     ∷ (8, inHandAlready job starts)
     ∷ (9, clashes job starts)
-    ∷ (15, outsideShifts job starts)
+    ∷ (15, outsideWindows job starts)
     ∷ (10, needsUnmet job starts)
     ∷ []
 

@@ -2,7 +2,6 @@
 ghost use mathlib.Core.Path.{_≡_};
 ghost use lib.ListN.{length};
 ghost use Rattle.starts.specs.Rows.{rowsRefusal};
-ghost use Rattle.starts.specs.Code.ShiftSets.{ShiftsOf};
 ghost use Rattle.starts.specs.Code.Given.{timeRows, Tabled};
 
 mod clashes;
@@ -17,22 +16,22 @@ pub use clashes::has_clash;
 pub use order::wrong_word;
 pub use shifts::Shifts;
 pub use shifts::may_start;
-pub use shifts::outside_shifts;
+pub use shifts::outside_windows;
 pub use shifts::shifts_of;
 pub use times::late_end;
 pub use times::restart;
 pub use unmet::check_needs;
 pub use unmet::has_unmet;
 
-// The first of rows 6 to 9 and 15 that fits, at the first word that it fits. Row 10, `check_needs`, comes after them.
+// The first of rows 6 to 9 that fits, at the first word that it fits. Rows 15 (`outside_windows`) and 10 (`check_needs`) come after
+// them.
 pub fn check_times(
     job: &[u32],
     durations: &[usize; 64],
     effects: &[u8; 4096],
-    shifts: Shifts,
     starts: &[u32],
 ) -> Refusal
-    requires { ⌜ Tabled (now job) (now durations) (now effects) × ShiftsOf (now job) shifts ⌝ }
+    requires { ⌜ Tabled (now job) (now durations) (now effects) ⌝ }
     ensures { λ r. ⌜ r ≡ rowsRefusal (timeRows (now (job .entry)) (now (starts .entry))) (length (now (starts .entry))) ⌝ }
 {
     let wrong = wrong_word(job, starts);
@@ -47,9 +46,5 @@ pub fn check_times(
     if again.number != 0 {
         return again;
     }
-    let clash = first_clash(job, durations, effects, starts);
-    if clash.number != 0 {
-        return clash;
-    }
-    outside_shifts(job, shifts, starts)
+    first_clash(job, durations, effects, starts)
 }

@@ -6,9 +6,9 @@ ghost use lib.ListN.{length, getD};
 ghost use Rattle.answers.specs.Rows.{firstOf};
 ghost use Rattle.bitset.specs.Code.Members.{has, IsSetOf};
 ghost use Rattle.history.specs.Code.Tables.{Durations};
-ghost use Rattle.starts.specs.Rows.{insideShift, outsideShifts, numbered};
-ghost use Rattle.starts.specs.Code.ShiftSets.{ShiftsOf};
-ghost use Rattle.starts.specs.Code.Given.{Shifted};
+ghost use Rattle.starts.specs.Rows.{insideWindow, outsideWindows, numbered};
+ghost use Rattle.starts.specs.Code.ShiftSets.{ShiftTable};
+ghost use Rattle.starts.specs.Code.Given.{StartsFormed};
 use answers::Refusal;
 use answers::none;
 use answers::refuse;
@@ -18,27 +18,27 @@ use bitset::single;
 use bitset::union;
 use words::*;
 
-// Which actions have shift windows, and at which moments each may start in one of them.
+// As sets: the actions that have shift windows, and for each action the moments at which it may start in one of them.
 pub struct Shifts {
     pub windowed: u64,
     pub inside: [u64; 64],
 }
 
 // The moments at which an action of duration `d` may start in the window `w`.
-fn starts_in(w: u32, d: usize) -> u64
-    ensures { λ r. ⌜ IsSetOf r (λ u. insideShift d u w) ⌝ }
+fn moments_in(w: u32, d: usize) -> u64
+    ensures { λ r. ⌜ IsSetOf r (λ u. insideWindow d u w) ⌝ }
 {
-    let to = shift_to(w);
+    let to = shift_window_to(w);
     if to < d {
         return 0;
     }
-    between(shift_from(w) as u32, (to - d) as u32)
+    between(shift_window_from(w) as u32, (to - d) as u32)
 }
 
 // The windows of all actions, in one pass over the job.
 pub fn shifts_of(job: &[u32], durations: &[usize; 64]) -> Shifts
     requires { ⌜ Durations (now job) (now durations) ⌝ }
-    ensures { λ r. ⌜ ShiftsOf (now (job .entry)) r ⌝ }
+    ensures { λ r. ⌜ ShiftTable (now (job .entry)) r ⌝ }
 {
     let mut windowed: u64 = 0;
     let mut inside = [0u64; 64];
@@ -46,10 +46,10 @@ pub fn shifts_of(job: &[u32], durations: &[usize; 64]) -> Shifts
     while 0 < i {
         i -= 1;
         let w = job[i];
-        if kind_of(w) == SHIFT {
-            let a = shift_action(w);
+        if kind_of(w) == SHIFT_WINDOW {
+            let a = shift_window_action(w);
             windowed = union(windowed, single(a as u32));
-            inside[a] = union(inside[a], starts_in(w, durations[a]));
+            inside[a] = union(inside[a], moments_in(w, durations[a]));
         }
     }
     Shifts { windowed, inside }
@@ -64,9 +64,9 @@ pub fn may_start(windowed: u64, inside: &[u64; 64], u: usize, a: usize) -> bool
 }
 
 // Row 15.
-pub fn outside_shifts(job: &[u32], shifts: Shifts, starts: &[u32]) -> Refusal
-    requires { ⌜ Shifted (now job) shifts (now starts) ⌝ }
-    ensures { λ r. ⌜ r ≡ firstOf (numbered 15 (outsideShifts (now (job .entry)) (now (starts .entry)))) (length (now (starts .entry))) ⌝ }
+pub fn outside_windows(job: &[u32], shifts: Shifts, starts: &[u32]) -> Refusal
+    requires { ⌜ ShiftTable (now job) shifts × StartsFormed (now job) (now starts) ⌝ }
+    ensures { λ r. ⌜ r ≡ firstOf (numbered 15 (outsideWindows (now (job .entry)) (now (starts .entry)))) (length (now (starts .entry))) ⌝ }
 {
     let windowed = shifts.windowed;
     let inside = shifts.inside;

@@ -7,6 +7,7 @@ ghost use Rattle.theory.specs.Code.Judged.{Judgeable, JudgedUpto, Judged
 use answers::Answer;
 use answers::Refusal;
 use answers::answer_of;
+use answers::first_refusal;
 use answers::none;
 use answers::refuse;
 use answers::row_of;
@@ -18,6 +19,7 @@ use job::check_job;
 use starts::Shifts;
 use starts::check_needs;
 use starts::check_times;
+use starts::outside_windows;
 use starts::shifts_of;
 use words::last_of;
 
@@ -58,7 +60,7 @@ pub fn refused(refusal: Refusal, index: Index) -> Plan
     }
 }
 
-// The rows of the starts, of a job that passes its own, and the history up to moment `last`.
+// The rows of the starts, of a job that no row refuses, and the history up to moment `last`.
 pub fn judge_starts(job: &[u32], index: Index, starts: &[u32], last: usize) -> Plan
     requires { ⌜ Judgeable (now job) (now starts) index last ⌝ }
     ensures { λ r. ⌜ JudgedUpto (planRefusal (now (job .entry)) (now (starts .entry))) (now (job .entry)) (now (starts .entry)) last r ⌝ }
@@ -68,12 +70,14 @@ pub fn judge_starts(job: &[u32], index: Index, starts: &[u32], last: usize) -> P
     let durations = durations(job, &places);
     let effects = effects(job, &places);
     let shifts = shifts_of(job, &durations);
-    let times = check_times(job, &durations, &effects, shifts, starts);
+    let times = check_times(job, &durations, &effects, starts);
     if times.number != 0 {
         return refused(times, index);
     }
     let history = history::history(job, &durations, &effects, starts, last);
-    let refusal = check_needs(job, &places, &history, starts);
+    let outside = outside_windows(job, shifts, starts);
+    let unmet = check_needs(job, &places, &history, starts);
+    let refusal = first_refusal(outside, unmet);
     Plan {
         refusal,
         index,
@@ -117,7 +121,7 @@ pub fn compare_facts(given: &[u32], wanted: &[u32]) -> Refusal
     none()
 }
 
-// These, then row 11.
+// The rows of the job and of the starts, then row 11.
 pub fn judge_facts(job: &[u32], starts: &[u32], facts: &[u32]) -> Plan
     ensures { λ r. ⌜ Judged (checkRefusal (now (job .entry)) (now (starts .entry)) (now (facts .entry))) (now (job .entry)) (now (starts .entry)) r ⌝ }
 {

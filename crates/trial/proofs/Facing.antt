@@ -10,7 +10,8 @@ use lib.Dec.{eqb, leb, ltb}
 use Rattle.words.specs.Fields.{startMoment, startAction, startWord}
 use Rattle.words.specs.Scan.{any, filter}
 use Rattle.words.proofs.Choices.{both-true, same-test}
-use Rattle.words.proofs.Filter.{any-filter, any-agree, each-filter}
+use Rattle.words.proofs.Filter.{any-filter, each-filter}
+use Rattle.words.proofs.Scan.{any-agree}
 use Rattle.words.proofs.Lists.{each-map, each-with}
 use Rattle.job.specs.Parts.{actions, duration}
 use Rattle.history.specs.Actions.{finish, inHand}

@@ -1,12 +1,11 @@
 -- Rows 6 to 10 and 15 of a new start, one after the other, and the room that an accepted one has. Assumes nothing.
-use mathlib.Core.Bool.{Bool, true, false, not, _||_}
+use mathlib.Core.Bool.{Bool, true, false, not}
 use mathlib.Core.List.{List}
-use mathlib.Core.Path.{_≡_, refl, ap, sym, _∙_}
+use mathlib.Core.Path.{_≡_, ap, sym, _∙_}
 use Prim.Native.Nat.{ℕ, _+_, _*_, _^_, _<_, _≤_}
 use native.Mathlib.Omega.{arith}
 use lib.Dec.{leb, ltb}
 use lib.ListN.{length, getD}
-use Rattle.bitset.specs.Code.Members.{has}
 use Rattle.words.specs.Fields.{startWord}
 use Rattle.words.specs.Scan.{any}
 use Rattle.words.specs.Lists.{Each, insert}
@@ -22,7 +21,6 @@ use Rattle.starts.specs.Rows.{clashing, mayStart, unmet, unmetAt, startsRefusal
 use Rattle.starts.specs.Lawful.{Lawful}
 use Rattle.starts.specs.Code.Given.{StartsFormed, Recorded}
 use Rattle.starts.proofs.Needs.{needs-read}
-use Rattle.starts.proofs.ShiftSets.{may-start-read}
 use Rattle.starts.proofs.StartsFormed.{right-of}
 use Rattle.starts.proofs.Lawful.{lawful, lawful-formed}
 use Rattle.theory.specs.Answers.{planRefusal}
@@ -74,11 +72,6 @@ module _ {job starts : List ℕ} {u : ℕ} {plan : Plan} (given : Present job st
         values = given .passed .history;
       } in
       er ∙ rw el (needs-read recorded a k u (omega arith))
-
-  -- whether an action may start by its shift windows
-  pub present-shifts : {a : ℕ} → a < actions job → {r : Bool} → r ≡ (not (has (plan .shifts .windowed) a) || has (getD (plan .shifts .inside) a 0) u)
-      → r ≡ mayStart job u a
-  present-shifts {a} k er = may-start-read (given .passed .shifts) u a er refl refl k
 
   -- a start that is accepted is one more lawful start, of which there are 4,096 at most
   new-room : (a : ℕ) → Each (λ s. s < 2 ^ 32) starts → startRefusal job (record { moment = u; starts = starts }) a .number ≡ 0 → length starts < 4096

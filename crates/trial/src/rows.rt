@@ -123,7 +123,7 @@ fn held_refusal(job: &[u32], plan: Plan, starts: &[u32], u: usize, a: usize) -> 
     )
 }
 
-// Rows 6 to 10 and 15. Starts to which another can be added leave room for it.
+// Rows 6 to 9, 15 and 10, in this order. Starts to which another can be added leave room for it.
 pub fn start_refusal(job: &[u32], plan: Plan, starts: &[u32], u: usize, a: usize) -> Refusal
     requires { ⌜ Present (now job) (now starts) u plan ⌝ }
     ensures { λ r. ⌜ StartTested (now (job .entry)) (now (starts .entry)) u a r ⌝ }

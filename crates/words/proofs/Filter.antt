@@ -15,7 +15,7 @@ use Rattle.words.specs.Lists.{Each, each-none, each-more}
 use Rattle.words.proofs.Choices.{cond-all}
 
 module _ (test : ℕ → Bool) where
-  pub filter-append : (vs ws : List ℕ) → filter test (vs ++ ws) ≡ filter test vs ++ filter test ws
+  filter-append : (vs ws : List ℕ) → filter test (vs ++ ws) ≡ filter test vs ++ filter test ws
   unfolding filter
   filter-append [] ws = refl
   filter-append (v ∷ vs) ws = cases (test v) (filter-append vs ws)
@@ -105,16 +105,6 @@ module _ (f g : ℕ → Bool) where
   unfolding filter
   filter-agree each-none = refl
   filter-agree (each-more e a) = rw (e, filter-agree a)
-
-  pub any-agree : {S : List ℕ} → Each (λ s. f s ≡ g s) S → any f S ≡ any g S
-  unfolding any
-  any-agree each-none = refl
-  any-agree (each-more e a) = rw (e, any-agree a)
-
-  pub findOr-agree : (gives : ℕ → ℕ) (other : ℕ) {S : List ℕ} → Each (λ s. f s ≡ g s) S → findOr f gives other S ≡ findOr g gives other S
-  unfolding findOr
-  findOr-agree gives other each-none = refl
-  findOr-agree gives other (each-more e a) = rw (e, findOr-agree gives other a)
 
 -- two tests that no word passes both
 pub filter-apart : (f g : ℕ → Bool) → ((s : ℕ) → f s ≡ true → g s ≡ false) → (S : List ℕ) → length (filter f S) + length (filter g S) ≤ length S

@@ -11,6 +11,7 @@ use native.Mathlib.Omega.{arith}
 use lib.ListN.{length, getD, take, drop, drop-of-length-le, length-drop}
 use lib.Seq.{drop-cons}
 use Rattle.words.specs.Scan.{any, every, findOr, takeWhile, dropWhile, count}
+use Rattle.words.specs.Lists.{Each, each-none, each-more}
 use Rattle.words.specs.Tests.{indicator}
 use Rattle.words.proofs.Choices.{both-true}
 use borrow.Author.Tests.{eqb-true}
@@ -158,3 +159,15 @@ every-true test (x ∷ xs) e q h =
     cases : (t : Bool) → eqb q x ≡ t → 0 < indicator t + count q xs → test x ≡ true → (0 < count q xs → test q ≡ true) → test q ≡ true
     cases true f h here ih = rw (eqb-true q x f) here
     cases false f h here ih = ih (omega arith)
+
+-- two tests that agree on each word
+module _ (f g : ℕ → Bool) where
+  pub any-agree : {S : List ℕ} → Each (λ s. f s ≡ g s) S → any f S ≡ any g S
+  unfolding any
+  any-agree each-none = refl
+  any-agree (each-more e a) = rw (e, any-agree a)
+
+  pub findOr-agree : (gives : ℕ → ℕ) (other : ℕ) {S : List ℕ} → Each (λ s. f s ≡ g s) S → findOr f gives other S ≡ findOr g gives other S
+  unfolding findOr
+  findOr-agree gives other each-none = refl
+  findOr-agree gives other (each-more e a) = rw (e, findOr-agree gives other a)

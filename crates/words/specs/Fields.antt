@@ -157,14 +157,14 @@ readingWord p b e = 11 * 2 ^ 28 + p * 2 ^ 12 + b * 2 ^ 6 + e
 
 -- kind 12, shift window (a time window of an action): its action, the first moment at which it may start, the last at which it may finish,
 -- and the bits that it leaves spare
-abbrev pub shiftSpare : ℕ → Bool
-shiftSpare w = spare w 27 18
+abbrev pub shiftWindowSpare : ℕ → Bool
+shiftWindowSpare w = spare w 27 18
 
-abbrev pub shiftAction : ℕ → ℕ
-shiftAction w = field w 17 12
+abbrev pub shiftWindowAction : ℕ → ℕ
+shiftWindowAction w = field w 17 12
 
-abbrev pub shiftFrom : ℕ → ℕ
-shiftFrom w = field w 11 6
+abbrev pub shiftWindowFrom : ℕ → ℕ
+shiftWindowFrom w = field w 11 6
 
-abbrev pub shiftTo : ℕ → ℕ
-shiftTo w = field w 5 0
+abbrev pub shiftWindowTo : ℕ → ℕ
+shiftWindowTo w = field w 5 0

@@ -3,7 +3,7 @@ ghost use mathlib.Core.Bool.{cond};
 ghost use mathlib.Core.Path.{_≡_};
 ghost use Prim.Native.Nat.{_<_, _≤_};
 ghost use lib.ListN.{length, drop};
-ghost use Rattle.words.specs.Fields.{kind, ofKind, form, spare, headSpare, actionNumber, actionSpare, isSet, memberSpare, startSpare, fluentsOf, actionsOf, lastOf, fluentOf, knownSpare, lawSpare, knownValue, durationOf, roleOf, makes, madeValue, formulaX, formulaY, atomFluent, atomSpare, nodeX, nodeY, nodeM, nodeN, memberNode, conditionFormula, conditionI, conditionJ, conditionM, conditionN, startMoment, startAction, startWord, factWord, readingWord, shiftSpare, shiftAction, shiftFrom, shiftTo};
+ghost use Rattle.words.specs.Fields.{kind, ofKind, form, spare, headSpare, actionNumber, actionSpare, isSet, memberSpare, startSpare, fluentsOf, actionsOf, lastOf, fluentOf, knownSpare, lawSpare, knownValue, durationOf, roleOf, makes, madeValue, formulaX, formulaY, atomFluent, atomSpare, nodeX, nodeY, nodeM, nodeN, memberNode, conditionFormula, conditionI, conditionJ, conditionM, conditionN, startMoment, startAction, startWord, factWord, readingWord, shiftWindowSpare, shiftWindowAction, shiftWindowFrom, shiftWindowTo};
 ghost use Rattle.words.specs.Scan.{takeWhile};
 
 pub mod buffers;
@@ -34,7 +34,7 @@ pub const FACT: u32 = 10;
 
 pub const READING: u32 = 11;
 
-pub const SHIFT: u32 = 12;
+pub const SHIFT_WINDOW: u32 = 12;
 
 // The values of a fluent or a formula.
 pub const FAILS: u8 = 0;
@@ -349,26 +349,26 @@ pub fn reading_word(p: usize, b: usize, e: usize) -> u32
 }
 
 // Shift window: the action, from, to, and whether the bits that it leaves spare are zero.
-pub fn shift_spare(w: u32) -> bool
-    ensures { λ r. ⌜ r ≡ shiftSpare w ⌝ }
+pub fn shift_window_spare(w: u32) -> bool
+    ensures { λ r. ⌜ r ≡ shiftWindowSpare w ⌝ }
 {
     (w >> 18) % (1 << 10) == 0
 }
 
-pub fn shift_action(w: u32) -> usize
-    ensures { λ r. ⌜ (r ≡ shiftAction w) × (r < 64) ⌝ }
+pub fn shift_window_action(w: u32) -> usize
+    ensures { λ r. ⌜ (r ≡ shiftWindowAction w) × (r < 64) ⌝ }
 {
     ((w >> 12) % 64) as usize
 }
 
-pub fn shift_from(w: u32) -> usize
-    ensures { λ r. ⌜ (r ≡ shiftFrom w) × (r < 64) ⌝ }
+pub fn shift_window_from(w: u32) -> usize
+    ensures { λ r. ⌜ (r ≡ shiftWindowFrom w) × (r < 64) ⌝ }
 {
     ((w >> 6) % 64) as usize
 }
 
-pub fn shift_to(w: u32) -> usize
-    ensures { λ r. ⌜ (r ≡ shiftTo w) × (r < 64) ⌝ }
+pub fn shift_window_to(w: u32) -> usize
+    ensures { λ r. ⌜ (r ≡ shiftWindowTo w) × (r < 64) ⌝ }
 {
     (w % 64) as usize
 }

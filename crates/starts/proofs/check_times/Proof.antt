@@ -16,8 +16,8 @@ six c = c .before .before .before .before .before .before
 -- row 6 fits no word
 timed : (c : tie.Else1) → Timed (entry c .args .job .now) (entry c .args .durations .now) (entry c .args .starts .now)
 timed c = record {
-  formed = entry c .pre .0 .formed;
-  lasts = entry c .pre .0 .lasts;
+  formed = entry c .pre .formed;
+  lasts = entry c .pre .lasts;
   words = row-passed (c .before .before .wrong-word .ensures) (c .if1 .left);
 }
 
@@ -37,32 +37,16 @@ returns-3 c =
 
 returns-4 : tie.Need-returns-4
 returns-4 c =
-    let eight = c .before .before .before in
+    let eight = c .before in
     let seven = eight .before .before .before in
     let six = seven .before .before .before in
     rows-next 6 _ _ _ (six .before .before .wrong-word .ensures) (six .if1 .left)
     (rows-next 7 _ _ _ (seven .before .before .late-end .ensures) (seven .if2 .left)
     (rows-next 8 _ _ _ (eight .before .before .restart .ensures) (eight .if3 .left)
-    (rows-found 9 _ _ _ (c .before .before .first-clash .ensures) (c .if4 .taken))))
-
-outside-shifts-requires : tie.Need-outside-shifts-requires
-outside-shifts-requires c κs = let passed = six (c .before .before .before) in record { sets = entry passed .pre .1; words = timed passed .words }
-
-returns-5 : tie.Need-returns-5
-returns-5 c =
-    let nine = c .before in
-    let eight = nine .before .before .before in
-    let seven = eight .before .before .before in
-    let six = seven .before .before .before in
-    rows-next 6 _ _ _ (six .before .before .wrong-word .ensures) (six .if1 .left)
-    (rows-next 7 _ _ _ (seven .before .before .late-end .ensures) (seven .if2 .left)
-    (rows-next 8 _ _ _ (eight .before .before .restart .ensures) (eight .if3 .left)
-    (rows-next 9 _ _ _ (nine .before .before .first-clash .ensures) (nine .if4 .left)
-    (c .outside-shifts .ensures ∙ rows-last _ _ _))))
+    (c .first-clash .ensures ∙ rows-last _ _ _)))
 
 pub check-times-spec : {M : Type 1} → statement M
 check-times-spec =
     tie.close
     (tie.spec (λ c κs. search needs) (λ c. rows-found 6 _ _ _ (c .before .before .wrong-word .ensures) (c .if1 .taken)) (λ c κs. timed c) returns-2
-    (λ c κs. timed (c .before .before .before)) returns-3 (λ c κs. (timed (six c), entry (six c) .pre .0 .makes)) returns-4
-    outside-shifts-requires returns-5)
+    (λ c κs. timed (c .before .before .before)) returns-3 (λ c κs. (timed (six c), entry (six c) .pre .makes)) returns-4)

@@ -10,18 +10,16 @@ use Rattle.job.specs.Code.WellFormed.{WellFormed, Indexed}
 use Rattle.history.specs.Code.Tables.{Durations, Effects, HistoryUpto}
 use Rattle.starts.specs.Rows.{wrongWord, startRows}
 use Rattle.starts.specs.Code.Latest.{Clashes}
-use Rattle.starts.specs.Code.ShiftSets.{ShiftsOf}
-use Rattle.starts.specs.declared.shifts.Shifts.{Shifts}
 
--- the rows that read no state: 6 to 9, and 15
+-- the rows on times: 6 to 9
 abbrev pub timeRows : List ℕ → List ℕ → List (ℕ × (ℕ → Bool))
-timeRows job starts = take 5 (startRows job starts)
+timeRows job starts = take 4 (startRows job starts)
 
 -- row 6 fits no word
 pub record StartsFormed (job starts : List ℕ) : Type 0 where
   pub right : (i : ℕ) → i < length starts → wrongWord job starts i ≡ false
 
--- those: a well-formed job with the tables of its actions
+-- rows 6 to 9: a well-formed job with the tables of its actions
 pub record Tabled (job durations effects : List ℕ) : Type 0 where
   pub formed : WellFormed job
   pub lasts : Durations job durations
@@ -31,11 +29,6 @@ pub record Tabled (job durations effects : List ℕ) : Type 0 where
 pub record Timed (job durations starts : List ℕ) : Type 0 where
   pub formed : WellFormed job
   pub lasts : Durations job durations
-  pub words : StartsFormed job starts
-
--- row 15: the same with the sets of its shift windows
-pub record Shifted (job : List ℕ) (shifts : Shifts) (starts : List ℕ) : Type 0 where
-  pub sets : ShiftsOf job shifts
   pub words : StartsFormed job starts
 
 -- row 9: two of its actions; one of them, with the table of the pairs that clash

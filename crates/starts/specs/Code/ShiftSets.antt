@@ -10,5 +10,5 @@ use Rattle.starts.specs.Rows.{mayStart}
 use Rattle.starts.specs.declared.shifts.Shifts.{Shifts}
 
 -- an action may start at u if it is not in the set of those that have windows, or u is in its own set of moments
-pub record ShiftsOf (job : List ℕ) (shifts : Shifts) : Type 0 where
+pub record ShiftTable (job : List ℕ) (shifts : Shifts) : Type 0 where
   pub entry : (u a : ℕ) → a < actions job → (not (has (shifts .windowed) a) || has (getD (shifts .inside) a 0) u) ≡ mayStart job u a

@@ -1,4 +1,4 @@
--- `theory::judge_starts` meets its contract: the rows that read no state refuse, or they pass and row 10 says the rest. Assumes nothing.
+-- `theory::judge_starts` meets its contract: rows 6 to 9 refuse, or they pass and rows 15 and 10 say the rest. Assumes nothing.
 use mathlib.Core.Path.{_≡_, _∙_, ap}
 use Prim.Native.Nat.{ℕ, _<_, _^_}
 use native.Mathlib.Omega.{arith}
@@ -7,6 +7,7 @@ use Rattle.answers.specs.declared.Refusal.{Refusal}
 use Rattle.job.specs.Refusal.{jobRefusal}
 use Rattle.job.proofs.WellFormed.{well-formed}
 use Rattle.starts.specs.Rows.{startsRefusal}
+use Rattle.starts.specs.Code.Given.{StartsFormed}
 use Rattle.starts.proofs.Rows.{starts-found, starts-next}
 use Rattle.starts.proofs.StartsFormed.{times-passed, named, right-word, few-words, ascending}
 use Rattle.theory.specs.Answers.{planRefusal}
@@ -16,8 +17,7 @@ use borrow.Author.Needs.{needs}
 use Rattle.theory.proofs.judge_starts.Statement.{statement}
 use Rattle.theory.proofs.judge_starts.Tie as tie
 
--- the function's entry, from where the places of actions are taken; the three tables, from the rows that read no state; and the entry from
--- there
+-- the function's entry, from where the places of actions are taken
 abbrev placed : tie.After-places2 → tie.Start
 placed c = c .before .before .before .before .before
 
@@ -25,21 +25,32 @@ placed c = c .before .before .before .before .before
 words : (c : tie.After-places2) (i : ℕ) → getD (placed c .args .starts .now) i 0 < 2 ^ 32
 words c i = omega (arith, c .before .before .before .shared-slice-known2 .given i)
 
-abbrev tabled : tie.After-effects → tie.After-durations
-tabled c = c .before .before
+-- the three tables, one from the other, all from rows 6 to 9, and the entry from there
+abbrev lasting : tie.After-effects → tie.After-durations
+lasting c = c .before .before
 
-abbrev made : tie.After-shifts-of → tie.After-effects
-made c = c .before .before
+abbrev making : tie.After-shifts-of → tie.After-effects
+making c = c .before .before
 
 abbrev windowed : tie.After-check-times → tie.After-shifts-of
 windowed c = c .before .before .before
 
-abbrev timed : tie.After-check-times → tie.Start
-timed c = placed (tabled (made (windowed c)) .before)
+abbrev tabled : tie.After-check-times → tie.After-durations
+tabled c = lasting (making (windowed c))
 
--- past these rows, from the history
+abbrev timed : tie.After-check-times → tie.Start
+timed c = placed (tabled c .before)
+
+-- past rows 6 to 9, from the history, and from row 10
 abbrev told : tie.After-history → tie.Else1
 told c = c .before .before .before
+
+abbrev walked : tie.After-check-needs → tie.After-history
+walked c = c .before .before .before .before
+
+-- row 6 fits no start
+starting : (c : tie.Else1) → let s = timed (c .before .before) in StartsFormed (s .args .job .now) (s .args .starts .now)
+starting c = times-passed (c .before .before .check-times .ensures) (c .if1 .left)
 
 -- rows 1 to 5 pass, so that the rows on starts are the answer
 starts-rows : (s : tie.Start) → startsRefusal (s .args .job .now) (s .args .starts .now) ≡ planRefusal (s .args .job .now) (s .args .starts .now)
@@ -58,15 +69,12 @@ effects-requires c κs =
 
 check-times-requires : tie.Need-check-times-requires
 check-times-requires c κs =
-    let w = c .before .before in
-    let e = made w in (
-      record {
-        formed = well-formed _ (placed (tabled e .before) .pre .good);
-        lasts = tabled e .durations .ensures;
-        makes = e .effects .ensures;
-      },
-      w .shifts-of .ensures,
-    )
+    let e = making (c .before .before) in
+    record {
+      formed = well-formed _ (placed (lasting e .before) .pre .good);
+      lasts = lasting e .durations .ensures;
+      makes = e .effects .ensures;
+    }
 
 returns : tie.Need-returns
 returns c =
@@ -79,50 +87,55 @@ history-requires : tie.Need-history-requires
 history-requires c κs =
     let passing = c .before .before in
     let times = passing .before .before in
-    let starts = times-passed (times .check-times .ensures) (passing .if1 .left) in (
+    let small = words (tabled times .before) in (
       record {
         well = well-formed _ (timed times .pre .good);
-        tables = record { durations = tabled (made (windowed times)) .durations .ensures; effects = made (windowed times) .effects .ensures };
-        named = named starts;
+        tables = record { durations = tabled times .durations .ensures; effects = making (windowed times) .effects .ensures };
+        named = named (starting passing);
       },
-      ascending starts (words (tabled (made (windowed times)) .before)),
-      few-words _ _ (words (tabled (made (windowed times)) .before)) _ (starts .right),
+      ascending (starting passing) small,
+      few-words _ _ small _ (starting passing .right),
       timed times .pre .soon,
     )
 
+outside-windows-requires : tie.Need-outside-windows-requires
+outside-windows-requires c κs = let passing = told c in (windowed (passing .before .before) .shifts-of .ensures, starting passing)
+
 check-needs-requires : tie.Need-check-needs-requires
 check-needs-requires c κs =
-    let passing = told (c .before .before) in
-    let times = passing .before .before in
-    let s = timed times in
-    let words = times-passed (times .check-times .ensures) (passing .if1 .left) in
+    let h = c .before .before .before in
+    let passing = told h in
+    let s = timed (passing .before .before) in
     record {
       formed = well-formed _ (s .pre .good);
       indexed = actions-indexed _ (s .pre .good) (s .pre .index);
-      words = words;
+      words = starting passing;
       last = s .args .last;
-      past = λ i l. s .pre .past i l (right-word words i l .moment);
-      values = c .before .before .history .ensures;
+      past = λ i l. s .pre .past i l (right-word (starting passing) i l .moment);
+      values = h .history .ensures;
     }
 
 returns-2 : tie.Need-returns-2
 returns-2 c =
-    let passing = told (c .before .before .before) in
+    let needs = c .before in
+    let h = walked needs in
+    let passing = told h in
     let times = passing .before .before in
     record {
-      refusal = starts-next _ _ (times .check-times .ensures) (passing .if1 .left) (c .check-needs .ensures) ∙ starts-rows (timed times);
+      refusal = starts-next _ _ (times .check-times .ensures) (passing .if1 .left) (c .first-refusal .ensures) (needs .before .before .before .outside-windows .ensures) (needs .check-needs .ensures)
+          ∙ starts-rows (timed times);
       passed = λ z. record {
         clear = z;
         index = timed times .pre .index;
-        durations = tabled (made (windowed times)) .durations .ensures;
-        effects = made (windowed times) .effects .ensures;
+        durations = tabled times .durations .ensures;
+        effects = making (windowed times) .effects .ensures;
         shifts = windowed times .shifts-of .ensures;
-        history = c .before .before .before .history .ensures;
+        history = h .history .ensures;
       };
     }
 
 pub judge-starts-spec : {M : Type 1} → statement M
 judge-starts-spec =
     tie.close
-    (tie.spec durations-requires effects-requires (λ c κs. tabled (c .before) .durations .ensures) check-times-requires (λ c κs. search needs) returns history-requires check-needs-requires
-    returns-2)
+    (tie.spec durations-requires effects-requires (λ c κs. lasting (c .before) .durations .ensures) check-times-requires (λ c κs. search needs) returns
+    history-requires outside-windows-requires check-needs-requires (λ c κs. search needs) returns-2)

@@ -10,7 +10,7 @@ use Rattle.job.specs.Parts.{lastMoment}
 use Rattle.job.specs.Refusal.{jobRefusal}
 use Rattle.job.specs.Code.Index.{checkedOf}
 use Rattle.history.specs.Code.Tables.{Durations, Effects, HistoryUpto}
-use Rattle.starts.specs.Code.ShiftSets.{ShiftsOf}
+use Rattle.starts.specs.Code.ShiftSets.{ShiftTable}
 use Rattle.theory.specs.Answers.{planRefusal}
 use Rattle.theory.specs.declared.Plan.{Plan}
 
@@ -21,7 +21,7 @@ pub record PassedUpto (job starts : List ℕ) (k : ℕ) (plan : Plan) : Type 0 w
   pub index : plan .index ≡ checkedOf job .index
   pub durations : Durations job (plan .durations)
   pub effects : Effects job (plan .effects)
-  pub shifts : ShiftsOf job (plan .shifts)
+  pub shifts : ShiftTable job (plan .shifts)
   pub history : HistoryUpto job starts k (plan .history)
 
 abbrev pub Passed : List ℕ → List ℕ → Plan → Type 0

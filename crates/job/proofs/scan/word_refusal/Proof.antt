@@ -62,5 +62,5 @@ word-refusal-spec =
     (λ c. rw (passed (c .before .before) 6 (c .before .match .keys6), ← (entry (c .before .before) .pre .1 .actions), ← (entry (c .before .before) .pre .1 .formulas), ← (entry (c .before .before) .pre .1 .nodes)) (c .node .ensures))
     (λ c. rw (passed (c .before .before) 7 (c .before .match .keys7), ← (entry (c .before .before) .pre .1 .nodes), ← (entry (c .before .before) .pre .1 .members)) (c .member .ensures))
     (λ c. rw (passed (c .before .before) 8 (c .before .match .keys8), ← (entry (c .before .before) .pre .1 .formulas), ← (entry (c .before .before) .pre .1 .members), ← (entry (c .before .before) .pre .1 .conditions)) (c .condition .ensures))
-    (λ c. rw (passed (c .before .before) 12 (c .before .match .keys9), ← (entry (c .before .before) .pre .1 .actions)) (c .shift .ensures))
+    (λ c. rw (passed (c .before .before) 12 (c .before .match .keys9), ← (entry (c .before .before) .pre .1 .actions)) (c .shift-window .ensures))
     returns-11)

@@ -18,7 +18,7 @@ abbrev μ-loop : tie.MeasureT-loop
 abbrev turn : tie.After-kind-of Inv-loop μ-loop → tie.In-loop Inv-loop μ-loop
 turn c = c .before .before
 
-abbrev acted : tie.After-union2 Inv-loop μ-loop → tie.After-shift-action Inv-loop μ-loop
+abbrev acted : tie.After-union2 Inv-loop μ-loop → tie.After-shift-window-action Inv-loop μ-loop
 acted c = c .before .before .before .before .before
 
 loop-again : tie.Need-loop-again Inv-loop μ-loop
@@ -30,14 +30,14 @@ loop-again c =
       omega arith,
       shifts-more _ (at .i - 1) (at .i) (at .inv .1) (omega arith) (omega arith) (c .before .before .before .before .single .result)
           (c .before .before .before .union .result)
-          (c .before .starts-in .result)
+          (c .before .moments-in .result)
           (c .union2 .result)
           (sym (k .kind-of .ensures .0) ∙ act .before .if1 .taken)
-          (act .shift-action .ensures .0)
-          (act .shift-action .ensures .1)
+          (act .shift-window-action .ensures .0)
+          (act .shift-window-action .ensures .1)
           (c .before .before .before .before .single .ensures)
           (c .before .before .before .union .ensures)
-          (c .before .starts-in .ensures)
+          (c .before .moments-in .ensures)
           (c .union2 .ensures),
     )
 

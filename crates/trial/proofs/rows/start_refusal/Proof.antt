@@ -1,6 +1,6 @@
 -- `trial::rows::start_refusal` meets its contract: one of rows 6 to 9 fits, or rows 15 and 10 decide. Assumes nothing.
 use mathlib.Core.Bool.{false}
-use mathlib.Core.Path.{_≡_, sym, ap, _∙_}
+use mathlib.Core.Path.{_≡_, refl, sym, ap, _∙_}
 use Prim.Native.Nat.{_^_, _+_, _<_, _≤_}
 use native.Mathlib.Omega.{arith}
 use borrow.Author.Needs.{needs}
@@ -11,7 +11,8 @@ use Rattle.words.specs.Lists.{Each}
 use Rattle.words.proofs.Lists.{each-of}
 use Rattle.answers.specs.declared.Refusal.{Refusal}
 use Rattle.job.specs.Parts.{actions, lastMoment, duration}
-use Rattle.trial.proofs.NewStart.{present-formed, present-few, present-indexed, present-unmet, tested, row-6, row-7, rows-8-9, rows-15-10, present-shifts}
+use Rattle.starts.proofs.ShiftSets.{may-start-read}
+use Rattle.trial.proofs.NewStart.{present-formed, present-few, present-indexed, present-unmet, tested, row-6, row-7, rows-8-9, rows-15-10}
 use Rattle.trial.proofs.rows.start_refusal.Statement.{statement}
 use Rattle.trial.proofs.rows.start_refusal.Tie as tie
 
@@ -112,7 +113,7 @@ returns-4 c =
     tested given (small f)
     (rows-15-10 _ _ _ _ (not-6 l) (not-7 (h .before)) (sym (ap (λ (r : Refusal). r .number) (h .held-refusal .ensures)) ∙ e .if3 .left) (c .first-refusal .ensures)
     (laws .before .before .before .before .before .before .row-of .ensures)
-    (present-shifts given (below l) (m .may-start .ensures))
+    (may-start-read (given .passed .shifts) _ _ (m .may-start .ensures) refl refl (below l))
     (c .before .row-of2 .ensures)
     (present-unmet given (below l) (laws .laws-of .ensures) (needs .has-unmet .ensures)))
 

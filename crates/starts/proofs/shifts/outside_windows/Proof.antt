@@ -1,4 +1,4 @@
--- `starts::shifts::outside_shifts` meets its contract. The invariant: the row fits no word before `i`. Assumes nothing.
+-- `starts::shifts::outside_windows` meets its contract. The invariant: the row fits no word before `i`. Assumes nothing.
 use mathlib.Core.Bool.{not}
 use mathlib.Core.Path.{_≡_, ap, sym, _∙_}
 use Prim.Native.Nat.{_-_}
@@ -6,15 +6,15 @@ use native.Mathlib.Omega.{arith}
 use borrow.Author.Needs.{needs}
 use lib.ListN.{length, getD}
 use Rattle.words.specs.Fields.{startMoment, startAction}
-use Rattle.starts.specs.Rows.{mayStart, outsideShifts}
+use Rattle.starts.specs.Rows.{mayStart, outsideWindows}
 use Rattle.starts.proofs.Rows.{Tried, tried-start, tried-more, tried-found, tried-end}
 use Rattle.starts.proofs.ShiftSets.{may-start-read}
 use Rattle.starts.proofs.StartsFormed.{right-word}
-use Rattle.starts.proofs.shifts.outside_shifts.Statement.{statement}
-use Rattle.starts.proofs.shifts.outside_shifts.Tie as tie
+use Rattle.starts.proofs.shifts.outside_windows.Statement.{statement}
+use Rattle.starts.proofs.shifts.outside_windows.Tie as tie
 
 abbrev Inv-loop : tie.InvT-loop
-Inv-loop job starts windowed inside i₀ i = Tried 15 (outsideShifts job starts) (length starts) i
+Inv-loop job starts windowed inside i₀ i = Tried 15 (outsideWindows job starts) (length starts) i
 
 abbrev μ-loop : tie.MeasureT-loop
 μ-loop job starts windowed inside i₀ i = length starts - i
@@ -33,12 +33,12 @@ tested : (c : tie.After-may-start Inv-loop μ-loop) → let args = entry c .args
 tested c =
     let given = entry c .pre in
     let l = c .before .before .before .before .before .loop-test .taken in
-    may-start-read (given .sets) _ _ (c .may-start .ensures) (c .before .before .start-moment .ensures .0) (c .before .start-action .ensures .0)
-    (right-word (given .words) _ l .action)
+    may-start-read (given .0) _ _ (c .may-start .ensures) (c .before .before .start-moment .ensures .0) (c .before .start-action .ensures .0)
+    (right-word (given .1) _ l .action)
 
 value : (c : tie.After-may-start Inv-loop μ-loop) → let args = entry c .args in
-    outsideShifts (args .job .now) (args .starts .now) (turn c .loop .i) ≡ not (c .may-start .result)
-unfolding outsideShifts
+    outsideWindows (args .job .now) (args .starts .now) (turn c .loop .i) ≡ not (c .may-start .result)
+unfolding outsideWindows
 value c = ap not (sym (tested c))
 
 returns : tie.Need-returns Inv-loop μ-loop
@@ -52,8 +52,8 @@ loop-again c =
     let t = c .before in
     tried-more (turn t .loop .inv) (t .before .before .before .before .before .loop-test .taken) (value t ∙ c .if1 .left)
 
-pub outside-shifts-spec : {M : Type 1} → statement M
-outside-shifts-spec =
+pub outside-windows-spec : {M : Type 1} → statement M
+outside-windows-spec =
     tie.close
     (tie.spec Inv-loop μ-loop (λ c. tried-start) (λ c. search needs) (λ c. search needs) (λ c κs. search needs)
     (λ c κs. search needs) (λ c κs. search needs) (λ c κs. search needs) returns (λ c. search needs) (λ c. search needs) loop-again (λ c κs. search needs)
