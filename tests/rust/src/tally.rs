@@ -1,6 +1,9 @@
-//! Counts of what the generated cases were, printed as a table; a test fails where a needed count is 0.
+//! Counts of what the generated cases were, printed as a table; a test fails where a needed count is 0, or too low.
 
 use std::collections::BTreeMap;
+
+/// A row, a column, and how often a run must have come there.
+pub type Needed = (String, &'static str, usize);
 
 /// Rows by name, columns by name, a count in each place.
 #[derive(Default)]
@@ -24,6 +27,12 @@ impl Tally {
     /// Those of the needed places that no case reached.
     pub fn missing(&self, needed: &[(String, String)]) -> Vec<(String, String)> {
         needed.iter().filter(|(row, column)| self.count(row, column) == 0).cloned().collect()
+    }
+
+    /// Those of the needed places that were reached too seldom: row, column, how often, and how often was needed.
+    pub fn too_seldom(&self, needed: &[Needed]) -> Vec<(String, &'static str, usize, usize)> {
+        let counted = needed.iter().map(|(row, column, least)| (row.clone(), *column, self.count(row, column), *least));
+        counted.filter(|&(_, _, count, least)| count < least).collect()
     }
 
     pub fn print(&self, title: &str, columns: &[&str]) {
@@ -52,5 +61,15 @@ mod tests {
         assert_eq!(tally.count("kind 1", "2"), 2);
         let place = |column: &str| ("kind 1".to_string(), column.to_string());
         assert_eq!(tally.missing(&[place("2"), place("3")]), [place("3")]);
+    }
+
+    #[test]
+    fn a_place_with_fewer_cases_than_needed_is_reached_too_seldom() {
+        let mut tally = Tally::new();
+        tally.add("kind 1", "2");
+        tally.add("kind 1", "2");
+        let needed = |column, least| ("kind 1".to_string(), column, least);
+        let seldom = tally.too_seldom(&[needed("2", 2), needed("2", 3), needed("3", 1)]);
+        assert_eq!(seldom, [("kind 1".to_string(), "2", 2, 3), ("kind 1".to_string(), "3", 0, 1)]);
     }
 }

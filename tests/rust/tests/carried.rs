@@ -1,8 +1,8 @@
 //! The archive's calls on plans with much in hand (L3), against the checker written apart, which looks through all
 //! starts at every moment. Cases written by hand are among those of `plan.rs`.
 
-use planreader_tests::compare::carried::{self, Calls};
-use planreader_tests::compare::{carried_features, carried_tiny, plan};
+use planreader_tests::compare::asker::Calls;
+use planreader_tests::compare::{carried, carried_features, carried_tiny, plan};
 use planreader_tests::host;
 
 const SEED: u64 = 0x5e3a_1071_0018;
@@ -17,7 +17,7 @@ fn generated_plans_with_much_in_hand_get_the_checker_s_outcomes() {
     let report = carried::run(SEED, plans, &CALLS);
     report.print(SEED, "plans with much in hand, by refusal number", &carried::COLUMNS);
     assert_eq!(report.differences, 0);
-    assert_eq!(carried::too_seldom(&report, &carried_features::needed(plans)), [], "met too seldom");
+    assert_eq!(report.tally.too_seldom(&carried_features::needed(plans)), [], "met too seldom");
 }
 
 #[test]
@@ -35,7 +35,7 @@ fn largest(seed: u64) {
     let report = carried::run_largest(seed, plans, &CALLS);
     report.print(seed, "the largest plans, by refusal number", &carried::COLUMNS);
     assert_eq!(report.differences, 0);
-    assert_eq!(carried::too_seldom(&report, &carried_features::needed_of_largest(plans)), [], "met too seldom");
+    assert_eq!(report.tally.too_seldom(&carried_features::needed_of_largest(plans)), [], "met too seldom");
 }
 
 #[test]

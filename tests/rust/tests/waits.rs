@@ -1,7 +1,7 @@
 //! The archive's find on end windows (L2), against the checker written apart and against the moments of tiny plans.
 //! Cases written by hand are among those of `find.rs`.
 
-use planreader_tests::compare::{wait_tiny, waits};
+use planreader_tests::compare::{wait_features, wait_tiny, waits};
 use planreader_tests::host;
 
 const SEED: u64 = 0x5e3a_1071_0017;
@@ -11,7 +11,7 @@ fn generated_end_windows_get_the_checker_s_outcomes() {
     let report = waits::run(SEED, 40_000, &host::find);
     report.print(SEED, "end windows and their pauses, by refusal number", &waits::COLUMNS);
     assert_eq!(report.differences, 0);
-    assert_eq!(waits::too_seldom(&report), [], "met too seldom");
+    assert_eq!(report.tally.too_seldom(&wait_features::needed(report.cases)), [], "met too seldom");
 }
 
 #[test]

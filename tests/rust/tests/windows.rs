@@ -2,8 +2,8 @@
 //! plans. Cases written by hand are among those of `job.rs`, `plan.rs` and `trial.rs`; find gets those of plans here.
 
 use planreader_tests::checker::answer::Answer;
-use planreader_tests::compare::carried::Calls;
-use planreader_tests::compare::{window_tiny, windows};
+use planreader_tests::compare::asker::Calls;
+use planreader_tests::compare::{window_features, window_tiny, windows};
 use planreader_tests::host;
 use planreader_tests::vectors;
 
@@ -17,7 +17,7 @@ fn generated_plans_with_windows_get_the_checker_s_outcomes() {
     let report = windows::run(SEED, plans, &CALLS);
     report.print(SEED, "plans with windows, by refusal number", &windows::COLUMNS);
     assert_eq!(report.differences, 0);
-    assert_eq!(windows::too_seldom(&report, plans), [], "met too seldom");
+    assert_eq!(report.tally.too_seldom(&window_features::needed(plans)), [], "met too seldom");
 }
 
 #[test]

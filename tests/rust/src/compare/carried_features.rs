@@ -6,11 +6,8 @@ use crate::checker::job::Known;
 use crate::checker::starts::{clash, Start};
 use crate::compare::carried_rules::{late_slips, slips};
 use crate::generate::carried_damage::Damage;
-use crate::tally::Tally;
+use crate::tally::{Needed, Tally};
 use std::collections::BTreeSet;
-
-/// A situation, the number of the answer, and how often a run must have met it.
-pub type Needed = (String, &'static str, usize);
 
 type Test = fn(&Scene) -> bool;
 

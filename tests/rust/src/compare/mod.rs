@@ -1,5 +1,6 @@
 //! Runs of generated cases through the checker and through another answerer, with counts and differences.
 
+pub mod asker;
 pub mod carried;
 pub mod carried_features;
 pub mod carried_rules;

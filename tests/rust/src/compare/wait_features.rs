@@ -7,7 +7,7 @@ use crate::checker::readings::literal::{is_reading, Triple};
 use crate::checker::readings::world::World;
 use crate::compare::find_features::NODES;
 use crate::compare::wait_rules::{acts, before};
-use crate::tally::Tally;
+use crate::tally::{Needed, Tally};
 use std::collections::BTreeSet;
 
 type Names = BTreeSet<String>;
@@ -188,7 +188,7 @@ fn changed(world: &World, decision: &Decision, reads: bool) -> Option<&'static s
 }
 
 /// What each run must have met, and how often at least in a run of so many cases, by number.
-pub fn needed(cases: usize) -> Vec<(String, &'static str, usize)> {
+pub fn needed(cases: usize) -> Vec<Needed> {
     let often = cases / 200;
     let seldom = cases / 2_000;
     let both = ["0", "13"];

@@ -34,16 +34,6 @@ pub fn run(seed: u64, cases: usize, find: &Find) -> Report {
     report
 }
 
-/// What the run met too seldom: the situation, the number, how often it was met and how often it should have been.
-pub fn too_seldom(report: &Report) -> Vec<(String, &'static str, usize, usize)> {
-    let needed = wait_features::needed(report.cases).into_iter();
-    let counted = needed.map(|(name, column, least)| {
-        let met = report.tally.count(&name, column);
-        (name, column, met, least)
-    });
-    counted.filter(|&(_, _, met, least)| met < least).collect()
-}
-
 #[cfg(test)]
 mod tests {
     use super::*;
@@ -62,7 +52,7 @@ mod tests {
         let report = run(SEED, 6_000, &right_find);
         report.print(SEED, "end windows", &COLUMNS);
         assert_eq!(report.differences, 0);
-        assert_eq!(too_seldom(&report), []);
+        assert_eq!(report.tally.too_seldom(&wait_features::needed(report.cases)), []);
     }
 
     #[test]

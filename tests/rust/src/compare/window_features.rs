@@ -6,10 +6,7 @@ use crate::checker::job::{Job, Shift};
 use crate::checker::starts::Start;
 use crate::compare::window_case::Case;
 use crate::compare::window_rules::{slips, windows, Window, RIGHT};
-use crate::tally::Tally;
-
-/// A situation, the number of the answer, and how often a run must have met it.
-pub type Needed = (String, &'static str, usize);
+use crate::tally::{Needed, Tally};
 
 /// A start and what is asked of it: its action's windows, and all windows in the order of their words.
 struct Scene<'a> {
@@ -183,6 +180,14 @@ pub fn told(tally: &mut Tally, case: &Case) {
     slips().iter().filter(|slip| case.tells(slip)).for_each(|slip| tally.add(&slip_row(slip.name), "told"));
 }
 
+/// Where in a list a refusal is.
+pub fn place(position: usize) -> &'static str {
+    match position {
+        0 => "at the first word",
+        _ => "at a later word",
+    }
+}
+
 fn slip_row(name: &str) -> String {
     format!("slip: {name}")
 }
@@ -209,7 +214,7 @@ pub fn needed(plans: usize) -> Vec<Needed> {
     for call in ["start", "on", "show"] {
         ["0", "15"].iter().for_each(|number| add(call.to_string(), number, 100));
     }
-    for place in ["at the first word", "at a later word"] {
+    for place in [place(0), place(1)] {
         add(format!("check, {place}"), "15", 100);
     }
     add("check".to_string(), "11", 100);

@@ -2,7 +2,7 @@
 //! windows of both, and at most one start of each. What the answer is goes by the moments; the checker plays no part in this.
 
 use crate::checker::answer::{Answer, Refusal};
-use crate::compare::carried::Calls;
+use crate::compare::asker::Calls;
 use crate::compare::report::{shown, Report};
 use crate::words;
 
