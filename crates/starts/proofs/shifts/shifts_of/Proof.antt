@@ -14,30 +14,30 @@ Inv-loop job durations windowed₀ inside₀ i₀ windowed inside i = (i ≤ len
 abbrev μ-loop : tie.MeasureT-loop
 μ-loop job durations windowed₀ inside₀ i₀ windowed inside i = i
 
--- the turn of the loop, from the kind of its word; that, from where the sets are joined
+-- the turn of the loop, from the kind of its word; the set of actions, from the moments in the word's window
 abbrev turn : tie.After-kind-of Inv-loop μ-loop → tie.In-loop Inv-loop μ-loop
 turn c = c .before .before
 
-abbrev acted : tie.After-union2 Inv-loop μ-loop → tie.After-shift-window-action Inv-loop μ-loop
-acted c = c .before .before .before .before .before
+abbrev joined : tie.After-moments-in Inv-loop μ-loop → tie.After-union Inv-loop μ-loop
+joined c = c .before .before
 
 loop-again : tie.Need-loop-again Inv-loop μ-loop
 loop-again c =
-    let act = acted c in
+    let added = c .before in
+    let all = joined added in
+    let one = all .before in
+    let act = one .before in
     let k = act .before .before in
     let at = turn k .before .loop in
     let taken = turn k .loop-test .taken in (
       omega arith,
-      shifts-more _ (at .i - 1) (at .i) (at .inv .1) (omega arith) (omega arith) (c .before .before .before .before .single .result)
-          (c .before .before .before .union .result)
-          (c .before .moments-in .result)
-          (c .union2 .result)
+      shifts-more _ (at .i - 1) (at .i) (at .inv .1) (omega arith) (omega arith) (one .single .result) (all .union .result) (added .moments-in .result) (c .union2 .result)
           (sym (k .kind-of .ensures .0) ∙ act .before .if1 .taken)
           (act .shift-window-action .ensures .0)
           (act .shift-window-action .ensures .1)
-          (c .before .before .before .before .single .ensures)
-          (c .before .before .before .union .ensures)
-          (c .before .moments-in .ensures)
+          (one .single .ensures)
+          (all .union .ensures)
+          (added .moments-in .ensures)
           (c .union2 .ensures),
     )
 
