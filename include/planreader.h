@@ -173,7 +173,7 @@ static inline const char *planreader_refusal_text(unsigned number)
         "the procedure has no reading",
         ("a trial that no moves could give: a list that is too short, too many starts, or a moment or a start that is too late; "
          "or going on at the last moment"),
-        "a start outside the windows of its action",
+        "a start outside the shift windows of its action",
     };
     return number < sizeof texts / sizeof *texts ? texts[number] : "no number of a refusal";
 }
