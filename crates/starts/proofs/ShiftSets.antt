@@ -7,11 +7,10 @@ use native.Mathlib.Decide.{ℕ-discrete, decLt}
 use native.Mathlib.Omega.{arith}
 use borrow.Author.Tests.{eq-eqb, ne-eqb, le-leb, lt-leb}
 use lib.Dec.{eqb, leb}
-use lib.ListN.{length, getD, drop, set, replicate, length-set}
-use lib.Seq.{getD-set-same, getD-set-other}
+use lib.ListN.{length, getD, drop, set, replicate}
 use Rattle.bitset.specs.Code.Members.{has, IsSetOf}
 use Rattle.bitset.proofs.Digits.{has-zero}
-use Rattle.bitset.proofs.In.{empty-entry}
+use Rattle.bitset.proofs.SetTable.{SetTable, table-none, table-other, table-more}
 use Rattle.words.specs.Fields.{kind, shiftWindowAction, shiftWindowFrom, shiftWindowTo}
 use Rattle.words.specs.Scan.{any}
 use Rattle.words.proofs.Scan.{drop-next, any-end}
@@ -35,18 +34,20 @@ module _ (d w : ℕ) where
       cases (yes m) = rw (lt-leb u last m, lt-leb (u + d) (shiftWindowTo w) (omega arith))
       cases (no m) = rw (le-leb u last (omega arith), le-leb (u + d) (shiftWindowTo w) (omega arith))
 
--- the sets of the windows among the words ws of a job whose actions last as long as `durations` says
+-- w is a window of action a in which it may start at u, by a table of durations
+abbrev pub allows : List ℕ → ℕ → ℕ → ℕ → Bool
+allows durations a u w = isShiftWindowOf a w && insideWindow (getD durations a 0) u w
+
+-- the sets of the windows among the words ws of a job
 pub record ShiftsIn (durations ws : List ℕ) (windowed : ℕ) (inside : List ℕ) : Type 0 where
-  pub size : length inside ≡ 64
   pub some : (a : ℕ) → has windowed a ≡ any (isShiftWindowOf a) ws
-  pub moments : (a u : ℕ) → has (getD inside a 0) u ≡ any (λ w. isShiftWindowOf a w && insideWindow (getD durations a 0) u w) ws
+  pub moments : SetTable (allows durations) ws inside
 
 module _ {durations : List ℕ} (job : List ℕ) where
   pub shifts-none : ShiftsIn durations (drop (length job) job) 0 (replicate 64 0)
   shifts-none = record {
-    size = refl;
     some = λ a. rw (has-zero a, any-end job (length job) (isShiftWindowOf a) (omega arith));
-    moments = λ a u. rw (empty-entry 64 a, has-zero u, any-end job (length job) (λ w. isShiftWindowOf a w && insideWindow (getD durations a 0) u w) (omega arith));
+    moments = table-none (allows durations) job;
   }
 
   -- one word more in front; it is no window, or one of action x, whose set gains the moments that it allows
@@ -54,9 +55,8 @@ module _ {durations : List ℕ} (job : List ℕ) where
     pub shifts-other : (kind (getD job i 0) ≡ 12 → ⊥) → ShiftsIn durations (drop i job) windowed inside
     unfolding any
     shifts-other n = record {
-      size = h .size;
       some = λ a. rw (drop-next job i l, ← next, ne-eqb (kind (getD job i 0)) 12 n) (h .some a);
-      moments = λ a u. rw (drop-next job i l, ← next, ne-eqb (kind (getD job i 0)) 12 n) (h .moments a u);
+      moments = table-other (allows durations) job i j (h .moments) next l (λ a u. rw (ne-eqb (kind (getD job i 0)) 12 n));
     }
 
     pub shifts-more : {x : ℕ} (one all add sum : ℕ) → kind (getD job i 0) ≡ 12 → x ≡ shiftWindowAction (getD job i 0) → x < 64
@@ -65,25 +65,27 @@ module _ {durations : List ℕ} (job : List ℕ) where
         → ShiftsIn durations (drop i job) all (set inside x sum)
     unfolding any
     shifts-more {x} one all add sum k ex small is-one is-all is-add is-sum = record {
-      size = length-set inside x sum ∙ h .size;
       some = λ a. rw (drop-next job i l, ← next, eq-eqb (kind (getD job i 0)) 12 k, ← ex, is-all a, is-one a, ← (h .some a)) (or-comm (has windowed a) (eqb a x));
-      moments = λ a u. rw (drop-next job i l, ← next, eq-eqb (kind (getD job i 0)) 12 k, ← ex, ← (h .moments a u)) (cases a u (ℕ-discrete a x));
+      moments = table-more (allows durations) job i j (h .moments) next l add sum small
+          (λ a u. rw (eq-eqb (kind (getD job i 0)) 12 k, ← ex, is-add u) (cases a u (ℕ-discrete a x)))
+          is-sum;
     }
       where
         cases : (a u : ℕ) → Dec (a ≡ x)
-            → has (getD (set inside x sum) a 0) u ≡ ((eqb a x && insideWindow (getD durations a 0) u (getD job i 0)) || has (getD inside a 0) u)
-        cases a u (yes e) =
-            rw (e, getD-set-same inside x sum 0 (omega (arith, h .size)), is-sum u, is-add u, eq-eqb x x refl)
-            (or-comm (has (getD inside x 0) u) (insideWindow (getD durations x 0) u (getD job i 0)))
-        cases a u (no n) = rw (getD-set-other inside x a sum 0 n, ne-eqb a x n)
+            → (eqb a x && insideWindow (getD durations a 0) u (getD job i 0)) ≡ (eqb a x && insideWindow (getD durations x 0) u (getD job i 0))
+        cases a u (yes e) = rw e
+        cases a u (no n) = rw (ne-eqb a x n)
 
 -- of all words of the job
 pub shifts-all : {job durations inside : List ℕ} {windowed : ℕ} → Durations job durations → ShiftsIn durations job windowed inside
     → ShiftTable job (record { windowed = windowed; inside = inside })
 unfolding mayStart shiftWindowsOf
-shifts-all {job} d h = record {
-  entry = λ u a l. rw (h .some a, h .moments a u, d .entry a l, none-kept (isShiftWindowOf a) job, any-filter (insideWindow (duration job a) u) (isShiftWindowOf a) job);
+shifts-all {job} {durations} {inside} d h = record {
+  entry = λ u a l. rw (h .some a, by-duration u a, d .entry a l, none-kept (isShiftWindowOf a) job, any-filter (insideWindow (duration job a) u) (isShiftWindowOf a) job);
 }
+  where
+    by-duration : (u a : ℕ) → has (getD inside a 0) u ≡ any (λ w. isShiftWindowOf a w && insideWindow (getD durations a 0) u w) job
+    by-duration u a = h .moments .entry a u
 
 -- whether action a may start at u, where the code has read b for a and x for u
 pub may-start-read : {job : List ℕ} {shifts : Shifts} → ShiftTable job shifts → {r : Bool} (x b : ℕ) {u a : ℕ}
