@@ -3,19 +3,19 @@
 use mathlib.Core.Bool.{Bool, true, false, cond, _&&_}
 use mathlib.Core.List.{List, _∷_, _++_}
 use mathlib.Core.Logic.{by-cases}
-use mathlib.Core.Path.{_≡_, refl}
+use mathlib.Core.Path.{_≡_, refl, _∙_}
 use Prim.Native.Nat.{ℕ, suc, _+_, _<_, _≤_}
 use native.Mathlib.Decide.{decLt, ℕ-discrete}
 use native.Mathlib.Omega.{arith}
 use borrow.Author.Tests.{eqb-true, ltb-true, leb-true, le-leb, lt-leb, lt-ltb, le-ltb, eq-eqb, ne-eqb}
 use lib.Dec.{leb, ltb}
 use Rattle.words.specs.Fields.{unknown, startMoment, startAction}
-use Rattle.words.specs.Lists.{each-none, each-more, pairs-none, pairs-more}
+use Rattle.words.specs.Lists.{Each, each-none, each-more, pairs-none, pairs-more}
 use Rattle.words.specs.Scan.{any, findOr, filter}
 use Rattle.words.proofs.Choices.{both-true, same-test}
 use Rattle.words.proofs.Lists.{each-map}
 use Rattle.words.proofs.Scan.{any-agree, findOr-agree}
-use Rattle.words.proofs.Filter.{any-filter, findOr-filter, filter-agree, filter-none, mem-filter}
+use Rattle.words.proofs.Filter.{any-filter, findOr-filter, filter-filter, filter-agree, filter-none, mem-filter}
 use Rattle.job.specs.Parts.{duration}
 use Rattle.history.specs.Actions.{finish, inHand, hides, finishes, affects}
 use Rattle.history.specs.Values.{hidesFluent, givesFluent, givenValue, nextValue}
@@ -131,3 +131,20 @@ next-list job t (each-more {s} {ss = S} lasts ls) (pairs-more p ps) = cases (dec
 
 pub held-next : HeldNext
 held-next job starts t lasting ascends = next-list job t lasting ascends
+
+-- at a later moment, of starts that have begun: those in hand that have not finished then
+pub held-later : (job : List ℕ) {t u : ℕ} → t ≤ u → {S : List ℕ} → Each (λ s. startMoment s ≤ t) S
+    → filter (unfinished job u) (heldAt job S t) ≡ heldAt job S u
+held-later job {t} {u} l {S} past =
+    filter-filter (unfinished job u) (inHand job t) S ∙ filter-agree (λ s. inHand job t s && unfinished job u s) (inHand job u) (each-map same past)
+  where
+    same : (s : ℕ) → startMoment s ≤ t → (inHand job t s && unfinished job u s) ≡ inHand job u s
+    same s m = same-test (inHand job t s && unfinished job u s) (inHand job u s) to from
+      where
+        to : (inHand job t s && unfinished job u s) ≡ true → inHand job u s ≡ true
+        to e = rw (le-leb (startMoment s) u (omega arith)) (both-true (inHand job t s) (unfinished job u s) e .1)
+
+        from : inHand job u s ≡ true → (inHand job t s && unfinished job u s) ≡ true
+        from e =
+            let h = in-hand-true job u s e in
+            rw (true-in-hand job t s m (omega arith), lt-ltb u (finish job s) (h .1))

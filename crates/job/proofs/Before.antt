@@ -17,6 +17,7 @@ use Rattle.job.specs.Before.{before, countOfKind, since, latest, named}
 use Rattle.job.specs.Refusal.{nameRefusal}
 use Rattle.job.specs.Code.State.{Tied}
 use Rattle.words.proofs.Choices.{indicator-le, cond-all}
+use Rattle.bitset.proofs.Digits.{has-zero}
 
 pub before-suc : (job : List ℕ) (i : ℕ) → before job (suc i) ≡ getD job i 0 ∷ before job i
 unfolding before
@@ -72,6 +73,10 @@ module _ (job : List ℕ) (i : ℕ) where
   unfolding latest
   latest-more k = rw (before-more job i)
 
+  pub any-more : (t : ℕ → Bool) → any t (before job (i + 1)) ≡ (t (getD job i 0) || any t (before job i))
+  unfolding any
+  any-more t = rw (before-more job i)
+
   pub named-more : (v : ℕ) → named v (before job (i + 1)) ≡ named v (before job i) + count v (wordChildren (getD job i 0))
   unfolding named
   named-more v = rw (before-more job i)
@@ -107,9 +112,9 @@ count-grows k job i =
     le-ind (λ (n : ℕ). countOfKind k (before job i) ≤ countOfKind k (before job n)) (omega arith)
     (λ m h ih. rw (← (add-one m)) (omega (arith, count-more job m k)))
 
-pub tied-start : (job : List ℕ) → Tied (before job 0) (record { actions = 0; formulas = 0; nodes = 0; members = 0; conditions = 0; node = 0 })
-unfolding before countOfKind since latest
-tied-start job = record { actions = refl; formulas = refl; nodes = refl; members = refl; conditions = refl; node = refl }
+pub tied-start : (job : List ℕ) → Tied (before job 0) (record { actions = 0; formulas = 0; nodes = 0; members = 0; conditions = 0; node = 0; groups = 0 })
+unfolding before countOfKind since latest any
+tied-start job = record { actions = refl; formulas = refl; nodes = refl; members = refl; conditions = refl; node = refl; groups = has-zero }
 
 pub once : (p : List ℕ) (v : ℕ) → named v p ≡ 1 → nameRefusal p v ≡ 0
 unfolding nameRefusal

@@ -35,7 +35,9 @@ word-number head p w =
     (cond-all Low (eqb (kind w) 5) (tests-number _ _ _)
     (cond-all Low (eqb (kind w) 6) (tests-number _ _ _)
     (cond-all Low (eqb (kind w) 7) (tests-number _ _ _)
-    (cond-all Low (eqb (kind w) 8) (tests-number _ _ _) (cond-all Low (eqb (kind w) 12) (tests-number _ _ _) (omega arith))))))))))
+    (cond-all Low (eqb (kind w) 8) (tests-number _ _ _)
+    (cond-all Low (eqb (kind w) 12) (tests-number _ _ _)
+    (cond-all Low (eqb (kind w) 13) (tests-number _ _ _) (cond-all Low (eqb (kind w) 14) (tests-number _ _ _) (omega arith))))))))))))
     (omega arith)
 
 refusal-number : (job : List ℕ) (i : ℕ) → refusalOf job i < 2 ^ 8

@@ -29,11 +29,13 @@ predecessors v =
     ∷ (2, within 1 2 v)
     ∷ (3, within 1 4 v)
     ∷ (4, within 3 4 v)
-    ∷ (5, within 1 5 v || eqb v 12)
-    ∷ (6, within 1 8 v || eqb v 12)
+    ∷ (5, within 1 5 v || within 12 14 v)
+    ∷ (6, within 1 8 v || within 12 14 v)
     ∷ (7, eqb v setNode || eqb v 7)
     ∷ (8, within 7 8 v)
     ∷ (12, within 3 4 v || eqb v 12)
+    ∷ (13, within 3 4 v || within 12 13 v)
+    ∷ (14, within 13 14 v)
     ∷ []
 
 abbrev pub mayFollow : ℕ → ℕ → Bool

@@ -1,11 +1,12 @@
--- What a well-formed job says, part by part: its head, actions with their shift windows, formulas and nodes. Words of a kind are numbered from 0 as they stand.
+-- What a well-formed job says, part by part: its head, actions with their shift windows, groups, formulas and nodes. Words of a kind are
+-- numbered from 0 as they stand.
 use mathlib.Core.Bool.{Bool, _&&_}
 use mathlib.Core.List.{List}
 use Prim.Native.Nat.{ℕ}
 use lib.Dec.{eqb}
 use lib.ListN.{getD, length, drop}
-use Rattle.words.specs.Fields.{ofKind, fluentsOf, actionsOf, lastOf, durationOf, shiftWindowAction}
-use Rattle.words.specs.Scan.{filter, takeWhile, dropWhile, fromNth}
+use Rattle.words.specs.Fields.{ofKind, fluentsOf, actionsOf, lastOf, durationOf, shiftWindowAction, groupNumber, groupLimit, groupAction}
+use Rattle.words.specs.Scan.{any, filter, findOr, takeWhile, dropWhile, fromNth}
 use Rattle.job.specs.Before.{before, countOfKind}
 
 abbrev pub headWord : List ℕ → ℕ
@@ -43,6 +44,19 @@ isShiftWindowOf a w = ofKind 12 w && eqb a (shiftWindowAction w)
 
 unfoldable pub shiftWindowsOf : List ℕ → ℕ → List ℕ
 shiftWindowsOf job a = filter (isShiftWindowOf a) job
+
+-- group g: its own word, which has its limit; its actions, those that a word of kind 14 lists in it
+abbrev pub isGroup : ℕ → ℕ → Bool
+isGroup g w = ofKind 13 w && eqb g (groupNumber w)
+
+abbrev pub listsIn : ℕ → ℕ → ℕ → Bool
+listsIn g a w = ofKind 14 w && (eqb g (groupNumber w) && eqb a (groupAction w))
+
+unfoldable pub limitOf : List ℕ → ℕ → ℕ
+limitOf job g = findOr (isGroup g) groupLimit 0 job
+
+unfoldable pub inGroup : List ℕ → ℕ → ℕ → Bool
+inGroup job g a = any (listsIn g a) job
 
 -- the word of formula k
 unfoldable pub formulaWord : List ℕ → ℕ → ℕ

@@ -31,6 +31,10 @@ pub const CONDITION: u32 = words::CONDITION;
 
 pub const SHIFT_WINDOW: u32 = words::SHIFT_WINDOW;
 
+pub const GROUP: u32 = words::GROUP;
+
+pub const GROUP_MEMBER: u32 = words::GROUP_MEMBER;
+
 pub const TASK_SET: u32 = 16;
 
 pub const NOTHING: u32 = 17;
@@ -52,6 +56,8 @@ pub const MAX_MEMBERS: usize = 4;
 
 pub const MAX_CONDITIONS: usize = 8;
 
+pub const LAST_GROUP: usize = 7;
+
 // Of each kind that is indexed (actions, formulas, nodes) there are at most as many.
 pub const MAX_PLACES: usize = 64;
 
@@ -72,7 +78,7 @@ pub struct Checked {
     pub index: Index,
 }
 
-// What the scan keeps of the words before the position that it stands at.
+// What the scan keeps of the words before the position that it stands at; the groups declared as a set.
 pub struct State {
     pub actions: usize,
     pub formulas: usize,
@@ -80,6 +86,7 @@ pub struct State {
     pub members: usize,
     pub conditions: usize,
     pub node: u32,
+    pub groups: u64,
 }
 
 pub struct Scanned {

@@ -3,16 +3,22 @@
 ghost use mathlib.Core.Bool.{cond};
 ghost use mathlib.Core.Path.{_≡_};
 ghost use Prim.Native.Nat.{_≤_};
+ghost use Rattle.words.specs.Fields.{groupNumber};
 ghost use Rattle.words.specs.Tests.{indicator};
 ghost use Rattle.words.specs.Scan.{count};
+ghost use Rattle.bitset.specs.Code.Members.{has};
 ghost use Rattle.job.specs.Children.{wordChildren};
 ghost use Rattle.job.specs.Follow.{mayFollow};
-ghost use Rattle.job.specs.Rules.{wordRefusalOf, limited, headRefusal, knownRefusal, actionRefusal, lawRefusal, sameFluent, formulaShape, formulaRange, formulaRefusal, nodeShape, nodeRange, nodeRefusal, memberRefusal, conditionShape, conditionRange, conditionRefusal, shiftWindowRefusal};
+ghost use Rattle.job.specs.Parts.{listsIn};
+ghost use Rattle.job.specs.Rules.{wordRefusalOf, limited, headRefusal, knownRefusal, actionRefusal, lawRefusal, sameFluent, formulaShape, formulaRange, formulaRefusal, nodeShape, nodeRange, nodeRefusal, memberRefusal, conditionShape, conditionRange, conditionRefusal, shiftWindowRefusal, groupRefusal, groupMemberRefusal, sameEntry};
 use crate::ACTION;
 use crate::CONDITION;
 use crate::FORMULA;
+use crate::GROUP;
+use crate::GROUP_MEMBER;
 use crate::HEAD;
 use crate::KNOWN;
+use crate::LAST_GROUP;
 use crate::LAST_MOMENT;
 use crate::LAW;
 use crate::MAX_ACTIONS;
@@ -64,11 +70,13 @@ pub fn may_follow(k: u32, v: u32) -> bool
         KNOWN => (HEAD <= v) & (v <= KNOWN),
         ACTION => (HEAD <= v) & (v <= LAW),
         LAW => (ACTION <= v) & (v <= LAW),
-        FORMULA => ((HEAD <= v) & (v <= FORMULA)) | (v == SHIFT_WINDOW),
-        NODE => ((HEAD <= v) & (v <= CONDITION)) | (v == SHIFT_WINDOW),
+        FORMULA => ((HEAD <= v) & (v <= FORMULA)) | ((SHIFT_WINDOW <= v) & (v <= GROUP_MEMBER)),
+        NODE => ((HEAD <= v) & (v <= CONDITION)) | ((SHIFT_WINDOW <= v) & (v <= GROUP_MEMBER)),
         MEMBER => (v == TASK_SET) | (v == MEMBER),
         CONDITION => (MEMBER <= v) & (v <= CONDITION),
         SHIFT_WINDOW => ((ACTION <= v) & (v <= LAW)) | (v == SHIFT_WINDOW),
+        GROUP => ((ACTION <= v) & (v <= LAW)) | ((SHIFT_WINDOW <= v) & (v <= GROUP)),
+        GROUP_MEMBER => (GROUP <= v) & (v <= GROUP_MEMBER),
         _ => false,
     }
 }
@@ -252,6 +260,44 @@ pub fn shift_window(actions: usize, w: u32) -> u32
     let range = (words::shift_window_action(w) < actions)
         & (words::shift_window_from(w) <= words::shift_window_to(w));
     word_refusal_of(spare, range, true)
+}
+
+// `groups` is the set of those declared.
+pub fn group(groups: u64, w: u32) -> u32
+    ensures { λ r. ⌜ r ≡ groupRefusal (has groups (groupNumber w)) w ⌝ }
+{
+    let spare = words::group_spare(w);
+    let g = words::group_number(w);
+    word_refusal_of(spare, g <= LAST_GROUP, !bitset::has(groups, g as u32))
+}
+
+pub fn group_member(actions: usize, groups: u64, listed: bool, w: u32) -> u32
+    ensures { λ r. ⌜ r ≡ groupMemberRefusal actions (has groups (groupNumber w)) listed w ⌝ }
+{
+    let spare = words::group_spare(w);
+    let g = words::group_number(w);
+    let range = (g <= LAST_GROUP)
+        & bitset::has(groups, g as u32)
+        & (words::group_action(w) < actions);
+    word_refusal_of(spare, range, !listed)
+}
+
+// Whether a word lists action `a` in group `g`.
+fn lists_in(g: usize, a: usize, v: u32) -> bool
+    ensures { λ r. ⌜ r ≡ listsIn g a v ⌝ }
+{
+    (words::kind_of(v) == GROUP_MEMBER)
+        & ((g == words::group_number(v)) & (a == words::group_action(v)))
+}
+
+// Whether the word `v` lists what `w` lists.
+pub fn same_entry(head: u32, w: u32, v: u32) -> bool
+    ensures { λ r. ⌜ r ≡ sameEntry head w v ⌝ }
+{
+    if words::kind_of(w) == GROUP_MEMBER {
+        return lists_in(words::group_number(w), words::group_action(w), v);
+    }
+    same_fluent(head, w, v)
 }
 
 // How often a word names node `v` as a child.

@@ -1,10 +1,13 @@
 // The words in turn: the refusal of each by the rule of its kind, at what the scan keeps of the words before.
+ghost use mathlib.Core.Bool.{_||_};
 ghost use mathlib.Core.Path.{_≡_};
 ghost use Prim.Native.Nat.{_+_, _<_, _≤_};
 ghost use lib.ListN.{length};
 ghost use Rattle.words.specs.Scan.{any};
 ghost use Rattle.answers.specs.Rows.{firstOf};
-ghost use Rattle.job.specs.Rules.{sameFluent};
+ghost use Rattle.bitset.specs.Code.Members.{has, IsSetOf};
+ghost use Rattle.job.specs.Rules.{sameEntry};
+ghost use Rattle.job.specs.Parts.{isGroup};
 ghost use Rattle.job.specs.Before.{before, since};
 ghost use Rattle.job.specs.Follow.{predecessor};
 ghost use Rattle.job.specs.Refusal.{refusalOf};
@@ -12,6 +15,8 @@ ghost use Rattle.job.specs.Code.State.{Tied};
 use crate::ACTION;
 use crate::CONDITION;
 use crate::FORMULA;
+use crate::GROUP;
+use crate::GROUP_MEMBER;
 use crate::HEAD;
 use crate::KNOWN;
 use crate::LAW;
@@ -39,7 +44,7 @@ fn predecessor(job: &[u32], i: usize) -> u32
 // Whether a word since the last one of kind `k` lists what `w` lists.
 fn listed(job: &[u32], i: usize, k: u32, head: u32, w: u32) -> bool
     requires { ⌜ i ≤ length (now job) ⌝ }
-    ensures { λ r. ⌜ r ≡ any (sameFluent head w) (since k (before (now (job .entry)) i)) ⌝ }
+    ensures { λ r. ⌜ r ≡ any (sameEntry head w) (since k (before (now (job .entry)) i)) ⌝ }
 {
     let mut j = i;
     while 0 < j {
@@ -47,7 +52,7 @@ fn listed(job: &[u32], i: usize, k: u32, head: u32, w: u32) -> bool
         if words::kind_of(v) == k {
             return false;
         }
-        if rules::same_fluent(head, w, v) {
+        if rules::same_entry(head, w, v) {
             return true;
         }
         j -= 1;
@@ -75,8 +80,20 @@ fn word_refusal(job: &[u32], i: usize, s: State) -> u32
         MEMBER => rules::member(s.nodes, s.members, w),
         CONDITION => rules::condition(s.formulas, s.members, s.conditions, w),
         SHIFT_WINDOW => rules::shift_window(s.actions, w),
+        GROUP => rules::group(s.groups, w),
+        GROUP_MEMBER => rules::group_member(s.actions, s.groups, listed(job, i, GROUP, head, w), w),
         _ => 2,
     }
+}
+
+// The groups declared, with that of the word `w` if it declares one.
+fn with_group(groups: u64, w: u32) -> u64
+    ensures { λ r. ⌜ IsSetOf r (λ g. isGroup g w || has groups g) ⌝ }
+{
+    if words::kind_of(w) != GROUP {
+        return groups;
+    }
+    bitset::union(bitset::single(words::group_number(w) as u32), groups)
 }
 
 // The state after one more word.
@@ -92,6 +109,7 @@ fn advance(job: &[u32], i: usize, s: State) -> State
     let members = rules::pick_count(k == NODE, 0, s.members + rules::one_if(k == MEMBER));
     let conditions = rules::pick_count(k == NODE, 0, s.conditions + rules::one_if(k == CONDITION));
     let node = rules::pick_word(k == NODE, w, s.node);
+    let groups = with_group(s.groups, w);
     State {
         actions,
         formulas,
@@ -99,6 +117,7 @@ fn advance(job: &[u32], i: usize, s: State) -> State
         members,
         conditions,
         node,
+        groups,
     }
 }
 
@@ -114,6 +133,7 @@ pub fn scan_words(job: &[u32]) -> Scanned
         members: 0,
         conditions: 0,
         node: 0,
+        groups: 0,
     };
     let mut i = 0;
     while i < job.len() {

@@ -11,7 +11,7 @@ use Rattle.words.specs.Fields.{startMoment, startWord}
 use Rattle.words.specs.Scan.{any}
 use Rattle.words.specs.Lists.{Each, each-none, each-more, pairs-none, sorted}
 use Rattle.words.proofs.Choices.{cond-when}
-use Rattle.words.proofs.Lists.{each-map, any-none, none-any}
+use Rattle.words.proofs.Lists.{each-map, small-at, any-none, none-any}
 use Rattle.words.proofs.Insert.{each-insert}
 use Rattle.answers.specs.Rows.{row, refusalAt}
 use Rattle.answers.proofs.Rows.{or-none, row-none, at-number}
@@ -37,11 +37,6 @@ pub record Passing (job : List ℕ) (T : Trial) : Type 0 where
 or-false : (a b : Bool) → (a || b) ≡ false → (a ≡ false) × (b ≡ false)
 or-false true b e = absurd (true≢false e)
 or-false false b e = (refl, e)
-
-pub small-at : {S : List ℕ} → Each (λ s. s < 2 ^ 32) S → (i : ℕ) → getD S i 0 < 2 ^ 32
-small-at each-none i = omega arith
-small-at (each-more p a) zero = p
-small-at (each-more p a) (suc i) = small-at a i
 
 -- there are 4,096 lawful starts at most
 pub lawful-few : {job S : List ℕ} → Each (λ s. s < 2 ^ 32) S → Lawful job S → length S ≤ 4096

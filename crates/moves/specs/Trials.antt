@@ -12,7 +12,7 @@ use Rattle.answers.specs.Rows.{row, firstRow, refusalAt}
 use Rattle.job.specs.Parts.{actions, lastMoment, duration}
 use Rattle.job.specs.Refusal.{jobRefusal}
 use Rattle.history.specs.Actions.{inHand}
-use Rattle.starts.specs.Rows.{clashing, mayStart, unmetAt, startsRefusal}
+use Rattle.starts.specs.Rows.{clashing, mayStart, overLimit, unmetAt, startsRefusal}
 
 pub record Trial : Type 0 where
   pub moment : ℕ
@@ -42,7 +42,7 @@ busy job u a s = eqb (startAction s) a && inHand job u s
 
 -- starting action a now: 6, no such action; 7, it would end after n; 8, it is in hand, also where it was started at this moment; 9, it clashes
 -- with a start of the trial, both in hand at some moment, also with one of this moment that has a higher action number; 15, it is outside its
--- shift windows; 10, its needs are not known now
+-- shift windows; 16, with it, counted with all starts of the trial, a group exceeds its limit now; 10, its needs are not known now
 unfoldable pub startRefusal : List ℕ → Trial → ℕ → Refusal
 startRefusal job T a =
     firstRow (
@@ -51,6 +51,7 @@ startRefusal job T a =
     ∷ row (any (busy job (T .moment) a) (T .starts)) 8 0
     ∷ row (any (λ s. clashing job s (startWord (T .moment) a)) (T .starts)) 9 0
     ∷ row (not (mayStart job (T .moment) a)) 15 0
+    ∷ row (overLimit job (startWord (T .moment) a ∷ T .starts) (startWord (T .moment) a)) 16 0
     ∷ row (unmetAt job (T .starts) (T .moment) a) 10 0
     ∷ [])
 

@@ -37,7 +37,7 @@ pub starts-number : (job starts : List ℕ) → startsRefusal job starts .number
 unfolding startsRefusal
 starts-number job starts =
     rows-all (λ r. r .number < 2 ^ 8) (length starts) (omega arith) (λ number i h l. h) (startRows job starts)
-    (omega arith, (omega arith, (omega arith, (omega arith, (omega arith, (omega arith, tt))))))
+    (omega arith, (omega arith, (omega arith, (omega arith, (omega arith, (omega arith, (omega arith, tt)))))))
 
 module _ (job starts : List ℕ) (words : (i : ℕ) → getD starts i 0 < 2 ^ 32) where
   few : (n : ℕ) → firstOf (numbered 6 (wrongWord job starts)) n .number ≡ 0 → n ≤ 4096
@@ -58,4 +58,4 @@ module _ (job starts : List ℕ) (words : (i : ℕ) → getD starts i 0 < 2 ^ 32
       (λ e.
       let l = few (length starts) e in
       rows-all Fitting (length starts) passed-fits (λ number i h m. refusal-fits h (omega arith)) (drop 1 (startRows job starts))
-      (omega arith, (omega arith, (omega arith, (omega arith, (omega arith, tt))))))
+      (omega arith, (omega arith, (omega arith, (omega arith, (omega arith, (omega arith, tt)))))))

@@ -11,7 +11,7 @@ use Rattle.words.proofs.Choices.{both-true}
 use Rattle.answers.specs.declared.Refusal.{Refusal}
 use Rattle.answers.specs.Rows.{refusal, passed, firstRefusal, refusalAt, firstOf}
 use Rattle.answers.proofs.Rows.{or-none, first-start, first-more, first-found, first-none, or-assoc}
-use Rattle.starts.specs.Rows.{outsideWindows, needsUnmet, startRows, numbered, rowsRefusal, startsRefusal}
+use Rattle.starts.specs.Rows.{outsideWindows, groupExceeded, needsUnmet, startRows, numbered, rowsRefusal, startsRefusal}
 use Rattle.starts.specs.Code.Given.{timeRows}
 
 -- a row's loop at word i of n: it fits none of the words before
@@ -98,12 +98,6 @@ module _ (number : ℕ) (test : ℕ → Bool) (n : ℕ) where
           cases true e = at (eqb (f n) 0) refl
           cases false e = rw e
 
--- two rows
-rows-two : (k : ℕ) (test : ℕ → Bool) (m : ℕ) (test' : ℕ → Bool) (n : ℕ)
-    → rowsRefusal ((k, test) ∷ (m, test') ∷ []) n ≡ firstRefusal (firstOf (numbered k test) n) (firstOf (numbered m test') n)
-unfolding rowsRefusal
-rows-two k test m test' n = ap (firstRefusal (firstOf (numbered k test) n)) (sym (rows-last m test' n))
-
 -- the first k rows, and then the others
 pub rows-split : (k : ℕ) (rows : List (ℕ × (ℕ → Bool))) (n : ℕ)
     → rowsRefusal rows n ≡ firstRefusal (rowsRefusal (take k rows) n) (rowsRefusal (drop k rows) n)
@@ -114,24 +108,31 @@ rows-split (suc k) (row ∷ rest) n =
     let first = firstOf (numbered (row .0) (row .1)) n in
     ap (firstRefusal first) (rows-split k rest n) ∙ or-assoc first (rowsRefusal (take k rest) n) (rowsRefusal (drop k rest) n)
 
--- rows 6 to 9, then row 15, then row 10
+-- rows 6 to 9, then 15, 16 and 10, one after the other
 module _ (job starts : List ℕ) where
-  pub starts-by-rows : startsRefusal job starts
-      ≡ firstRefusal (rowsRefusal (timeRows job starts) (length starts))
-      (firstRefusal (firstOf (numbered 15 (outsideWindows job starts)) (length starts)) (firstOf (numbered 10 (needsUnmet job starts)) (length starts)))
-  unfolding startsRefusal
-  starts-by-rows = rows-split 4 (startRows job starts) (length starts) ∙ ap (firstRefusal (rowsRefusal (timeRows job starts) (length starts))) last-two
+  abbrev pub rowAnswer : ℕ → (ℕ → Bool) → Refusal
+  rowAnswer number test = firstOf (numbered number test) (length starts)
+
+  abbrev laterAnswer : Refusal
+  laterAnswer =
+      firstRefusal (rowAnswer 15 (outsideWindows job starts))
+      (firstRefusal (rowAnswer 16 (groupExceeded job starts)) (rowAnswer 10 (needsUnmet job starts)))
+
+  pub starts-by-rows : startsRefusal job starts ≡ firstRefusal (rowsRefusal (timeRows job starts) (length starts)) laterAnswer
+  unfolding startsRefusal rowsRefusal
+  starts-by-rows = rows-split 4 (startRows job starts) (length starts) ∙ ap (firstRefusal (rowsRefusal (timeRows job starts) (length starts))) later
     where
-      last-two : rowsRefusal (drop 4 (startRows job starts)) (length starts)
-          ≡ firstRefusal (firstOf (numbered 15 (outsideWindows job starts)) (length starts)) (firstOf (numbered 10 (needsUnmet job starts)) (length starts))
-      last-two = rows-two 15 (outsideWindows job starts) 10 (needsUnmet job starts) (length starts)
+      later : rowsRefusal (drop 4 (startRows job starts)) (length starts) ≡ laterAnswer
+      later =
+          ap (λ (r : Refusal). firstRefusal (rowAnswer 15 (outsideWindows job starts)) (firstRefusal (rowAnswer 16 (groupExceeded job starts)) r))
+          (sym (rows-last 10 (needsUnmet job starts) (length starts)))
 
   -- rows 6 to 9, whose answer is r, fit a word; they fit none
   module _ {r : Refusal} (is : r ≡ rowsRefusal (timeRows job starts) (length starts)) where
     pub starts-found : (r .number ≡ 0 → ⊥) → r ≡ startsRefusal job starts
     starts-found h = rw (starts-by-rows, ← is, ne-eqb (r .number) 0 h)
 
-    pub starts-next : r .number ≡ 0 → {outside needs answer : Refusal} → answer ≡ firstRefusal outside needs
-        → outside ≡ firstOf (numbered 15 (outsideWindows job starts)) (length starts) → needs ≡ firstOf (numbered 10 (needsUnmet job starts)) (length starts)
+    pub starts-next : r .number ≡ 0 → {outside over needs rest answer : Refusal} → answer ≡ firstRefusal outside rest → rest ≡ firstRefusal over needs
+        → outside ≡ rowAnswer 15 (outsideWindows job starts) → over ≡ rowAnswer 16 (groupExceeded job starts) → needs ≡ rowAnswer 10 (needsUnmet job starts)
         → answer ≡ startsRefusal job starts
-    starts-next h e eo en = e ∙ rw (eo, en, starts-by-rows, ← is, eq-eqb (r .number) 0 h)
+    starts-next h e er eo eg en = e ∙ rw (er, eo, eg, en, starts-by-rows, ← is, eq-eqb (r .number) 0 h)

@@ -1,15 +1,19 @@
 -- Starts that no row fits, by the words themselves and not by their positions: one field a row, and two for row 6. `lawful`
 -- (proofs/Lawful.antt) is the law against the rows.
-use mathlib.Core.Bool.{true, false}
+use mathlib.Core.Bool.{Bool, true, false}
 use mathlib.Core.List.{List}
 use mathlib.Core.Logic.{_↔_}
 use mathlib.Core.Path.{_≡_}
-use Prim.Native.Nat.{ℕ, _≤_, _<_}
+use Prim.Native.Nat.{ℕ, _^_, _≤_, _<_}
 use Rattle.words.specs.Fields.{startMoment, startAction}
-use Rattle.job.specs.Parts.{lastMoment}
+use Rattle.job.specs.Parts.{lastMoment, limitOf, inGroup}
 use Rattle.history.specs.Actions.{finish}
 use Rattle.words.specs.Lists.{Each, Pairs}
-use Rattle.starts.specs.Rows.{isStart, restarts, clashing, mayStart, unmetAt, startsRefusal}
+use Rattle.starts.specs.Rows.{isStart, restarts, clashing, mayStart, inUse, unmetAt, startsRefusal}
+
+-- at each moment at most the limit of a group is in use
+abbrev pub Within : List ℕ → (ℕ → Bool) → ℕ → List ℕ → Type 0
+Within job group limit starts = (t : ℕ) → inUse job group starts t ≤ limit
 
 pub record Lawful (job starts : List ℕ) : Type 0 where
   pub words : Each (λ s. isStart job s ≡ true) starts
@@ -18,8 +22,9 @@ pub record Lawful (job starts : List ℕ) : Type 0 where
   pub apart : Pairs (λ s s'. restarts job s s' ≡ false) starts
   pub agree : Pairs (λ s s'. clashing job s s' ≡ false) starts
   pub inside : Each (λ s. mayStart job (startMoment s) (startAction s) ≡ true) starts
+  pub within : (g : ℕ) → g < 8 → Within job (inGroup job g) (limitOf job g) starts
   pub met : Each (λ s. unmetAt job starts (startMoment s) (startAction s) ≡ false) starts
 
--- no row fits exactly where the starts are lawful
+-- no row fits 32-bit words exactly where they are lawful starts
 abbrev pub LawfulExactly : Type 0
-LawfulExactly = (job starts : List ℕ) → startsRefusal job starts .number ≡ 0 ↔ Lawful job starts
+LawfulExactly = (job starts : List ℕ) → Each (λ s. s < 2 ^ 32) starts → startsRefusal job starts .number ≡ 0 ↔ Lawful job starts

@@ -1,4 +1,4 @@
--- The definitions that the contracts of `starts` cite: Rows (the rows on starts, 6 to 10 and 15), Code (what passes between functions); and Lawful
+-- The definitions that the contracts of `starts` cite: Rows (the rows on starts, 6 to 10, 15 and 16), Code (what passes between functions); and Lawful
 -- (starts that no row fits, by their words).
 pub mod Rows
 pub mod Lawful

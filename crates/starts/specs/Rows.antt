@@ -1,15 +1,16 @@
 -- The rows on starts: each is a test on (job, starts, position). `startRows` has them in their order.
 use mathlib.Core.Bool.{Bool, not, cond, _&&_, _||_}
 use mathlib.Core.List.{List, [], _∷_}
-use Prim.Native.Nat.{ℕ, _+_, _-_}
+use Prim.Native.Nat.{ℕ, suc, _+_, _-_}
 use lib.Dec.{eqb, leb, ltb}
-use lib.ListN.{getD, length}
+use lib.ListN.{getD, length, take}
 use Rattle.words.specs.Fields.{kind, fails, holds, fluentOf, roleOf, startMoment, startAction, startSpare, shiftWindowFrom, shiftWindowTo}
-use Rattle.words.specs.Scan.{any, anyBelow}
+use Rattle.words.specs.Scan.{any, anyBelow, filter}
 use Rattle.answers.specs.declared.Refusal.{Refusal}
 use Rattle.answers.specs.Rows.{passed, firstRefusal, firstOf}
-use Rattle.job.specs.Parts.{headWord, fluents, actions, lastMoment, duration, lawsOf, shiftWindowsOf}
+use Rattle.job.specs.Parts.{headWord, fluents, actions, lastMoment, duration, lawsOf, shiftWindowsOf, limitOf, inGroup}
 use Rattle.history.specs.Actions.{effect, finish, inHand}
+use Rattle.history.specs.Held.{heldAt}
 use Rattle.history.specs.Values.{valueAt}
 
 -- a word that is a start of the job; above the word before it, if there is one
@@ -66,6 +67,23 @@ mayStart job u a = eqb (length (shiftWindowsOf job a)) 0 || any (insideWindow (d
 unfoldable pub outsideWindows : List ℕ → List ℕ → ℕ → Bool
 outsideWindows job starts i = not (mayStart job (startMoment (getD starts i 0)) (startAction (getD starts i 0)))
 
+-- what is in use of a group (a resource of limited capacity) at moment t: how many starts in hand have an action in it. A group is any test
+-- on actions.
+abbrev pub inUse : List ℕ → (ℕ → Bool) → List ℕ → ℕ → ℕ
+inUse job group starts t = length (filter (λ s. group (startAction s)) (heldAt job starts t))
+
+-- the action of start s is in the group, of which, counting these starts, more than the limit is in use at the moment of s
+abbrev pub exceeds : List ℕ → (ℕ → Bool) → ℕ → List ℕ → ℕ → Bool
+exceeds job group limit counted s = group (startAction s) && ltb limit (inUse job group counted (startMoment s))
+
+-- some group of the job
+unfoldable pub overLimit : List ℕ → List ℕ → ℕ → Bool
+overLimit job counted s = anyBelow (λ g. exceeds job (inGroup job g) (limitOf job g) counted s) 8
+
+-- row 16: with it a group of its action exceeds its limit at its moment, counted with the words before it alone
+unfoldable pub groupExceeded : List ℕ → List ℕ → ℕ → Bool
+groupExceeded job starts i = overLimit job (take (suc i) starts) (getD starts i 0)
+
 -- row 10: needs not known, in the state of its own moment
 abbrev pub unmet : ℕ → (ℕ → ℕ) → ℕ → Bool
 unmet head value w =
@@ -86,6 +104,7 @@ startRows job starts =
     ∷ (8, inHandAlready job starts)
     ∷ (9, clashes job starts)
     ∷ (15, outsideWindows job starts)
+    ∷ (16, groupExceeded job starts)
     ∷ (10, needsUnmet job starts)
     ∷ []
 

@@ -17,7 +17,10 @@ use Rattle.answers.proofs.Rows.{or-none}
 use Rattle.facts.specs.Facts.{factsOf}
 use Rattle.facts.proofs.Lists.{facts-fit}
 use Rattle.starts.specs.Rows.{startsRefusal}
+use Rattle.answers.specs.declared.Refusal.{Refusal}
 use Rattle.theory.specs.Answers.{planRefusal}
+use Rattle.theory.specs.Code.Judged.{withRefusal, PassedUpto}
+use Rattle.theory.specs.declared.Plan.{Plan}
 use Rattle.job.proofs.WordPositions.{placed, positions-count}
 
 pub checked-refusal : (job : List ℕ) (r : Checked) → r ≡ checkedOf job → r .refusal ≡ jobRefusal job
@@ -31,6 +34,19 @@ job-clear job starts clear = or-none (jobRefusal job) (startsRefusal job starts)
 
 pub plan-formed : (job starts : List ℕ) → planRefusal job starts .number ≡ 0 → WellFormed job
 plan-formed job starts clear = well-formed job (job-clear job starts clear)
+
+-- it has passed them whatever refusal stands beside its tables
+pub passed-still : {job starts : List ℕ} {k : ℕ} {plan plan' : Plan} {r : Refusal} → PassedUpto job starts k plan → plan' ≡ withRefusal plan r
+    → PassedUpto job starts k plan'
+passed-still h is = rw is (record {
+  clear = h .clear;
+  index = h .index;
+  durations = h .durations;
+  effects = h .effects;
+  shifts = h .shifts;
+  groups = h .groups;
+  history = h .history;
+})
 
 -- it has at most 4,096 facts
 pub few-facts : (job starts : List ℕ) → planRefusal job starts .number ≡ 0 → length (factsOf job starts) ≤ 4096

@@ -3,7 +3,7 @@ ghost use mathlib.Core.Path.{_≡_};
 ghost use lib.ListN.{length};
 ghost use Rattle.facts.specs.Facts.{factsOf};
 ghost use Rattle.theory.specs.Answers.{bufferRefusal, planRefusal, factsRefusal, checkRefusal, checkAnswer, fillAnswer, written};
-ghost use Rattle.theory.specs.Code.Judged.{Judgeable, JudgedUpto, Judged};
+ghost use Rattle.theory.specs.Code.Judged.{withRefusal, Judgeable, JudgedUpto, Judged};
 use answers::Answer;
 use answers::Refusal;
 use answers::answer_of;
@@ -16,10 +16,13 @@ use history::durations;
 use history::effects;
 use job::Index;
 use job::check_job;
+use starts::Groups;
 use starts::Shifts;
 use starts::check_needs;
 use starts::check_times;
+use starts::groups_of;
 use starts::outside_windows;
+use starts::over_limit;
 use starts::shifts_of;
 use words::last_of;
 
@@ -29,13 +32,14 @@ pub mod moments;
 pub use arrays::arrays_of;
 
 // The refusal of the rows that were run, and of a plan that passes them the index of the job's words, the durations, effects and shift
-// windows of its actions, and its history.
+// windows of its actions, its groups, and its history.
 pub struct Plan {
     pub refusal: Refusal,
     pub index: Index,
     pub durations: [usize; 64],
     pub effects: [u8; 4096],
     pub shifts: Shifts,
+    pub groups: Groups,
     pub history: [u8; 4096],
 }
 
@@ -49,6 +53,10 @@ pub fn refused(refusal: Refusal, index: Index) -> Plan
         windowed: 0,
         inside: [0u64; 64],
     };
+    let groups = Groups {
+        limits: [0usize; 8],
+        members: [0u64; 8],
+    };
     let history = [0u8; 4096];
     Plan {
         refusal,
@@ -56,6 +64,28 @@ pub fn refused(refusal: Refusal, index: Index) -> Plan
         durations,
         effects,
         shifts,
+        groups,
+        history,
+    }
+}
+
+// The same plan with another refusal.
+pub fn with_refusal(plan: Plan, refusal: Refusal) -> Plan
+    ensures { λ r. ⌜ r ≡ withRefusal plan refusal ⌝ }
+{
+    let index = plan.index;
+    let durations = plan.durations;
+    let effects = plan.effects;
+    let shifts = plan.shifts;
+    let groups = plan.groups;
+    let history = plan.history;
+    Plan {
+        refusal,
+        index,
+        durations,
+        effects,
+        shifts,
+        groups,
         history,
     }
 }
@@ -70,20 +100,23 @@ pub fn judge_starts(job: &[u32], index: Index, starts: &[u32], last: usize) -> P
     let durations = durations(job, &places);
     let effects = effects(job, &places);
     let shifts = shifts_of(job, &durations);
+    let groups = groups_of(job);
     let times = check_times(job, &durations, &effects, starts);
     if times.number != 0 {
         return refused(times, index);
     }
     let history = history::history(job, &durations, &effects, starts, last);
     let outside = outside_windows(job, shifts, starts);
+    let over = over_limit(job, &durations, groups, starts);
     let unmet = check_needs(job, &places, &history, starts);
-    let refusal = first_refusal(outside, unmet);
+    let refusal = first_refusal(outside, first_refusal(over, unmet));
     Plan {
         refusal,
         index,
         durations,
         effects,
         shifts,
+        groups,
         history,
     }
 }
@@ -130,22 +163,10 @@ pub fn judge_facts(job: &[u32], starts: &[u32], facts: &[u32]) -> Plan
     if rows.number != 0 {
         return plan;
     }
-    let index = plan.index;
-    let durations = plan.durations;
-    let effects = plan.effects;
-    let shifts = plan.shifts;
     let history = plan.history;
     let mut wanted = [0u32; 4096];
     let n = fill_facts(job, &history, &mut wanted);
-    let refusal = compare_facts(facts, &wanted[..n]);
-    Plan {
-        refusal,
-        index,
-        durations,
-        effects,
-        shifts,
-        history,
-    }
+    with_refusal(plan, compare_facts(facts, &wanted[..n]))
 }
 
 pub fn check_plan(job: &[u32], starts: &[u32], facts: &[u32]) -> Answer

@@ -7,11 +7,12 @@ use Prim.Native.Nat.{ℕ, zero, suc, _+_, _≤_, _<_}
 use native.Mathlib.Numerals.{add-one}
 use native.Mathlib.Omega.{arith}
 use borrow.Author.Tests.{ne-eqb}
-use lib.Dec.{eqb}
+use lib.Dec.{eqb, ltb}
 use lib.ListN.{length, getD, take, drop}
 use lib.Seq.{take-suc}
 use Rattle.words.specs.Scan.{any, findOr, filter}
-use Rattle.words.specs.Lists.{Each, each-none, each-more}
+use Rattle.words.specs.Lists.{Each, each-none, each-more, insert}
+use Rattle.words.specs.Tests.{indicator}
 use Rattle.words.proofs.Choices.{cond-all}
 
 module _ (test : ℕ → Bool) where
@@ -54,6 +55,21 @@ module _ (test : ℕ → Bool) where
           → eqb (length (cond b (s ∷ filter test S) (filter test S))) 0 ≡ not (b || any test S)
       cases true e = ne-eqb (suc (length (filter test S))) 0 (λ z. omega arith)
       cases false e = e
+
+  -- each word kept passes, and all are kept where each passes
+  pub each-kept : (S : List ℕ) → Each (λ s. test s ≡ true) (filter test S)
+  unfolding filter
+  each-kept [] = each-none
+  each-kept (s ∷ S) = cases (test s) refl (each-kept S)
+    where
+      cases : (b : Bool) → test s ≡ b → Each (λ s. test s ≡ true) (filter test S) → Each (λ s. test s ≡ true) (cond b (s ∷ filter test S) (filter test S))
+      cases true e a = each-more e a
+      cases false e a = a
+
+  pub filter-all : {S : List ℕ} → Each (λ s. test s ≡ true) S → filter test S ≡ S
+  unfolding filter
+  filter-all each-none = refl
+  filter-all (each-more e a) = rw (e, filter-all a)
 
   pub filter-none : {S : List ℕ} → Each (λ s. test s ≡ false) S → filter test S ≡ []
   unfolding filter
@@ -119,8 +135,64 @@ filter-apart f g h (s ∷ S) = cases (f s) refl (g s) refl (filter-apart f g h S
     cases false e true q ih = omega arith
     cases false e false q ih = omega arith
 
+-- how many words pass
+module _ (test : ℕ → Bool) where
+  pub count-cons : (s : ℕ) (S : List ℕ) → length (filter test (s ∷ S)) ≡ indicator (test s) + length (filter test S)
+  unfolding filter
+  count-cons s S = cases (test s)
+    where
+      cases : (b : Bool) → length (cond b (s ∷ filter test S) (filter test S)) ≡ indicator b + length (filter test S)
+      cases true = omega arith
+      cases false = omega arith
+
+  -- of the first words of a list, of one word more of them, and of a list with one word put in
+  pub count-take : (n : ℕ) (S : List ℕ) → length (filter test (take n S)) ≤ length (filter test S)
+  unfolding filter
+  count-take zero S = omega arith
+  count-take (suc n) [] = omega arith
+  count-take (suc n) (s ∷ S) = omega (arith, count-cons s (take n S), count-cons s S, count-take n S)
+
+  pub count-next : (n : ℕ) (S : List ℕ) → n < length S → length (filter test (take (suc n) S)) ≡ indicator (test (getD S n 0)) + length (filter test (take n S))
+  unfolding filter
+  count-next n [] l = absurd (omega arith)
+  count-next zero (s ∷ S) l = count-cons s []
+  count-next (suc n) (s ∷ S) l = omega (arith, count-cons s (take (suc n) S), count-cons s (take n S), count-next n S (omega arith))
+
+  pub count-insert : (w : ℕ) (S : List ℕ) → length (filter test (insert w S)) ≡ indicator (test w) + length (filter test S)
+  unfolding insert
+  count-insert w [] = count-cons w []
+  count-insert w (s ∷ S) = cases (ltb w s) (count-insert w S)
+    where
+      cases : (t : Bool) → length (filter test (insert w S)) ≡ indicator (test w) + length (filter test S)
+          → length (filter test (cond t (w ∷ s ∷ S) (s ∷ insert w S))) ≡ indicator (test w) + length (filter test (s ∷ S))
+      cases true ih = count-cons w (s ∷ S)
+      cases false ih = omega (arith, count-cons s (insert w S), count-cons s S)
+
+-- as many or more, where each word that passes one test passes the other
+pub count-le : (f g : ℕ → Bool) {S : List ℕ} → Each (λ s. f s ≡ true → g s ≡ true) S → length (filter f S) ≤ length (filter g S)
+unfolding filter
+count-le f g each-none = omega arith
+count-le f g (each-more {s} {ss = S} h a) = cases (f s) (g s) h (count-le f g a)
+  where
+    cases : (b c : Bool) → (b ≡ true → c ≡ true) → length (filter f S) ≤ length (filter g S)
+        → length (cond b (s ∷ filter f S) (filter f S)) ≤ length (cond c (s ∷ filter g S) (filter g S))
+    cases true true h ih = omega arith
+    cases true false h ih = absurd (true≢false (sym (h refl)))
+    cases false true h ih = omega arith
+    cases false false h ih = ih
+
 -- a test on the words kept is one on all words
 module _ (test keeps : ℕ → Bool) where
+  pub filter-filter : (S : List ℕ) → filter test (filter keeps S) ≡ filter (λ s. keeps s && test s) S
+  unfolding filter
+  filter-filter [] = refl
+  filter-filter (s ∷ S) = cases (keeps s) (filter-filter S)
+    where
+      cases : (k : Bool) → filter test (filter keeps S) ≡ filter (λ s. keeps s && test s) S
+          → filter test (cond k (s ∷ filter keeps S) (filter keeps S)) ≡ cond (k && test s) (s ∷ filter (λ s. keeps s && test s) S) (filter (λ s. keeps s && test s) S)
+      cases true ih = rw ih
+      cases false ih = ih
+
   pub any-filter : (S : List ℕ) → any test (filter keeps S) ≡ any (λ s. keeps s && test s) S
   unfolding filter any
   any-filter [] = refl

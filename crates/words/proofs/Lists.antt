@@ -3,7 +3,7 @@
 use mathlib.Core.Bool.{Bool, true, false, _||_, true≢false}
 use mathlib.Core.List.{List, [], _∷_, _++_}
 use mathlib.Core.Path.{_≡_, refl}
-use Prim.Native.Nat.{ℕ, zero, suc, _+_, _≤_, _<_}
+use Prim.Native.Nat.{ℕ, zero, suc, _+_, _^_, _≤_, _<_}
 use native.Mathlib.Omega.{arith}
 use lib.ListN.{length, getD, take, replicate, length-append, length-replicate}
 use lib.Seq.{length-take-le, take-append-le}
@@ -31,6 +31,12 @@ module _ {R : ℕ → ℕ → Type 0} where
   pairs-at (pairs-more a p) zero j l m = absurd (omega arith)
   pairs-at (pairs-more a p) (suc i) zero l m = each-at a i (omega arith)
   pairs-at (pairs-more a p) (suc i) (suc j) l m = pairs-at p i j (omega arith) (omega arith)
+
+-- of 32-bit words, at any position
+pub small-at : {S : List ℕ} → Each (λ s. s < 2 ^ 32) S → (i : ℕ) → getD S i 0 < 2 ^ 32
+small-at each-none i = omega arith
+small-at (each-more p a) zero = p
+small-at (each-more p a) (suc i) = small-at a i
 
 pub each-map : {P Q : ℕ → Type 0} → ((s : ℕ) → P s → Q s) → {S : List ℕ} → Each P S → Each Q S
 each-map f each-none = each-none

@@ -3,7 +3,7 @@ ghost use mathlib.Core.Bool.{cond};
 ghost use mathlib.Core.Path.{_≡_};
 ghost use Prim.Native.Nat.{_<_, _≤_};
 ghost use lib.ListN.{length, drop};
-ghost use Rattle.words.specs.Fields.{kind, ofKind, form, spare, headSpare, actionNumber, actionSpare, isSet, memberSpare, startSpare, fluentsOf, actionsOf, lastOf, fluentOf, knownSpare, lawSpare, knownValue, durationOf, roleOf, makes, madeValue, formulaX, formulaY, atomFluent, atomSpare, nodeX, nodeY, nodeM, nodeN, memberNode, conditionFormula, conditionI, conditionJ, conditionM, conditionN, startMoment, startAction, startWord, factWord, readingWord, shiftWindowSpare, shiftWindowAction, shiftWindowFrom, shiftWindowTo};
+ghost use Rattle.words.specs.Fields.{kind, ofKind, form, spare, headSpare, actionNumber, actionSpare, isSet, memberSpare, startSpare, fluentsOf, actionsOf, lastOf, fluentOf, knownSpare, lawSpare, knownValue, durationOf, roleOf, makes, madeValue, formulaX, formulaY, atomFluent, atomSpare, nodeX, nodeY, nodeM, nodeN, memberNode, conditionFormula, conditionI, conditionJ, conditionM, conditionN, startMoment, startAction, startWord, factWord, readingWord, shiftWindowSpare, shiftWindowAction, shiftWindowFrom, shiftWindowTo, groupSpare, groupNumber, groupLimit, groupAction};
 ghost use Rattle.words.specs.Scan.{takeWhile};
 
 pub mod buffers;
@@ -35,6 +35,10 @@ pub const FACT: u32 = 10;
 pub const READING: u32 = 11;
 
 pub const SHIFT_WINDOW: u32 = 12;
+
+pub const GROUP: u32 = 13;
+
+pub const GROUP_MEMBER: u32 = 14;
 
 // The values of a fluent or a formula.
 pub const FAILS: u8 = 0;
@@ -369,6 +373,31 @@ pub fn shift_window_from(w: u32) -> usize
 
 pub fn shift_window_to(w: u32) -> usize
     ensures { λ r. ⌜ (r ≡ shiftWindowTo w) × (r < 64) ⌝ }
+{
+    (w % 64) as usize
+}
+
+// Group and action in a group: the group's number, its limit or the action, and whether the bits that both leave spare are zero.
+pub fn group_spare(w: u32) -> bool
+    ensures { λ r. ⌜ r ≡ groupSpare w ⌝ }
+{
+    (w >> 6) % (1 << 18) == 0
+}
+
+pub fn group_number(w: u32) -> usize
+    ensures { λ r. ⌜ (r ≡ groupNumber w) × (r < 16) ⌝ }
+{
+    ((w >> 24) % 16) as usize
+}
+
+pub fn group_limit(w: u32) -> usize
+    ensures { λ r. ⌜ (r ≡ groupLimit w) × (r < 64) ⌝ }
+{
+    (w % 64) as usize
+}
+
+pub fn group_action(w: u32) -> usize
+    ensures { λ r. ⌜ (r ≡ groupAction w) × (r < 64) ⌝ }
 {
     (w % 64) as usize
 }

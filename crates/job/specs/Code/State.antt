@@ -3,6 +3,9 @@ use mathlib.Core.List.{List}
 use mathlib.Core.Path.{_≡_}
 use Prim.Native.Nat.{ℕ}
 use Rattle.job.specs.Before.{countOfKind, since, latest}
+use Rattle.words.specs.Scan.{any}
+use Rattle.bitset.specs.Code.Members.{IsSetOf}
+use Rattle.job.specs.Parts.{isGroup}
 use Rattle.job.specs.declared.State.{State}
 
 pub record Tied (p : List ℕ) (s : State) : Type 0 where
@@ -12,3 +15,4 @@ pub record Tied (p : List ℕ) (s : State) : Type 0 where
   pub members : s .members ≡ countOfKind 7 (since 6 p)
   pub conditions : s .conditions ≡ countOfKind 8 (since 6 p)
   pub node : s .node ≡ latest 6 p
+  pub groups : IsSetOf (s .groups) (λ g. any (isGroup g) p)

@@ -5,7 +5,7 @@ use mathlib.Core.Path.{_≡_}
 use mathlib.Core.Logic.{_⊎_}
 use Prim.Native.Nat.{ℕ, suc, _<_, _≤_}
 use lib.ListN.{length, getD, drop}
-use Rattle.words.specs.Fields.{kind, form, fluentOf, formulaX, formulaY, atomFluent, nodeX, nodeM, nodeN, memberNode, conditionFormula, conditionI, conditionJ}
+use Rattle.words.specs.Fields.{kind, form, fluentOf, formulaX, formulaY, atomFluent, nodeX, nodeM, nodeN, memberNode, conditionFormula, conditionI, conditionJ, groupNumber}
 use Rattle.words.specs.Scan.{count}
 use Rattle.job.specs.Children.{nodeChildren}
 use Rattle.job.specs.Before.{before, named}
@@ -62,6 +62,8 @@ pub record WellFormed (job : List ℕ) : Type 0 where
   pub counted : total 3 job ≡ actions job
   pub lasting : (a : ℕ) → a < actions job → 0 < duration job a
   pub law : (i : ℕ) → i < length job → kind (getD job i 0) ≡ 4 → fluentOf (headWord job) (getD job i 0) < fluents job
+  pub group : (i : ℕ) → i < length job → kind (getD job i 0) ≡ 13 → groupNumber (getD job i 0) < 8
+  pub group-member : (i : ℕ) → i < length job → kind (getD job i 0) ≡ 14 → groupNumber (getD job i 0) < 8
   pub few-formulas : formulaCount job ≤ 64
   pub formula : (k : ℕ) → k < formulaCount job → FormulaFormed job k
   pub some-nodes : 0 < nodeCount job

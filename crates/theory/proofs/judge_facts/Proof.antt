@@ -9,9 +9,10 @@ use Rattle.facts.specs.Facts.{factsOf}
 use Rattle.facts.specs.Code.Written.{Filled}
 use Rattle.theory.specs.Answers.{planRefusal, factsRefusal}
 use Rattle.theory.specs.Code.Judged.{Passed}
+use Rattle.theory.specs.declared.Plan.{Plan}
 use Rattle.answers.proofs.Rows.{or-refused, or-passed}
 use Rattle.theory.proofs.Laws.{check-rows, filled-front}
-use Rattle.theory.proofs.Passing.{plan-formed, few-facts}
+use Rattle.theory.proofs.Passing.{plan-formed, few-facts, passed-still}
 use borrow.Author.Needs.{needs}
 use native.Mathlib.Omega.{arith}
 use Rattle.theory.proofs.judge_facts.Statement.{statement}
@@ -24,7 +25,7 @@ abbrev judged : tie.Else1 → tie.After-judge
 judged c = c .before .before .before
 
 abbrev passed : tie.After-wanted → tie.Else1
-passed c = c .before .before .before .before .before .before .before
+passed c = c .before .before .before
 
 abbrev ahead : tie.After-fill-facts → tie.Else1
 ahead c = passed (c .before)
@@ -63,15 +64,14 @@ returns c =
 
 returns-2 : tie.Need-returns-2
 returns-2 c =
-    let f = c .before .before .before in
+    let f = c .before .before .before .before in
     let s = entry (judged (ahead f)) in
     let facts = factsOf (s .args .job .now) (s .args .starts .now) in
     let fit = few-facts (s .args .job .now) (s .args .starts .now) (clear (ahead f)) in
     let same = filled-front (filled f) (omega arith) .0 in
-    let p = passing (ahead f) in
     record {
-      refusal = c .compare-facts .ensures ∙ ap (λ (l : List ℕ). factsRefusal (s .args .facts .now) l 0) same ∙ or-passed _ _ (clear (ahead f)) ∙ sym (check-rows (s .args .job .now) (s .args .starts .now) (s .args .facts .now));
-      passed = λ z. record { clear = p .clear; index = p .index; durations = p .durations; effects = p .effects; shifts = p .shifts; history = p .history };
+      refusal = ap (λ (r : Plan). r .refusal) (c .with-refusal .ensures) ∙ c .before .compare-facts .ensures ∙ ap (λ (l : List ℕ). factsRefusal (s .args .facts .now) l 0) same ∙ or-passed _ _ (clear (ahead f)) ∙ sym (check-rows (s .args .job .now) (s .args .starts .now) (s .args .facts .now));
+      passed = λ z. passed-still (passing (ahead f)) (c .with-refusal .ensures);
     }
 
 pub judge-facts-spec : {M : Type 1} → statement M
@@ -79,4 +79,4 @@ judge-facts-spec =
     tie.close
     (tie.spec (λ c κs. search needs) returns (λ c. search needs)
     (λ c κs. (plan-formed _ _ (clear (passed c)), omega arith)) (λ c. fits (c .before))
-    (λ c. sym (length-take-le _ _ (fits (c .before .before)))) (λ c κs. search needs) returns-2)
+    (λ c. sym (length-take-le _ _ (fits (c .before .before)))) (λ c κs. search needs) (λ c κs. search needs) returns-2)

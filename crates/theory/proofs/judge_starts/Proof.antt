@@ -1,4 +1,4 @@
--- `theory::judge_starts` meets its contract: rows 6 to 9 refuse, or they pass and rows 15 and 10 say the rest. Assumes nothing.
+-- `theory::judge_starts` meets its contract: rows 6 to 9 refuse, or they pass and rows 15, 16 and 10 say the rest. Assumes nothing.
 use mathlib.Core.Path.{_≡_, _∙_, ap}
 use Prim.Native.Nat.{ℕ, _<_, _^_}
 use native.Mathlib.Omega.{arith}
@@ -25,18 +25,21 @@ placed c = c .before .before .before .before .before
 words : (c : tie.After-places2) (i : ℕ) → getD (placed c .args .starts .now) i 0 < 2 ^ 32
 words c i = omega (arith, c .before .before .before .shared-slice-known2 .given i)
 
--- the three tables, one from the other, all from rows 6 to 9, and the entry from there
+-- the four tables, one from the other, all from rows 6 to 9, and the entry from there
 abbrev lasting : tie.After-effects → tie.After-durations
 lasting c = c .before .before
 
 abbrev making : tie.After-shifts-of → tie.After-effects
 making c = c .before .before
 
-abbrev windowed : tie.After-check-times → tie.After-shifts-of
-windowed c = c .before .before .before
+abbrev windowed : tie.After-groups-of → tie.After-shifts-of
+windowed c = c .before
+
+abbrev grouped : tie.After-check-times → tie.After-groups-of
+grouped c = c .before .before .before
 
 abbrev tabled : tie.After-check-times → tie.After-durations
-tabled c = lasting (making (windowed c))
+tabled c = lasting (making (windowed (grouped c)))
 
 abbrev timed : tie.After-check-times → tie.Start
 timed c = placed (tabled c .before)
@@ -45,8 +48,11 @@ timed c = placed (tabled c .before)
 abbrev told : tie.After-history → tie.Else1
 told c = c .before .before .before
 
-abbrev walked : tie.After-check-needs → tie.After-history
-walked c = c .before .before .before .before
+abbrev outside : tie.After-over-limit → tie.After-outside-windows
+outside c = c .before .before
+
+abbrev walked : tie.After-outside-windows → tie.After-history
+walked c = c .before
 
 -- row 6 fits no start
 starting : (c : tie.Else1) → let s = timed (c .before .before) in StartsFormed (s .args .job .now) (s .args .starts .now)
@@ -69,7 +75,7 @@ effects-requires c κs =
 
 check-times-requires : tie.Need-check-times-requires
 check-times-requires c κs =
-    let e = making (c .before .before) in
+    let e = making (windowed (c .before .before)) in
     record {
       formed = well-formed _ (placed (lasting e .before) .pre .good);
       lasts = lasting e .durations .ensures;
@@ -90,7 +96,7 @@ history-requires c κs =
     let small = words (tabled times .before) in (
       record {
         well = well-formed _ (timed times .pre .good);
-        tables = record { durations = tabled times .durations .ensures; effects = making (windowed times) .effects .ensures };
+        tables = record { durations = tabled times .durations .ensures; effects = making (windowed (grouped times)) .effects .ensures };
         named = named (starting passing);
       },
       ascending (starting passing) small,
@@ -99,11 +105,23 @@ history-requires c κs =
     )
 
 outside-windows-requires : tie.Need-outside-windows-requires
-outside-windows-requires c κs = let passing = told c in (windowed (passing .before .before) .shifts-of .ensures, starting passing)
+outside-windows-requires c κs = let passing = told c in (windowed (grouped (passing .before .before)) .shifts-of .ensures, starting passing)
+
+over-limit-requires : tie.Need-over-limit-requires
+over-limit-requires c κs =
+    let passing = told (walked (c .before)) in
+    let times = passing .before .before in
+    let small = words (tabled times .before) in
+    record {
+      timed = record { formed = well-formed _ (timed times .pre .good); lasts = tabled times .durations .ensures; words = starting passing };
+      table = grouped times .groups-of .ensures;
+      ascends = ascending (starting passing) small;
+      few = few-words _ _ small _ (starting passing .right);
+    }
 
 check-needs-requires : tie.Need-check-needs-requires
 check-needs-requires c κs =
-    let h = c .before .before .before in
+    let h = walked (outside (c .before .before)) in
     let passing = told h in
     let s = timed (passing .before .before) in
     record {
@@ -117,19 +135,24 @@ check-needs-requires c κs =
 
 returns-2 : tie.Need-returns-2
 returns-2 c =
-    let needs = c .before in
-    let h = walked needs in
+    let needs = c .before .before in
+    let over = needs .before .before .before in
+    let h = walked (outside over) in
     let passing = told h in
     let times = passing .before .before in
     record {
-      refusal = starts-next _ _ (times .check-times .ensures) (passing .if1 .left) (c .first-refusal .ensures) (needs .before .before .before .outside-windows .ensures) (needs .check-needs .ensures)
+      refusal = starts-next _ _ (times .check-times .ensures) (passing .if1 .left) (c .first-refusal2 .ensures) (c .before .first-refusal .ensures)
+          (outside over .outside-windows .ensures)
+          (over .over-limit .ensures)
+          (needs .check-needs .ensures)
           ∙ starts-rows (timed times);
       passed = λ z. record {
         clear = z;
         index = timed times .pre .index;
         durations = tabled times .durations .ensures;
-        effects = making (windowed times) .effects .ensures;
-        shifts = windowed times .shifts-of .ensures;
+        effects = making (windowed (grouped times)) .effects .ensures;
+        shifts = windowed (grouped times) .shifts-of .ensures;
+        groups = grouped times .groups-of .ensures;
         history = h .history .ensures;
       };
     }
@@ -137,5 +160,6 @@ returns-2 c =
 pub judge-starts-spec : {M : Type 1} → statement M
 judge-starts-spec =
     tie.close
-    (tie.spec durations-requires effects-requires (λ c κs. lasting (c .before) .durations .ensures) check-times-requires (λ c κs. search needs) returns
-    history-requires outside-windows-requires check-needs-requires (λ c κs. search needs) returns-2)
+    (tie.spec durations-requires effects-requires (λ c κs. lasting (c .before) .durations .ensures)
+    (λ c κs. well-formed _ (placed (lasting (making c) .before) .pre .good)) check-times-requires (λ c κs. search needs) returns
+    history-requires outside-windows-requires over-limit-requires check-needs-requires (λ c κs. search needs) (λ c κs. search needs) returns-2)

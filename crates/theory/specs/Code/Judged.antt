@@ -11,17 +11,31 @@ use Rattle.job.specs.Refusal.{jobRefusal}
 use Rattle.job.specs.Code.Index.{checkedOf}
 use Rattle.history.specs.Code.Tables.{Durations, Effects, HistoryUpto}
 use Rattle.starts.specs.Code.ShiftSets.{ShiftTable}
+use Rattle.starts.specs.Code.GroupTable.{GroupTable}
 use Rattle.theory.specs.Answers.{planRefusal}
 use Rattle.theory.specs.declared.Plan.{Plan}
 
+-- the same plan with another refusal
+abbrev pub withRefusal : Plan → Refusal → Plan
+withRefusal plan r = record {
+  refusal = r;
+  index = plan .index;
+  durations = plan .durations;
+  effects = plan .effects;
+  shifts = plan .shifts;
+  groups = plan .groups;
+  history = plan .history;
+}
+
 -- of a plan that passes the rows of its job and its starts: the index of its job's words, the durations, effects and shift windows of its
--- actions, its history up to moment k; the same with the whole history
+-- actions, its groups, its history up to moment k; the same with the whole history
 pub record PassedUpto (job starts : List ℕ) (k : ℕ) (plan : Plan) : Type 0 where
   pub clear : planRefusal job starts .number ≡ 0
   pub index : plan .index ≡ checkedOf job .index
   pub durations : Durations job (plan .durations)
   pub effects : Effects job (plan .effects)
   pub shifts : ShiftTable job (plan .shifts)
+  pub groups : GroupTable job (plan .groups)
   pub history : HistoryUpto job starts k (plan .history)
 
 abbrev pub Passed : List ℕ → List ℕ → Plan → Type 0

@@ -1,6 +1,8 @@
 -- `job::scan::advance` meets its contract, field by field: what one word more makes of each fact. Assumes nothing.
+use mathlib.Core.Path.{_∙_}
 use native.Mathlib.Omega.{arith}
-use Rattle.job.proofs.Before.{count-before, count-since, count-more, count-since-more, latest-more}
+use Rattle.job.specs.Parts.{isGroup}
+use Rattle.job.proofs.Before.{count-before, count-since, count-more, count-since-more, latest-more, any-more}
 use borrow.Author.Needs.{needs}
 use Rattle.job.proofs.scan.advance.Statement.{statement}
 use Rattle.job.proofs.scan.advance.Tie as tie
@@ -35,7 +37,8 @@ add-pick-count-2 c = let s = from-conditions (c .before) in omega (arith, count-
 
 returns : tie.Need-returns
 returns c =
-    let five = c .before .before .before in
+    let last = c .before in
+    let five = last .before .before .before in
     let four = five .before .before .before in
     let three = four .before .before in
     let two = three .before .before in
@@ -49,8 +52,9 @@ returns c =
       formulas = omega (arith, s .pre .1, rw k at (two .one-if2 .ensures .0), count-more job i 5);
       nodes = omega (arith, s .pre .1, rw k at (three .one-if3 .ensures .0), count-more job i 6);
       members = rw (count-since-more job i 7 6, ← k, ← (s .pre .1 .members), ← (four .one-if4 .ensures .0)) (five .before .pick-count .ensures);
-      conditions = rw (count-since-more job i 8 6, ← k, ← (s .pre .1 .conditions), ← (five .one-if5 .ensures .0)) (c .before .pick-count2 .ensures);
-      node = rw (latest-more job i 6, ← k, ← (s .pre .1 .node)) (c .pick-word .ensures);
+      conditions = rw (count-since-more job i 8 6, ← k, ← (s .pre .1 .conditions), ← (five .one-if5 .ensures .0)) (last .before .pick-count2 .ensures);
+      node = rw (latest-more job i 6, ← k, ← (s .pre .1 .node)) (last .pick-word .ensures);
+      groups = λ g. c .with-group .ensures g ∙ rw (any-more job i (isGroup g), s .pre .1 .groups g);
     }
 
 pub advance-spec : {M : Type 1} → statement M
@@ -59,4 +63,4 @@ advance-spec =
     (tie.spec (λ c. search needs) (λ c. search needs) (λ c κs. search needs) (λ c κs. search needs)
     (λ c. let s = from-actions (c .before) in omega (arith, count-before 3 (s .args .job .now) (s .args .i)))
     (λ c κs. search needs) add-formulas (λ c κs. search needs) add-nodes (λ c κs. search needs) add-pick-count (λ c κs. search needs)
-    (λ c κs. search needs) add-pick-count-2 (λ c κs. search needs) (λ c κs. search needs) returns)
+    (λ c κs. search needs) add-pick-count-2 (λ c κs. search needs) (λ c κs. search needs) (λ c κs. search needs) returns)

@@ -5,7 +5,7 @@ use Prim.Native.Nat.{_≤_}
 use borrow.Author.Tests.{eq-eqb, ne-eqb}
 use native.Mathlib.Omega.{arith}
 use lib.ListN.{length}
-use Rattle.job.specs.Rules.{sameFluent}
+use Rattle.job.specs.Rules.{sameEntry}
 use Rattle.words.specs.Scan.{any}
 use Rattle.job.specs.Before.{before, since}
 use Rattle.job.proofs.Before.{since-any, since-none}
@@ -14,7 +14,7 @@ use Rattle.job.proofs.scan.listed.Tie as tie
 
 abbrev Inv-loop : tie.InvT-loop
 Inv-loop job i k head w j₀ j =
-    (j ≤ length job) × (any (sameFluent head w) (since k (before job i)) ≡ any (sameFluent head w) (since k (before job j)))
+    (j ≤ length job) × (any (sameEntry head w) (since k (before job i)) ≡ any (sameEntry head w) (since k (before job j)))
 
 abbrev μ-loop : tie.MeasureT-loop
 μ-loop job i k head w j₀ j = j
@@ -22,7 +22,7 @@ abbrev μ-loop : tie.MeasureT-loop
 abbrev turn : tie.After-kind-of Inv-loop μ-loop → tie.At-loop Inv-loop μ-loop
 turn c = c .before .before .before
 
-abbrev inside : tie.After-same-fluent Inv-loop μ-loop → tie.In-loop Inv-loop μ-loop
+abbrev inside : tie.After-same-entry Inv-loop μ-loop → tie.In-loop Inv-loop μ-loop
 inside c = c .before .before .before .before
 
 returns : tie.Need-returns Inv-loop μ-loop
@@ -37,7 +37,7 @@ returns-2 c =
       since-any,
       inside (c .before) .loop-test .taken,
       ne-eqb _ _ (λ e. c .before .before .if1 .left (c .before .before .before .kind-of .ensures .0 ∙ e)),
-      sym (c .before .same-fluent .ensures) ∙ c .if2 .taken,
+      sym (c .before .same-entry .ensures) ∙ c .if2 .taken,
     )
 
 loop-again : tie.Need-loop-again Inv-loop μ-loop
@@ -48,7 +48,7 @@ loop-again c = (
     since-any,
     inside (c .before) .loop-test .taken,
     ne-eqb _ _ (λ e. c .before .before .if1 .left (c .before .before .before .kind-of .ensures .0 ∙ e)),
-    sym (c .before .same-fluent .ensures) ∙ c .if2 .left,
+    sym (c .before .same-entry .ensures) ∙ c .if2 .left,
   ),
 )
 

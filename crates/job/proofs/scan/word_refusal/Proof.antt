@@ -5,6 +5,8 @@ use Prim.Native.Nat.{ℕ}
 use native.Mathlib.Omega.{arith}
 use borrow.Author.Needs.{needs}
 use borrow.Author.Tests.{not-true, not-false, ne-eqb}
+use lib.ListN.{getD}
+use Rattle.words.specs.Fields.{groupNumber}
 use Rattle.job.specs.Refusal.{refusalOf}
 use Rattle.job.proofs.Refusal.{ruled, may, may-not}
 use Rattle.job.proofs.scan.word_refusal.Statement.{statement}
@@ -31,9 +33,9 @@ returns c =
     (may-not (s .args .job .now) (s .args .i) _ (sym (c .before .before .before .kind-of .ensures .0))
     (rw (← (c .before .before .predecessor .ensures)) (sym (c .before .may-follow .ensures) ∙ not-true _ (c .if1 .taken))))
 
-returns-11 : tie.Need-returns-11
-returns-11 c =
-    let (((((((((rest, not-1), not-2), not-3), not-4), not-5), not-6), not-7), not-8), not-12) = c .match .rest in
+returns-13 : tie.Need-returns-13
+returns-13 c =
+    let (((((((((((rest, not-1), not-2), not-3), not-4), not-5), not-6), not-7), not-8), not-12), not-13), not-14) = c .match .rest in
     sym
     (passed (c .before) _ refl
     ∙ rw (
@@ -46,6 +48,8 @@ returns-11 c =
       ne-eqb _ 7 not-7,
       ne-eqb _ 8 not-8,
       ne-eqb _ 12 not-12,
+      ne-eqb _ 13 not-13,
+      ne-eqb _ 14 not-14,
     ))
 
 pub word-refusal-spec : {M : Type 1} → statement M
@@ -53,7 +57,8 @@ word-refusal-spec =
     tie.close
     (tie.spec (λ c. search needs) (λ c. search needs) (λ c. omega arith) (λ c κs. search needs) (λ c κs. omega arith) (λ c κs. search needs) returns
     (λ c κs. search needs) (λ c κs. search needs) (λ c κs. search needs) (λ c κs. search needs) (λ c κs. search needs) (λ c κs. search needs)
-    (λ c κs. search needs) (λ c κs. search needs) (λ c κs. search needs) (λ c κs. search needs) (λ c κs. search needs)
+    (λ c κs. search needs) (λ c κs. search needs) (λ c κs. search needs) (λ c κs. search needs) (λ c κs. search needs) (λ c κs. search needs)
+    (λ c κs. search needs) (λ c κs. search needs)
     (λ c. rw (passed (c .before .before) 1 (c .before .match .keys1)) (c .head .ensures))
     (λ c. rw (passed (c .before .before .before) 2 (c .before .before .match .keys2), ← (c .before .listed .ensures)) (c .known .ensures))
     (λ c. rw (passed (c .before .before) 3 (c .before .match .keys3), ← (entry (c .before .before) .pre .1 .actions)) (c .action .ensures))
@@ -63,4 +68,6 @@ word-refusal-spec =
     (λ c. rw (passed (c .before .before) 7 (c .before .match .keys7), ← (entry (c .before .before) .pre .1 .nodes), ← (entry (c .before .before) .pre .1 .members)) (c .member .ensures))
     (λ c. rw (passed (c .before .before) 8 (c .before .match .keys8), ← (entry (c .before .before) .pre .1 .formulas), ← (entry (c .before .before) .pre .1 .members), ← (entry (c .before .before) .pre .1 .conditions)) (c .condition .ensures))
     (λ c. rw (passed (c .before .before) 12 (c .before .match .keys9), ← (entry (c .before .before) .pre .1 .actions)) (c .shift-window .ensures))
-    returns-11)
+    (λ c. rw (passed (c .before .before) 13 (c .before .match .keys10), ← (entry (c .before .before) .pre .1 .groups (groupNumber (getD (entry (c .before .before) .args .job .now) (entry (c .before .before) .args .i) 0)))) (c .group .ensures))
+    (λ c. rw (passed (c .before .before .before) 14 (c .before .before .match .keys11), ← (entry (c .before .before .before) .pre .1 .actions), ← (entry (c .before .before .before) .pre .1 .groups (groupNumber (getD (entry (c .before .before .before) .args .job .now) (entry (c .before .before .before) .args .i) 0))), ← (c .before .listed3 .ensures)) (c .group-member .ensures))
+    returns-13)
