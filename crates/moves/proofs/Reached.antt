@@ -1,40 +1,39 @@
 -- Every trial that passes is given by some moves from a fresh one: back over its moments and its starts, the last word first. Assumes nothing.
-use mathlib.Core.Bool.{true, false, cond, true≢false}
+use mathlib.Core.Bool.{true, false, cond}
 use mathlib.Core.List.{List, [], _∷_, _++_}
 use mathlib.Core.Path.{_≡_, refl, sym, _∙_}
 use Prim.Native.Nat.{ℕ, zero, suc, _+_, _^_, _<_, _≤_}
 use native.Mathlib.Decide.{decLt}
 use native.Mathlib.Numerals.{add-one}
 use native.Mathlib.Omega.{arith}
-use borrow.Author.Tests.{lt-leb, le-ltb, lt-ltb, eqb-true, eq-eqb}
-use lib.Dec.{eqb, leb, ltb}
+use borrow.Author.Tests.{lt-leb, eq-eqb}
+use lib.Dec.{eqb}
 use lib.ListN.{length, length-append}
 use Rattle.words.specs.Fields.{startMoment, startAction, startWord}
 use Rattle.words.specs.Lists.{Each, each-none, Pairs, insert}
-use Rattle.words.proofs.Choices.{is-false, both-true}
-use Rattle.words.proofs.Lists.{each-map, each-with, any-none, Last, no-last, the-last, last-of, each-init, each-last, pairs-init}
+use Rattle.words.proofs.Lists.{each-map, each-with, Last, no-last, the-last, last-of, each-init, each-last, pairs-init}
 use Rattle.words.proofs.Insert.{insert-last}
-use Rattle.job.specs.Parts.{actions, lastMoment, duration}
+use Rattle.job.specs.Parts.{lastMoment}
 use Rattle.job.specs.Refusal.{jobRefusal}
 use Rattle.job.specs.Code.WellFormed.{WellFormed}
 use Rattle.job.proofs.WellFormed.{well-formed}
 use Rattle.history.specs.Actions.{finish}
-use Rattle.starts.specs.Rows.{isStart, restarts, clashing, mayStart, unmetAt}
+use Rattle.starts.specs.Rows.{isStart, restarts, clashing, mayStart, unmetAt, startsRefusal}
 use Rattle.starts.specs.Lawful.{Lawful}
 use Rattle.starts.proofs.Needs.{unmet-before}
+use Rattle.starts.proofs.Lawful.{lawful}
 use Rattle.starts.proofs.StartsFormed.{Right, right-of, word-is, ordered}
-use Rattle.moves.specs.Trials.{Trial, Move, Start, On, fresh, busy, trialRefusal, startRefusal, onRefusal, ownRefusal, moveRefusal, moved, after, played}
+use Rattle.moves.specs.Trials.{Trial, Move, Start, On, fresh, trialRefusal, startRefusal, onRefusal, ownRefusal, moveRefusal, moved, after, played}
 use Rattle.moves.specs.Promises.{GivenBy, GivenExactly}
 use Rattle.moves.proofs.Passing.{Passing, passing, passes, played-passing}
+use Rattle.moves.proofs.Agree.{move-agrees}
 
--- starts below a start w: none is later, and those of its action are earlier
-abbrev Ordered : ℕ → ℕ → Type 0
-Ordered w s = (startMoment s ≤ startMoment w) × (startAction s ≡ startAction w → startMoment s < startMoment w)
-
+-- starts below a start w: none is later
 in-order : {job : List ℕ} {w : ℕ} → Right job w → w < 2 ^ 32 → {S : List ℕ} → Each (λ s. isStart job s ≡ true) S → Each (λ s. s < 2 ^ 32) S → Each (λ s. s < w) S
-    → Each (Ordered w) S
+    → Each (λ s. startMoment s ≤ startMoment w) S
 in-order {job} {w} right small {S} words smalls below =
-    let one : Each (λ s. s < w → Ordered w s) S = each-with (λ s e k l. ordered (word-is (right-of {job = job} e) k) (word-is right small) l) words smalls in
+    let one : Each (λ s. s < w → startMoment s ≤ startMoment w) S =
+    each-with (λ s e k l. ordered (word-is (right-of {job = job} e) k) (word-is right small) l .0) words smalls in
     each-with (λ s f l. f l) one below
 
 module _ (job : List ℕ) (good : jobRefusal job .number ≡ 0) where
@@ -125,31 +124,15 @@ module _ (job : List ℕ) (good : jobRefusal job .number ≡ 0) where
       };
     }
 
-    -- a start of the same action before it is not in hand
-    idle : (s : ℕ) → (startAction s ≡ startAction w → startMoment s < startMoment w) → restarts job s w ≡ false
-        → busy job (startMoment w) (startAction w) s ≡ false
-    idle s sooner free = is-false _ (λ e.
-        let p = both-true (eqb (startAction s) (startAction w)) _ e in
-        let q = both-true (leb (startMoment s) (startMoment w)) (ltb (startMoment w) (finish job s)) (p .1) in
-        let z : restarts job s w ≡ true = rw (p .0, lt-ltb _ _ (sooner (eqb-true _ _ (p .0))), q .1) in
-        true≢false (sym z ∙ free))
-
-    strict : Each (λ s. startAction s ≡ startAction w → startMoment s < startMoment w) S
-    strict = each-map (λ s o. o .1) (in-order right (smalls .1) (words .0) (smalls .0) (order .1))
-
+    -- it is new to the trial, so that its number is that of the whole check: none
     startable-last : startRefusal job (trial (startMoment w) S) (startAction w) .number ≡ 0
-    unfolding startRefusal
-    startable-last =
-        rw (
-          lt-leb (actions job) (startAction w) (right .action),
-          le-ltb (lastMoment job) (startMoment w + duration job (startAction w)) (ends .1),
-          any-none (busy job (startMoment w) (startAction w)) (each-with idle strict (apart .1)),
-          ← whole,
-          any-none (λ s. clashing job s w) (agree .1),
-          inside .1,
-          unmet-same (startMoment w) (startAction w) (omega arith),
-          met .1,
-        )
+    startable-last = same ∙ rw (← whole, at-end) (lawful job (S ++ (w ∷ [])) .1 law)
+      where
+        new : Each (λ s. s ≡ startWord (startMoment w) (startAction w) → ⊥) S
+        new = each-map (λ s l e. omega (arith, whole)) (order .1)
+
+        same : startRefusal job (trial (startMoment w) S) (startAction w) .number ≡ startsRefusal job (insert (startWord (startMoment w) (startAction w)) S) .number
+        same = move-agrees job good (trial (startMoment w) S) (smalls .0) (passes job (trial (startMoment w) S) earlier) (startAction w) (omega arith) new
 
     back-start : (Passing job (trial (startMoment w) S) → GivenBy job (trial (startMoment w) S)) → GivenBy job (trial (startMoment w) (S ++ (w ∷ [])))
     back-start r =
@@ -161,7 +144,7 @@ module _ (job : List ℕ) (good : jobRefusal job .number ≡ 0) where
       let smalls = each-init S w small in
       let words = each-init S w (lawful .words) in
       let below = pairs-init S w (lawful .order) .1 in
-      each-last w (each-map (λ s o. o .0) (in-order {job = job} (right-of (words .1)) (smalls .1) (words .0) (smalls .0) below)) (omega arith)
+      each-last w (in-order {job = job} (right-of (words .1)) (smalls .1) (words .0) (smalls .0) below) (omega arith)
 
   given-fresh : GivenBy job fresh
   unfolding played

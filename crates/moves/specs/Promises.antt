@@ -4,12 +4,14 @@ use mathlib.Core.Logic.{_↔_}
 use mathlib.Core.Path.{_≡_}
 use Prim.Native.Nat.{ℕ, _^_, _≤_, _<_}
 use lib.ListN.{length}
-use Rattle.words.specs.Lists.{Each, sorted}
+use Rattle.words.specs.Fields.{startWord}
+use Rattle.words.specs.Lists.{Each, insert, sorted}
 use Rattle.answers.specs.declared.Answer.the-variants.{Accepted}
 use Rattle.job.specs.Refusal.{jobRefusal}
 use Rattle.facts.specs.Facts.{factsAfter, factsOf}
+use Rattle.starts.specs.Rows.{startsRefusal}
 use Rattle.theory.specs.Answers.{fillAnswer}
-use Rattle.moves.specs.Trials.{Trial, Move, trialRefusal, moveRefusal, after, played, accepted}
+use Rattle.moves.specs.Trials.{Trial, Move, trialRefusal, startRefusal, moveRefusal, after, played, accepted}
 use Rattle.moves.specs.Calls.{trialIn, shownFacts, showAnswer, calledWords}
 
 -- each trial so reached passes the tests
@@ -55,6 +57,14 @@ abbrev pub GivenExactly : Type 0
 GivenExactly =
     (job : List ℕ) → jobRefusal job .number ≡ 0 → (T : Trial) → Each (λ s. s < 2 ^ 32) (T .starts)
     → trialRefusal job T .number ≡ 0 ↔ GivenBy job T
+
+-- a new start has the number that check gives the trial's starts with its word put in; a start of this moment again is 8 in a trial but 6 in
+-- a check, where the word stands twice
+abbrev pub MoveAgrees : Type 0
+MoveAgrees =
+    (job : List ℕ) → jobRefusal job .number ≡ 0 → (T : Trial) → Each (λ s. s < 2 ^ 32) (T .starts) → trialRefusal job T .number ≡ 0
+    → (a : ℕ) → a < 64 → Each (λ s. s ≡ startWord (T .moment) a → ⊥) (T .starts)
+    → startRefusal job T a .number ≡ startsRefusal job (insert (startWord (T .moment) a) (T .starts)) .number
 
 -- the calls do the same: after trial_begin and a list of moves, the lent words say the trial that these moves give, and trial_show accepts it
 abbrev pub CalledSay : Type 0
