@@ -1,6 +1,6 @@
 -- A start that is accepted leaves lawful starts lawful. Assumes nothing.
 use mathlib.Core.Bool.{true, false, true≢false}
-use mathlib.Core.List.{List}
+use mathlib.Core.List.{List, _∷_}
 use mathlib.Core.Path.{_≡_, ap, sym, _∙_}
 use Prim.Native.Nat.{ℕ, _+_, _<_, _≤_}
 use native.Mathlib.Omega.{arith}
@@ -8,18 +8,20 @@ use borrow.Author.Tests.{not-false, leb-false, ltb-true, ltb-false, lt-ltb, le-l
 use lib.Dec.{eqb, ltb}
 use Rattle.words.specs.Fields.{field, kind, startMoment, startAction, startWord}
 use Rattle.words.specs.Lists.{Each, insert}
+use Rattle.words.proofs.AnyBelow.{none-below}
 use Rattle.words.proofs.Choices.{is-false, both-true}
 use Rattle.words.proofs.Lists.{each-map, each-with, none-any}
 use Rattle.words.proofs.Insert.{each-insert, pairs-insert, order-insert}
 use Rattle.answers.proofs.Rows.{or-none, row-none}
-use Rattle.job.specs.Parts.{actions, lastMoment, duration}
+use Rattle.job.specs.Parts.{actions, lastMoment, duration, limitOf, inGroup}
 use Rattle.job.specs.Code.WellFormed.{WellFormed}
 use Rattle.history.specs.Actions.{finish}
 use Rattle.history.proofs.Held.{true-in-hand}
-use Rattle.starts.specs.Rows.{isStart, restarts, clashing, mayStart, unmetAt}
+use Rattle.starts.specs.Rows.{isStart, restarts, clashing, mayStart, overLimit, unmetAt}
 use Rattle.starts.specs.Lawful.{Lawful}
 use Rattle.starts.proofs.Needs.{unmet-before}
 use Rattle.starts.proofs.Opposed.{clashing-swap}
+use Rattle.starts.proofs.GroupLimits.{start-keeps}
 use Rattle.moves.specs.Trials.{Trial, busy, startRefusal}
 
 -- the fields of a start word
@@ -43,6 +45,7 @@ pub record Startable (job : List ℕ) (T : Trial) (a : ℕ) : Type 0 where
   pub idle : Each (λ s. busy job (T .moment) a s ≡ false) (T .starts)
   pub agree : Each (λ s. clashing job s (startWord (T .moment) a) ≡ false) (T .starts)
   pub inside : mayStart job (T .moment) a ≡ true
+  pub room : overLimit job (startWord (T .moment) a ∷ T .starts) (startWord (T .moment) a) ≡ false
   pub met : unmetAt job (T .starts) (T .moment) a ≡ false
 
 pub startable : (job : List ℕ) (T : Trial) (a : ℕ) → startRefusal job T a .number ≡ 0 → Startable job T a
@@ -53,13 +56,15 @@ startable job T a e =
     let r8 = or-none _ _ (r7 .1) in
     let r9 = or-none _ _ (r8 .1) in
     let r15 = or-none _ _ (r9 .1) in
+    let r16 = or-none _ _ (r15 .1) in
     record {
       named = leb-false _ _ (row-none _ 6 0 (omega arith) (r6 .0));
       ends = ltb-false _ _ (row-none _ 7 0 (omega arith) (r7 .0));
       idle = none-any _ (T .starts) (row-none _ 8 0 (omega arith) (r8 .0));
       agree = none-any _ (T .starts) (row-none _ 9 0 (omega arith) (r9 .0));
       inside = not-false _ (row-none _ 15 0 (omega arith) (r15 .0));
-      met = row-none _ 10 0 (omega arith) (r15 .1);
+      room = row-none _ 16 0 (omega arith) (r16 .0);
+      met = row-none _ 10 0 (omega arith) (r16 .1);
     }
 
 module _ (job : List ℕ) (formed : WellFormed job) (T : Trial) (a : ℕ) (now : T .moment ≤ lastMoment job)
@@ -126,6 +131,7 @@ module _ (job : List ℕ) (formed : WellFormed job) (T : Trial) (a : ℕ) (now :
       omega (arith, ltb-true (startMoment w) (startMoment s) (q .0), at-u))
 
   pub accept : Lawful job (insert (startWord (T .moment) a) (T .starts))
+  unfolding overLimit
   accept = record {
     words = each-insert w is-start (h .words);
     order = order-insert w (each-map other (ok .idle)) (h .order);
@@ -133,9 +139,13 @@ module _ (job : List ℕ) (formed : WellFormed job) (T : Trial) (a : ℕ) (now :
     apart = pairs-insert w (each-map not-again (ok .idle)) (each-map not-later past) (h .apart);
     agree = pairs-insert w (ok .agree) (each-map (λ s e. clashing-swap job w s ∙ e) (ok .agree)) (h .agree);
     inside = each-insert w (rw (at-u, of-a) (ok .inside)) (h .inside);
+    within = λ g l. start-keeps job (inGroup job g) (limitOf job g) w (T .starts) not-after (h .within g l) (none-below _ 8 (ok .room) g l);
     met = each-insert w (before (startMoment w) (startAction w) (omega arith) ∙ rw (at-u, of-a) (ok .met)) (each-before past (h .met));
   }
     where
+      not-after : Each (λ s. startMoment s ≤ startMoment w) (T .starts)
+      not-after = each-map (λ s l. omega (arith, at-u)) past
+
       before : (t b : ℕ) → t ≤ startMoment w → unmetAt job (insert w (T .starts)) t b ≡ unmetAt job (T .starts) t b
       before t b l = unmet-before job w new-lasts (T .starts) t b l
 

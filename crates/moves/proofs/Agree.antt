@@ -14,18 +14,20 @@ use Rattle.words.specs.Scan.{any, anyBelow}
 use Rattle.words.specs.Lists.{Each, each-none, each-more, Pairs, pairs-none, pairs-more, insert}
 use Rattle.words.proofs.Choices.{is-false, both-true}
 use Rattle.words.proofs.AnyBelow.{some-none, none-below}
-use Rattle.words.proofs.Lists.{each-of, each-at, pairs-of, pairs-at, each-map, each-with, any-none, none-any}
+use Rattle.words.proofs.Lists.{each-of, each-at, small-at, pairs-of, pairs-at, each-map, each-with, any-none, none-any}
 use Rattle.words.proofs.Insert.{each-insert, pairs-insert, order-insert}
 use Rattle.answers.specs.declared.Refusal.{Refusal}
 use Rattle.answers.specs.Rows.{row, firstRefusal, firstRow, firstOf}
 use Rattle.answers.proofs.Range.{first-all}
-use Rattle.job.specs.Parts.{actions, lastMoment, duration}
+use Rattle.job.specs.Parts.{actions, lastMoment, duration, limitOf, inGroup}
 use Rattle.job.specs.Code.WellFormed.{WellFormed}
 use Rattle.job.proofs.WellFormed.{well-formed}
 use Rattle.history.specs.Actions.{finish}
-use Rattle.starts.specs.Rows.{isStart, ascends, wrongWord, endsLate, restarts, inHandAlready, clashing, clashes, mayStart, outsideWindows, unmetAt, needsUnmet, numbered, rowsRefusal, startsRefusal}
+use Rattle.history.specs.Held.{Ascending}
+use Rattle.starts.specs.Rows.{isStart, ascends, wrongWord, endsLate, restarts, inHandAlready, clashing, clashes, mayStart, outsideWindows, overLimit, groupExceeded, unmetAt, needsUnmet, numbered, rowsRefusal, startsRefusal}
 use Rattle.starts.proofs.Rows.{NoneFits, no-row, and-row, none-rows, row-clear, rows-last, rows-found, rows-next}
-use Rattle.starts.proofs.StartsFormed.{right-of, word-is, is-start-at}
+use Rattle.starts.proofs.StartsFormed.{right-of, word-is, is-start-at, ascending}
+use Rattle.starts.proofs.GroupLimits.{rows-keep, keeps-rows, start-keeps, keeps-start}
 use Rattle.starts.proofs.Needs.{unmet-before}
 use Rattle.starts.proofs.Opposed.{clashing-swap}
 use Rattle.moves.specs.Trials.{Trial, busy, startRefusal}
@@ -244,6 +246,24 @@ module _ (job : List ℕ) (formed : WellFormed job) (T : Trial) (h : Passing job
   unfolding outsideWindows
   row-15 = by-word (λ s. not (mayStart job (startMoment s) (startAction s))) (rw (at-u, of-a)) (each-map (λ s e. ap not e) (h .lawful .inside))
 
+  -- row 16: with the new start, counted with all, each group stays within its limit exactly where no word exceeds it with those before it
+  row-16 : leb (actions job) a ≡ false → Alike (length L) (overLimit job (w ∷ S) w) (groupExceeded job L)
+  unfolding overLimit groupExceeded
+  row-16 named = record {
+    to = λ e i l. some-none _ 8 (λ g m.
+        keeps-rows job (inGroup job g) (limitOf job g) L
+        (start-keeps job (inGroup job g) (limitOf job g) w S past (h .lawful .within g m) (none-below _ 8 e g m)) i l);
+    from = λ f. some-none _ 8 (λ g m.
+        keeps-start job (inGroup job g) (limitOf job g) w S
+        (rows-keep job (inGroup job g) (limitOf job g) L ascends (λ i l. none-below _ 8 (f i l) g m)));
+  }
+    where
+      past : Each (λ s. startMoment s ≤ startMoment w) S
+      past = each-map (λ s m. omega (arith, at-u)) (h .past)
+
+      ascends : Ascending L
+      ascends = ascending {job = job} (record { right = row-6 .to named }) (small-at (each-insert w (omega (arith, u-small)) (h .small)))
+
   -- row 10: a start of the job changes no needs up to its own moment, and none of the trial's starts is later
   row-10 : a < actions job → Alike (length L) (unmetAt job S u a) (needsUnmet job L)
   unfolding needsUnmet
@@ -257,7 +277,7 @@ module _ (job : List ℕ) (formed : WellFormed job) (T : Trial) (h : Passing job
       before : (t b : ℕ) → t ≤ startMoment w → unmetAt job L t b ≡ unmetAt job S t b
       before t b m = unmet-before job w lasts S t b m
 
-  -- the rows in their order; what row 6 shows, row 10 asks
+  -- the rows in their order; what row 6 shows, rows 16 and 10 ask
   agrees : startRefusal job T a .number ≡ startsRefusal job L .number
   unfolding startRefusal startsRefusal
   agrees =
@@ -267,7 +287,8 @@ module _ (job : List ℕ) (formed : WellFormed job) (T : Trial) (h : Passing job
       beside (omega arith) row-8 (λ _.
       beside (omega arith) row-9 (λ _.
       beside (omega arith) row-15 (λ _.
-      beside (omega arith) (row-10 (leb-false _ _ named)) (λ _. no-more)))))))
+      beside (omega arith) (row-16 named) (λ _.
+      beside (omega arith) (row-10 (leb-false _ _ named)) (λ _. no-more))))))))
 
 pub move-agrees : MoveAgrees
 move-agrees job good T small e a l new = agrees job (well-formed job good) T (passing job T small e) a l new

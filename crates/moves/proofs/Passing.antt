@@ -8,7 +8,7 @@ use borrow.Author.Tests.{leb-false, ltb-false, le-ltb, eqb-true}
 use lib.Dec.{eqb, leb, ltb}
 use lib.ListN.{length, getD}
 use Rattle.words.specs.Fields.{startMoment, startWord}
-use Rattle.words.specs.Scan.{any}
+use Rattle.words.specs.Scan.{any, filter}
 use Rattle.words.specs.Lists.{Each, each-none, each-more, pairs-none, sorted}
 use Rattle.words.proofs.Choices.{cond-when}
 use Rattle.words.proofs.Lists.{each-map, small-at, any-none, none-any}
@@ -76,7 +76,7 @@ module _ (job : List ℕ) where
         present = bounds T e .present;
         past = bounds T e .past;
         small = small;
-        lawful = lawful job (T .starts) .0 (sym (at-number 0 (startsRefusal job (T .starts) .number)) ∙ rows .1);
+        lawful = lawful job (T .starts) small .0 (sym (at-number 0 (startsRefusal job (T .starts) .number)) ∙ rows .1);
       }
 
   pub passes : (T : Trial) → Passing job T → trialRefusal job T .number ≡ 0
@@ -87,15 +87,16 @@ module _ (job : List ℕ) where
         le-ltb (lastMoment job) (T .moment) (h .present),
         any-none (λ s. ltb (T .moment) (startMoment s)) (each-map (λ s. le-ltb (T .moment) (startMoment s)) (h .past)),
       )
-      (at-number 0 (startsRefusal job (T .starts) .number) ∙ lawful job (T .starts) .1 (h .lawful))
+      (at-number 0 (startsRefusal job (T .starts) .number) ∙ lawful job (T .starts) (h .small) .1 (h .lawful))
 
   module _ (formed : WellFormed job) where
     fresh-passes : Passing job fresh
+    unfolding filter
     fresh-passes = record {
       present = omega arith;
       past = each-none;
       small = each-none;
-      lawful = record { words = each-none; order = pairs-none; ends = each-none; apart = pairs-none; agree = pairs-none; inside = each-none; met = each-none };
+      lawful = record { words = each-none; order = pairs-none; ends = each-none; apart = pairs-none; agree = pairs-none; inside = each-none; within = λ g l t. omega arith; met = each-none };
     }
 
     move-passes : (T : Trial) (m : Move) → Passing job T → ownRefusal job T m .number ≡ 0 → Passing job (moved T m)

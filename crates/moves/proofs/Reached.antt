@@ -13,7 +13,7 @@ use Rattle.words.specs.Fields.{startMoment, startAction, startWord}
 use Rattle.words.specs.Lists.{Each, each-none, Pairs, insert}
 use Rattle.words.proofs.Lists.{each-map, each-with, Last, no-last, the-last, last-of, each-init, each-last, pairs-init}
 use Rattle.words.proofs.Insert.{insert-last}
-use Rattle.job.specs.Parts.{lastMoment}
+use Rattle.job.specs.Parts.{lastMoment, limitOf, inGroup}
 use Rattle.job.specs.Refusal.{jobRefusal}
 use Rattle.job.specs.Code.WellFormed.{WellFormed}
 use Rattle.job.proofs.WellFormed.{well-formed}
@@ -21,6 +21,7 @@ use Rattle.history.specs.Actions.{finish}
 use Rattle.starts.specs.Rows.{isStart, restarts, clashing, mayStart, unmetAt, startsRefusal}
 use Rattle.starts.specs.Lawful.{Lawful}
 use Rattle.starts.proofs.Needs.{unmet-before}
+use Rattle.starts.proofs.GroupLimits.{one-inserted, within-fewer}
 use Rattle.starts.proofs.Lawful.{lawful}
 use Rattle.starts.proofs.StartsFormed.{Right, right-of, word-is, ordered}
 use Rattle.moves.specs.Trials.{Trial, Move, Start, On, fresh, trialRefusal, startRefusal, onRefusal, ownRefusal, moveRefusal, moved, after, played}
@@ -120,13 +121,14 @@ module _ (job : List ℕ) (good : jobRefusal job .number ≡ 0) where
         apart = apart .0;
         agree = agree .0;
         inside = inside .0;
+        within = λ g l. within-fewer job (inGroup job g) (limitOf job g) (one-inserted job (inGroup job g) w S) (rw at-end (law .within g l));
         met = each-with (λ s l e. unmet-same (startMoment s) (startAction s) l ∙ e) (past .0) (met .0);
       };
     }
 
     -- it is new to the trial, so that its number is that of the whole check: none
     startable-last : startRefusal job (trial (startMoment w) S) (startAction w) .number ≡ 0
-    startable-last = same ∙ rw (← whole, at-end) (lawful job (S ++ (w ∷ [])) .1 law)
+    startable-last = same ∙ rw (← whole, at-end) (lawful job (S ++ (w ∷ [])) (h .small) .1 law)
       where
         new : Each (λ s. s ≡ startWord (startMoment w) (startAction w) → ⊥) S
         new = each-map (λ s l e. omega (arith, whole)) (order .1)

@@ -23,7 +23,7 @@ pub fill-accepts : FillAccepts
 unfolding fillAnswer fillRefusal planRefusal
 fill-accepts job good ms room l =
     let h = played-passing job (well-formed job good) ms in
-    let none : startsRefusal job (played job ms .starts) .number ≡ 0 = lawful job (played job ms .starts) .1 (h .lawful) in
+    let none : startsRefusal job (played job ms .starts) .number ≡ 0 = lawful job (played job ms .starts) (h .small) .1 (h .lawful) in
     rw (le-ltb room 4096 l, eq-eqb (jobRefusal job .number) 0 good, eq-eqb _ 0 (rw (played-starts job ms) at none))
 
 pub shown-are-filled : ShownAreFilled
