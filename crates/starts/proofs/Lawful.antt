@@ -54,6 +54,14 @@ module _ (job starts : List ℕ) where
       (and-row (each-at (h .met))
       no-row))))))
 
+-- where no row fits, row 6 fits none
+pub rows-formed : (job starts : List ℕ) → startsRefusal job starts .number ≡ 0 → StartsFormed job starts
+unfolding startsRefusal
+rows-formed job starts e = first (rows-none (startRows job starts) refl e)
+  where
+    first : NoneFits (length starts) (startRows job starts) → StartsFormed job starts
+    first (and-row row6 rest) = record { right = row6 }
+
 pub lawful : LawfulExactly
 unfolding startsRefusal
 lawful job starts small = (λ e. from job starts small (rows-none (startRows job starts) refl e), λ h. none-rows (to job starts h))

@@ -108,13 +108,7 @@ pub fn some_full(limits: &[usize; 8], members: &[u64; 8], held: &[u32], a: usize
 }
 
 // Keeps of the first `count` starts, which all finish after moment `t`, those that finish after moment `u`.
-fn keep_from(
-    durations: &[usize; 64],
-    t: usize,
-    u: usize,
-    held: &mut [u32],
-    count: usize,
-) -> usize
+fn keep_from(durations: &[usize; 64], t: usize, u: usize, held: &mut [u32], count: usize) -> usize
     requires { ⌜ ((a : ℕ) → getD (now durations) a 0 < 64) × (count ≤ length (now held)) × Each (λ s. unfinishedBy (now durations) t s ≡ true) (take count (now held)) ⌝ }
     ensures { λ r. ⌜ Filtered (unfinishedBy (now (durations .entry)) u) count (now (held .entry)) r (now (held .exit)) ⌝ }
 {
@@ -125,12 +119,7 @@ fn keep_from(
 }
 
 // Row 16. Of the words before, those in hand at the moment `t` of the last one are in the list `held`.
-pub fn over_limit(
-    job: &[u32],
-    durations: &[usize; 64],
-    groups: Groups,
-    starts: &[u32],
-) -> Refusal
+pub fn over_limit(job: &[u32], durations: &[usize; 64], groups: Groups, starts: &[u32]) -> Refusal
     requires { ⌜ Grouped (now job) (now durations) (now starts) groups ⌝ }
     ensures { λ r. ⌜ r ≡ firstOf (numbered 16 (groupExceeded (now (job .entry)) (now (starts .entry)))) (length (now (starts .entry))) ⌝ }
 {

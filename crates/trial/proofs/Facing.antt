@@ -1,24 +1,29 @@
 -- When a start that is not later is one of the same action in hand, and when it clashes with a new one; that starts in hand alone do. Assumes
 -- nothing.
 use mathlib.Core.Bool.{Bool, true, false, _&&_}
-use mathlib.Core.List.{List}
+use mathlib.Core.List.{List, _∷_}
 use mathlib.Core.Path.{_≡_, refl, ap, sym, _∙_}
 use Prim.Native.Nat.{ℕ, _<_, _≤_}
 use native.Mathlib.Omega.{arith}
-use borrow.Author.Tests.{le-ltb, lt-ltb, ltb-false}
+use borrow.Author.Tests.{le-leb, le-ltb, lt-ltb, ltb-false}
 use lib.Dec.{eqb, leb, ltb}
 use Rattle.words.specs.Fields.{startMoment, startAction, startWord}
 use Rattle.words.specs.Scan.{any, filter}
 use Rattle.words.proofs.Choices.{both-true, same-test}
-use Rattle.words.proofs.Filter.{any-filter, each-filter}
+use Rattle.words.proofs.Filter.{any-filter, each-filter, filter-agree}
 use Rattle.words.proofs.Scan.{any-agree}
 use Rattle.words.proofs.Lists.{each-map, each-with}
 use Rattle.job.specs.Parts.{actions, duration}
 use Rattle.history.specs.Actions.{finish, inHand}
+use Rattle.history.specs.Held.{heldAt}
 use Rattle.history.specs.Code.Held.{unfinishedBy}
 use Rattle.history.proofs.Held.{in-hand-true}
 use Rattle.history.proofs.Moments.{finish-tabled}
-use Rattle.starts.specs.Rows.{clash, together, clashing}
+use Rattle.starts.specs.Rows.{clash, together, clashing, overLimit}
+use Rattle.starts.specs.Code.GroupTable.{GroupTable, someFull}
+use Rattle.starts.specs.declared.groups.Groups.{Groups}
+use Rattle.starts.proofs.GroupLimits.{one-in-front}
+use Rattle.starts.proofs.GroupTable.{some-read}
 use Rattle.starts.proofs.Opposed.{together-later}
 use Rattle.moves.specs.Trials.{busy}
 use Rattle.moves.proofs.Accept.{word-moment, word-action}
@@ -87,3 +92,30 @@ module _ {job durations effects starts : List ℕ} {u a : ℕ} (given : FacingAl
           cases : (b : Bool) → ltb u (finish job s) ≡ b → (unfinishedBy durations u s && clashing job s (startWord u a)) ≡ clashing job s (startWord u a)
           cases true e = rw (tabled s k, e)
           cases false e = rw (tabled s k, e) (sym (clashing-over facing (ltb-false u (finish job s) e)))
+
+  -- the unfinished ones are those in hand
+  pub held-in-hand : filter (unfinishedBy durations u) starts ≡ heldAt job starts u
+  held-in-hand = filter-agree (unfinishedBy durations u) (inHand job u) (each-with same (given .action) (given .past))
+    where
+      same : (s : ℕ) → startAction s < actions job → startMoment s ≤ u → unfinishedBy durations u s ≡ inHand job u s
+      same s k l = rw (tabled s k, le-leb (startMoment s) u l)
+
+  -- row 16 over them: the code has read `limits`, `members` and r
+  pub held-full : {groups : Groups} → GroupTable job groups → {r : Bool} → r ≡ someFull (groups .limits) (groups .members) (filter (unfinishedBy durations u) starts) a
+      → r ≡ overLimit job (startWord u a ∷ starts) (startWord u a)
+  held-full table er = er ∙ some-read table (startWord u a) lasts (λ group. one-in-front job group (startWord u a) starts) (held-in-hand ∙ rw at-u) (sym of-a)
+    where
+      u-small : u < 64
+      u-small = omega (arith, given .present, given .tables .formed .few-moments)
+
+      a-small : a < 64
+      a-small = omega (arith, given .new, given .tables .formed .few-actions)
+
+      at-u : startMoment (startWord u a) ≡ u
+      at-u = word-moment u a u-small a-small
+
+      of-a : startAction (startWord u a) ≡ a
+      of-a = word-action u a u-small a-small
+
+      lasts : 0 < duration job (startAction (startWord u a))
+      lasts = rw of-a (given .tables .formed .lasting a (given .new))

@@ -1,6 +1,6 @@
--- Rows 6 to 10 and 15 of a new start, one after the other, and the room that an accepted one has. Assumes nothing.
+-- Rows 6 to 10, 15 and 16 of a new start, one after the other, and the room that an accepted one has. Assumes nothing.
 use mathlib.Core.Bool.{Bool, true, false, not}
-use mathlib.Core.List.{List}
+use mathlib.Core.List.{List, _∷_}
 use mathlib.Core.Path.{_≡_, ap, sym, _∙_}
 use Prim.Native.Nat.{ℕ, _+_, _*_, _^_, _<_, _≤_}
 use native.Mathlib.Omega.{arith}
@@ -8,21 +8,21 @@ use lib.Dec.{leb, ltb}
 use lib.ListN.{length, getD}
 use Rattle.words.specs.Fields.{startWord}
 use Rattle.words.specs.Scan.{any}
-use Rattle.words.specs.Lists.{Each, insert}
-use Rattle.words.proofs.Lists.{each-at, each-map}
+use Rattle.words.specs.Lists.{Each, Pairs, insert}
+use Rattle.words.proofs.Lists.{each-of, each-at, small-at, pairs-of}
 use Rattle.words.proofs.Insert.{each-insert, insert-length}
 use Rattle.answers.specs.declared.Refusal.{Refusal}
 use Rattle.answers.specs.Rows.{refusal, row, firstRefusal}
 use Rattle.job.specs.Parts.{headWord, actions, lastMoment, duration, lawsOf}
 use Rattle.job.specs.Refusal.{jobRefusal}
 use Rattle.job.specs.Code.WellFormed.{WellFormed, Indexed}
-use Rattle.answers.proofs.Rows.{or-none, or-refused, or-passed, or-assoc}
-use Rattle.starts.specs.Rows.{clashing, mayStart, unmet, unmetAt, startsRefusal}
+use Rattle.answers.proofs.Rows.{or-none, or-assoc}
+use Rattle.starts.specs.Rows.{clashing, mayStart, overLimit, unmet, unmetAt, startsRefusal}
 use Rattle.starts.specs.Lawful.{Lawful}
 use Rattle.starts.specs.Code.Given.{StartsFormed, Recorded}
 use Rattle.starts.proofs.Needs.{needs-read}
-use Rattle.starts.proofs.StartsFormed.{right-of}
-use Rattle.starts.proofs.Lawful.{lawful, lawful-formed}
+use Rattle.starts.proofs.StartsFormed.{right-word, words-ascend, few-words}
+use Rattle.starts.proofs.Lawful.{lawful, rows-formed}
 use Rattle.theory.specs.Answers.{planRefusal}
 use Rattle.theory.specs.declared.Plan.{Plan}
 use Rattle.theory.proofs.Passing.{job-clear, plan-formed, actions-indexed}
@@ -32,19 +32,23 @@ use Rattle.moves.proofs.Passing.{lawful-few}
 use Rattle.trial.specs.Code.Given.{FacingAll, Present, heldRefusal, StartTested}
 
 -- a plan that passes has lawful starts
-pub plan-lawful : {job starts : List ℕ} → planRefusal job starts .number ≡ 0 → Lawful job starts
+plan-lawful : {job starts : List ℕ} → Each (λ s. s < 2 ^ 32) starts → planRefusal job starts .number ≡ 0 → Lawful job starts
 unfolding planRefusal
-plan-lawful {job} {starts} clear = lawful job starts .0 (or-none (jobRefusal job) (startsRefusal job starts) clear .1)
+plan-lawful {job} {starts} small clear = lawful job starts small .0 (or-none (jobRefusal job) (startsRefusal job starts) clear .1)
 
 module _ {job starts : List ℕ} {u : ℕ} {plan : Plan} (given : Present job starts u plan) where
   pub present-formed : WellFormed job
   present-formed = plan-formed job starts (given .passed .clear)
 
   pub present-words : StartsFormed job starts
-  present-words = lawful-formed job starts (plan-lawful (given .passed .clear))
+  unfolding planRefusal
+  present-words = rows-formed job starts (or-none (jobRefusal job) (startsRefusal job starts) (given .passed .clear) .1)
+
+  pub present-order : Pairs (λ s s'. s < s') starts
+  present-order = pairs-of starts (words-ascend present-words)
 
   pub present-few : Each (λ s. s < 2 ^ 32) starts → length starts ≤ 4096
-  present-few small = lawful-few small (plan-lawful (given .passed .clear))
+  present-few small = few-words job starts (small-at small) (length starts) (present-words .right)
 
   pub present-indexed : Indexed job 3 (plan .index .actions .position)
   present-indexed = actions-indexed job (job-clear job starts (given .passed .clear)) (given .passed .index)
@@ -52,7 +56,7 @@ module _ {job starts : List ℕ} {u : ℕ} {plan : Plan} (given : Present job st
   pub present-facing : {a : ℕ} → a < actions job → FacingAll job (plan .durations) (plan .effects) starts u a
   present-facing k = record {
     tables = record { formed = present-formed; lasts = given .passed .durations; makes = given .passed .effects };
-    action = each-map (λ s e. right-of {job = job} e .action) (plan-lawful (given .passed .clear) .words);
+    action = each-of starts (λ i l. right-word present-words i l .action);
     past = given .past;
     present = given .present;
     new = k;
@@ -78,7 +82,7 @@ module _ {job starts : List ℕ} {u : ℕ} {plan : Plan} (given : Present job st
   new-room a small e =
       let T : Trial = record { moment = u; starts = starts } in
       let ok = startable job T a e in
-      let more = accept job present-formed T a (given .present) (given .past) ok (plan-lawful (given .passed .clear)) in
+      let more = accept job present-formed T a (given .present) (given .past) ok (plan-lawful small (given .passed .clear)) in
       let words : Each (λ s. s < 2 ^ 32) (insert (startWord u a) starts) =
       each-insert (startWord u a) (omega (arith, given .present, present-formed .few-moments, ok .named, present-formed .few-actions)) small in
       omega (arith, lawful-few words more, insert-length (startWord u a) starts)
@@ -86,10 +90,31 @@ module _ {job starts : List ℕ} {u : ℕ} {plan : Plan} (given : Present job st
   pub tested : {a : ℕ} {r : Refusal} → Each (λ s. s < 2 ^ 32) starts → r ≡ startRefusal job (record { moment = u; starts = starts }) a → StartTested job starts u a r
   tested {a} small e = record { refusal = e; room = λ z. new-room a small (ap (λ (r : Refusal). r .number) (sym e) ∙ z) }
 
+-- four rows, and then one more
+rows-last : (a b c d e : Refusal) → firstRefusal a (firstRefusal b (firstRefusal c (firstRefusal d e))) ≡ firstRefusal (firstRefusal a (firstRefusal b (firstRefusal c d))) e
+rows-last a b c d e =
+    ap (λ (r : Refusal). firstRefusal a (firstRefusal b r)) (or-assoc c d e)
+    ∙ ap (firstRefusal a) (or-assoc b (firstRefusal c d) e)
+    ∙ or-assoc a (firstRefusal b (firstRefusal c d)) e
+
 -- which row fits, by the tests
 module _ (job starts : List ℕ) (u a : ℕ) where
   abbrev T : Trial
   T = record { moment = u; starts = starts }
+
+  -- rows 8, 9, 15 and 16; past the first two, of the answers that the code has read
+  abbrev held-rows : Refusal × Refusal × Refusal × Refusal
+  held-rows = (
+    row (any (busy job u a) starts) 8 0,
+    row (any (λ s. clashing job s (startWord u a)) starts) 9 0,
+    row (not (mayStart job u a)) 15 0,
+    row (overLimit job (startWord u a ∷ starts) (startWord u a)) 16 0,
+  )
+
+  pub held-rest : any (busy job u a) starts ≡ false → any (λ s. clashing job s (startWord u a)) starts ≡ false
+      → {outside over r : Refusal} {may full : Bool} → r ≡ firstRefusal outside over → outside ≡ row (not may) 15 0 → may ≡ mayStart job u a
+      → over ≡ row full 16 0 → full ≡ overLimit job (startWord u a ∷ starts) (startWord u a) → r ≡ heldRefusal job starts u a
+  held-rest n8 n9 e eo em eg ef = e ∙ rw (eo, em, eg, ef, n8, n9)
 
   pub row-6 : leb (actions job) a ≡ true → refusal 6 0 ≡ startRefusal job (record { moment = u; starts = starts }) a
   unfolding startRefusal
@@ -101,17 +126,8 @@ module _ (job starts : List ℕ) (u a : ℕ) where
     row-7 e = rw (n6, e)
 
     module _ (n7 : ltb (lastMoment job) (u + duration job a) ≡ false) where
-      all-rows : firstRefusal (heldRefusal job starts u a) (firstRefusal (row (not (mayStart job u a)) 15 0) (row (unmetAt job starts u a) 10 0)) ≡ startRefusal job (record { moment = u; starts = starts }) a
+      -- rows 8, 9, 15 and 16, and then row 10, of the answers that the code has read
+      pub rows-rest : {held needs r : Refusal} {unmet : Bool} → r ≡ firstRefusal held needs → held ≡ heldRefusal job starts u a
+          → needs ≡ row unmet 10 0 → unmet ≡ unmetAt job starts u a → r ≡ startRefusal job (record { moment = u; starts = starts }) a
       unfolding startRefusal
-      all-rows =
-          rw (n6, n7)
-          (sym (or-assoc (row (any (busy job u a) starts) 8 0) (row (any (λ s. clashing job s (startWord u a)) starts) 9 0) (firstRefusal (row (not (mayStart job u a)) 15 0) (row (unmetAt job starts u a) 10 0))))
-
-      pub rows-8-9 : (heldRefusal job starts u a .number ≡ 0 → ⊥) → heldRefusal job starts u a ≡ startRefusal job (record { moment = u; starts = starts }) a
-      rows-8-9 never = or-refused (heldRefusal job starts u a) _ never ∙ all-rows
-
-      -- of the two answers that the code has read
-      pub rows-15-10 : heldRefusal job starts u a .number ≡ 0 → {outside needs r : Refusal} {may unmet : Bool} → r ≡ firstRefusal outside needs
-          → outside ≡ row (not may) 15 0 → may ≡ mayStart job u a → needs ≡ row unmet 10 0 → unmet ≡ unmetAt job starts u a
-          → r ≡ startRefusal job (record { moment = u; starts = starts }) a
-      rows-15-10 clear e eo em en eu = e ∙ rw (eo, em, en, eu) (or-passed (heldRefusal job starts u a) _ clear ∙ all-rows)
+      rows-rest e eh en eu = e ∙ rw (eh, en, eu, n6, n7) (sym (rows-last (held-rows .0) (held-rows .1) (held-rows .2) (held-rows .3) (row (unmetAt job starts u a) 10 0)))

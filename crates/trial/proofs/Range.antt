@@ -1,6 +1,6 @@
 -- Whatever the job and the words, the answers of the four calls fit their fields. Assumes nothing.
 use mathlib.Core.Bool.{not}
-use mathlib.Core.List.{List}
+use mathlib.Core.List.{List, _∷_}
 use Prim.Native.Nat.{ℕ, _+_}
 use native.Mathlib.Omega.{arith}
 use lib.Dec.{leb, ltb}
@@ -15,7 +15,7 @@ use Rattle.job.specs.Parts.{actions, lastMoment, duration}
 use Rattle.job.specs.Refusal.{jobRefusal}
 use Rattle.job.proofs.Fits.{job-fits}
 use Rattle.job.proofs.WellFormed.{well-formed}
-use Rattle.starts.specs.Rows.{clashing, mayStart, unmetAt, startsRefusal}
+use Rattle.starts.specs.Rows.{clashing, mayStart, overLimit, unmetAt, startsRefusal}
 use Rattle.starts.proofs.RefusalFits.{starts-number}
 use Rattle.facts.proofs.Lists.{facts-few}
 use Rattle.theory.specs.Answers.{bufferRefusal}
@@ -40,7 +40,8 @@ own-fits job T (Start a) =
     (or-fits _ _ (row-fits (any (busy job (T .moment) a) (T .starts)) 8 0 (omega arith) (omega arith))
     (or-fits _ _ (row-fits (any (λ s. clashing job s (startWord (T .moment) a)) (T .starts)) 9 0 (omega arith) (omega arith))
     (or-fits _ _ (row-fits (not (mayStart job (T .moment) a)) 15 0 (omega arith) (omega arith))
-    (row-fits (unmetAt job (T .starts) (T .moment) a) 10 0 (omega arith) (omega arith))))))
+    (or-fits _ _ (row-fits (overLimit job (startWord (T .moment) a ∷ T .starts) (startWord (T .moment) a)) 16 0 (omega arith) (omega arith))
+    (row-fits (unmetAt job (T .starts) (T .moment) a) 10 0 (omega arith) (omega arith)))))))
 own-fits job T On = row-fits (leb (lastMoment job) (T .moment)) 14 0 (omega arith) (omega arith)
 
 pub begin-range : (room : ℕ) (job : List ℕ) → InRange (beginAnswer room job)

@@ -24,6 +24,7 @@ use theory::Plan;
 use theory::buffer_refusal;
 use theory::judge_starts;
 use theory::refused;
+use theory::with_refusal;
 use words::insert_word;
 use words::last_of;
 use words::start_word;
@@ -109,19 +110,7 @@ impl Trial {
         let length = self.length;
         let starts = self.starts;
         let plan = judge_starts(job, index, &starts[..length], moment);
-        let durations = plan.durations;
-        let effects = plan.effects;
-        let shifts = plan.shifts;
-        let history = plan.history;
-        let refusal = at_zero(plan.refusal);
-        Plan {
-            refusal,
-            index,
-            durations,
-            effects,
-            shifts,
-            history,
-        }
+        with_refusal(plan, at_zero(plan.refusal))
     }
 
     // The trial with one more start, at its place.

@@ -20,6 +20,7 @@ use history::laws_of;
 use starts::has_clash;
 use starts::has_unmet;
 use starts::may_start;
+use starts::some_full;
 use theory::Plan;
 use words::*;
 
@@ -103,7 +104,7 @@ fn some_clash(
     false
 }
 
-// Rows 8 and 9 of action `a` started at moment `u`: only starts in hand then can be of the same action in hand, or clash.
+// Rows 8, 9, 15 and 16 of action `a` started at moment `u`, in this order: of the starts only those in hand then count.
 fn held_refusal(job: &[u32], plan: Plan, starts: &[u32], u: usize, a: usize) -> Refusal
     requires { ⌜ Present (now job) (now starts) u plan × (a < actions (now job)) × (length (now starts) ≤ 4096) ⌝ }
     ensures { λ r. ⌜ r ≡ heldRefusal (now (job .entry)) (now (starts .entry)) u a ⌝ }
@@ -116,14 +117,20 @@ fn held_refusal(job: &[u32], plan: Plan, starts: &[u32], u: usize, a: usize) -> 
     if some_busy(job, &durations, &held[..count], u, a) {
         return refuse(8, 0);
     }
-    row_of(
-        some_clash(job, &durations, &effects, &held[..count], u, a),
-        9,
-        0,
-    )
+    if some_clash(job, &durations, &effects, &held[..count], u, a) {
+        return refuse(9, 0);
+    }
+    let shifts = plan.shifts;
+    let inside = shifts.inside;
+    let outside = row_of(!may_start(shifts.windowed, &inside, u, a), 15, 0);
+    let groups = plan.groups;
+    let limits = groups.limits;
+    let members = groups.members;
+    let over = row_of(some_full(&limits, &members, &held[..count], a), 16, 0);
+    first_refusal(outside, over)
 }
 
-// Rows 6 to 9, 15 and 10, in this order. Starts to which another can be added leave room for it.
+// Rows 6 to 9, 15, 16 and 10, in this order. Starts to which another can be added leave room for it.
 pub fn start_refusal(job: &[u32], plan: Plan, starts: &[u32], u: usize, a: usize) -> Refusal
     requires { ⌜ Present (now job) (now starts) u plan ⌝ }
     ensures { λ r. ⌜ StartTested (now (job .entry)) (now (starts .entry)) u a r ⌝ }
@@ -137,17 +144,11 @@ pub fn start_refusal(job: &[u32], plan: Plan, starts: &[u32], u: usize, a: usize
         return refuse(7, 0);
     }
     let held = held_refusal(job, plan, starts, u, a);
-    if held.number != 0 {
-        return held;
-    }
-    let shifts = plan.shifts;
-    let inside = shifts.inside;
-    let outside = row_of(!may_start(shifts.windowed, &inside, u, a), 15, 0);
     let index = plan.index;
     let actions = index.actions;
     let places = actions.position;
     let history = plan.history;
     let laws = laws_of(job, &places, a);
     let unmet = row_of(has_unmet(head, &history, u, laws), 10, 0);
-    first_refusal(outside, unmet)
+    first_refusal(held, unmet)
 }

@@ -32,7 +32,7 @@ loop-again c =
     let e = rw (action .start-action .ensures .0) at (c .before .has .ensures) in
     let more = rw (← (add-one (at .loop .i)), ← e) at (count-next (λ s. has members (startAction s)) (at .loop .i) (start .args .held .now) inside) in
     ⊎-elim (λ w. (omega arith, omega (arith, w .1, old .1), omega (arith, w .1, old .2, rw (w .0 .taken) at more)))
-        (λ w. (omega arith, omega (arith, w .1, old .1), omega (arith, w .1, old .2, rw (w .0 .left) at more))) (c .if1 .came)
+    (λ w. (omega arith, omega (arith, w .1, old .1), omega (arith, w .1, old .2, rw (w .0 .left) at more))) (c .if1 .came)
 
 returns : tie.Need-returns Inv-loop μ-loop
 returns c =

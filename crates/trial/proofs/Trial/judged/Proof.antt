@@ -13,7 +13,8 @@ use Rattle.job.specs.declared.Checked.{Checked}
 use Rattle.job.specs.Refusal.{jobRefusal}
 use Rattle.job.proofs.WellFormed.{well-formed}
 use Rattle.theory.specs.Answers.{planRefusal}
-use Rattle.theory.proofs.Passing.{checked-refusal}
+use Rattle.theory.specs.declared.Plan.{Plan}
+use Rattle.theory.proofs.Passing.{checked-refusal, passed-still}
 use Rattle.moves.specs.Trials.{outside, trialRefusal}
 use Rattle.trial.specs.Stepped.{trialOf}
 use Rattle.trial.proofs.Judging.{inside-few, row-14, start-rows, judgeable, judged-present, judged-sized}
@@ -27,7 +28,7 @@ abbrev read : tie.After-struct-known → tie.After-check-job
 read c = c .before .before .before
 
 abbrev judging : tie.After-at-zero → tie.After-judge-starts
-judging c = c .before .before .before .before .before
+judging c = c .before
 
 abbrev passed : tie.After-is-outside → tie.Else1
 passed c = c .before
@@ -85,21 +86,22 @@ judge-starts-requires c κs =
 
 returns-3 : tie.Need-returns-3
 returns-3 c =
-    let j = judging c in
+    let z = c .before in
+    let j = judging z in
     let b = j .before .before .before in
     let o = b .before in
     let s = entry (checked (passed o)) in
     let size = o .is-outside .ensures .size in
     let rows = j .judge-starts .ensures .refusal in
-    let clear : c .at-zero .result .number ≡ 0 → planRefusal (s .args .job .now) (take (s .args .self .length) (s .args .self .starts)) .number ≡ 0 = λ z.
-    sym (ap (λ (r : Refusal). r .number) rows) ∙ sym (at-number 0 (j .judge-starts .result .refusal .number)) ∙ sym (ap (λ (r : Refusal). r .number) (c .at-zero .ensures)) ∙ z in
+    let is : c .with-refusal .result .refusal ≡ z .at-zero .result = ap (λ (r : Plan). r .refusal) (c .with-refusal .ensures) in
+    let clear : c .with-refusal .result .refusal .number ≡ 0 → planRefusal (s .args .job .now) (take (s .args .self .length) (s .args .self .starts)) .number ≡ 0 = λ n.
+    sym (ap (λ (r : Refusal). r .number) rows) ∙ sym (at-number 0 (j .judge-starts .result .refusal .number)) ∙ sym (ap (λ (r : Refusal). r .number) (is ∙ z .at-zero .ensures)) ∙ n in
     record {
-      refusal = c .at-zero .ensures ∙ start-rows (s .args .job .now) (s .args .self) (good (passed o)) size (in-bounds b) rows;
-      passed = λ z.
-          let p = j .judge-starts .ensures .passed (clear z) in
+      refusal = is ∙ z .at-zero .ensures ∙ start-rows (s .args .job .now) (s .args .self) (good (passed o)) size (in-bounds b) rows;
+      passed = λ n.
           judged-present (s .args .job .now) (s .args .self) (good (passed o)) size (in-bounds b)
-          (record { clear = p .clear; index = ap (λ (r : Checked). r .index) (checked (passed o) .check-job .ensures); durations = p .durations; effects = p .effects; shifts = p .shifts; history = p .history });
-      sized = λ z. judged-sized (s .args .job .now) (s .args .self) (good (passed o)) size (in-bounds b);
+          (passed-still (j .judge-starts .ensures .passed (clear n)) (c .with-refusal .ensures));
+      sized = λ n. judged-sized (s .args .job .now) (s .args .self) (good (passed o)) size (in-bounds b);
     }
 
 pub judged-spec : {M : Type 1} → statement M
@@ -107,4 +109,4 @@ judged-spec =
     tie.close
     (tie.spec (λ c κs. search needs) (λ c κs. search needs) returns (λ c κs. well-formed _ (good c) .some) (λ c κs. search needs)
     (λ c κs. search needs) returns-2 (λ c. few (c .before)) (λ c. sym (length-take-le _ _ (few (c .before .before)))) judge-starts-requires
-    (λ c κs. search needs) returns-3)
+    (λ c κs. search needs) (λ c κs. search needs) returns-3)

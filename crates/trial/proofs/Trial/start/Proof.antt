@@ -10,7 +10,7 @@ use Rattle.answers.specs.declared.Refusal.{Refusal}
 use Rattle.moves.specs.Trials.{Start, moveRefusal}
 use Rattle.trial.specs.Stepped.{trialOf}
 use Rattle.trial.specs.Code.Given.{Sized}
-use Rattle.trial.proofs.NewStart.{plan-lawful, present-formed}
+use Rattle.trial.proofs.NewStart.{present-formed, present-order}
 use Rattle.trial.proofs.Moves.{early-refused, own-next, stepped-refused, stepped-moved, own-start, named-start, moved-start}
 use Rattle.trial.proofs.Trial.start.Statement.{statement}
 use Rattle.trial.proofs.Trial.start.Tie as tie
@@ -72,7 +72,7 @@ with-word-requires c κs =
     let p = passed o in
     let t = entry (first p) .args .self in
     let room = o .start-refusal .ensures .room (c .before .if2 .left) in
-    (sized p, omega (arith, room, length-take-le (t .length) (t .starts) (few p)), plan-lawful (first p .judged .ensures .passed (p .if1 .left) .passed .clear) .order)
+    (sized p, omega (arith, room, length-take-le (t .length) (t .starts) (few p)), present-order (first p .judged .ensures .passed (p .if1 .left)))
 
 returns-3 : tie.Need-returns-3
 returns-3 c =

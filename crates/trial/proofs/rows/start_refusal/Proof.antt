@@ -1,6 +1,6 @@
--- `trial::rows::start_refusal` meets its contract: one of rows 6 to 9 fits, or rows 15 and 10 decide. Assumes nothing.
+-- `trial::rows::start_refusal` meets its contract: row 6 or 7 fits, or the rows by the other starts and row 10 decide. Assumes nothing.
 use mathlib.Core.Bool.{false}
-use mathlib.Core.Path.{_≡_, refl, sym, ap, _∙_}
+use mathlib.Core.Path.{_≡_, _∙_}
 use Prim.Native.Nat.{_^_, _+_, _<_, _≤_}
 use native.Mathlib.Omega.{arith}
 use borrow.Author.Needs.{needs}
@@ -9,10 +9,8 @@ use lib.Dec.{leb, ltb}
 use lib.ListN.{getD}
 use Rattle.words.specs.Lists.{Each}
 use Rattle.words.proofs.Lists.{each-of}
-use Rattle.answers.specs.declared.Refusal.{Refusal}
 use Rattle.job.specs.Parts.{actions, lastMoment, duration}
-use Rattle.starts.proofs.ShiftSets.{may-start-read}
-use Rattle.trial.proofs.NewStart.{present-formed, present-few, present-indexed, present-unmet, tested, row-6, row-7, rows-8-9, rows-15-10}
+use Rattle.trial.proofs.NewStart.{present-formed, present-few, present-indexed, present-unmet, tested, row-6, row-7, rows-rest}
 use Rattle.trial.proofs.rows.start_refusal.Statement.{statement}
 use Rattle.trial.proofs.rows.start_refusal.Tie as tie
 
@@ -66,55 +64,31 @@ held-refusal-requires c κs =
     let f = first (c .before) in
     (entry f .pre, below (c .before), present-few (entry f .pre) (small f))
 
-returns-3 : tie.Need-returns-3
-returns-3 c =
-    let h = c .before .before in
-    let f = first (second h) in
-    tested (entry f .pre) (small f)
-    (h .held-refusal .ensures ∙ rows-8-9 _ _ _ _ (not-6 (second h)) (not-7 (h .before)) (λ z. c .if3 .taken (ap (λ (r : Refusal). r .number) (h .held-refusal .ensures) ∙ z)))
-
--- past rows 8 and 9, from the shift windows, and these from the laws of the action
-abbrev past : tie.After-may-start → tie.Else3
-past c = c .before .before .before .before
-
-abbrev shifted : tie.After-places2 → tie.After-may-start
-shifted c = c .before .before .before .before .before .before
-
-abbrev held : tie.Else3 → tie.After-held-refusal
-held c = c .before .before
-
-may-start-requires : tie.Need-may-start-requires
-may-start-requires c κs =
-    let l = second (held (c .before .before .before)) in
-    let g = entry (first l) .pre in
-    (omega (arith, g .present, present-formed g .few-moments), omega (arith, below l, present-formed g .few-actions))
+-- the refusal by the other starts, from where the places of actions are taken
+abbrev held : tie.After-places2 → tie.After-held-refusal
+held c = c .before .before .before .before .before
 
 laws-of-requires : tie.Need-laws-of-requires
 laws-of-requires c κs =
-    let l = second (held (past (shifted c))) in
+    let l = second (held c) in
     let s = entry (first l) in
     (present-formed (s .pre), present-indexed (s .pre), below l)
 
 has-unmet-requires : tie.Need-has-unmet-requires
 has-unmet-requires c κs =
-    let g = entry (first (second (held (past (shifted (c .before .before)))))) .pre in
+    let g = entry (first (second (held (c .before .before)))) .pre in
     omega (arith, g .present, present-formed g .few-moments)
 
-returns-4 : tie.Need-returns-4
-returns-4 c =
+returns-3 : tie.Need-returns-3
+returns-3 c =
     let needs = c .before .before in
     let laws = needs .before .before in
-    let m = shifted (laws .before) in
-    let e = past m in
-    let h = held e in
+    let h = held (laws .before) in
     let l = second h in
     let f = first l in
     let given = entry f .pre in
     tested given (small f)
-    (rows-15-10 _ _ _ _ (not-6 l) (not-7 (h .before)) (sym (ap (λ (r : Refusal). r .number) (h .held-refusal .ensures)) ∙ e .if3 .left) (c .first-refusal .ensures)
-    (laws .before .before .before .before .before .before .row-of .ensures)
-    (may-start-read (given .passed .shifts) _ _ (m .may-start .ensures) refl refl (below l))
-    (c .before .row-of2 .ensures)
+    (rows-rest _ _ _ _ (not-6 l) (not-7 (h .before)) (c .first-refusal .ensures) (h .held-refusal .ensures) (c .before .row-of .ensures)
     (present-unmet given (below l) (laws .laws-of .ensures) (needs .has-unmet .ensures)))
 
 array-read-if2 : tie.Need-array-read-if2
@@ -130,5 +104,4 @@ start-refusal-spec =
     tie.close
     (tie.spec (λ c. present-formed (c .before .before .before .pre) .some) (λ c κs. search needs) (λ c κs. search needs) returns
     (λ c κs. search needs) (λ c. search needs) array-read-if2 add-if2 (λ c κs. search needs) returns-2
-    held-refusal-requires returns-3 may-start-requires (λ c κs. search needs) laws-of-requires has-unmet-requires (λ c κs. search needs)
-    (λ c κs. search needs) returns-4)
+    held-refusal-requires laws-of-requires has-unmet-requires (λ c κs. search needs) (λ c κs. search needs) returns-3)
