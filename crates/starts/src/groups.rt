@@ -107,9 +107,9 @@ pub fn some_full(limits: &[usize; 8], members: &[u64; 8], held: &[u32], a: usize
     false
 }
 
-// Keeps of the first `count` starts, which all finish after moment `t`, those that finish after moment `u`.
+// Keeps of the first `count` starts, which all finish after moment `t`, those that finish after moment `u`, which is not before `t`.
 fn keep_from(durations: &[usize; 64], t: usize, u: usize, held: &mut [u32], count: usize) -> usize
-    requires { ⌜ ((a : ℕ) → getD (now durations) a 0 < 64) × (count ≤ length (now held)) × Each (λ s. unfinishedBy (now durations) t s ≡ true) (take count (now held)) ⌝ }
+    requires { ⌜ (t ≤ u) × ((a : ℕ) → getD (now durations) a 0 < 64) × (count ≤ length (now held)) × Each (λ s. unfinishedBy (now durations) t s ≡ true) (take count (now held)) ⌝ }
     ensures { λ r. ⌜ Filtered (unfinishedBy (now (durations .entry)) u) count (now (held .entry)) r (now (held .exit)) ⌝ }
 {
     if t == u {

@@ -10,7 +10,7 @@ use Rattle.starts.proofs.groups.keep_from.Tie as tie
 returns : tie.Need-returns
 returns c =
     let start = c .before .before in
-    record { few = omega arith; words = rw (← c .if1 .taken) (sym (filter-all (unfinishedBy (start .args .durations .now) (start .args .t)) (start .pre .2))) }
+    record { few = omega arith; words = rw (← c .if1 .taken) (sym (filter-all (unfinishedBy (start .args .durations .now) (start .args .t)) (start .pre .3))) }
 
 pub keep-from-spec : {M : Type 1} → statement M
 keep-from-spec = tie.close (tie.spec returns (λ c κs. search needs) (λ c. search needs) (λ c. search needs))

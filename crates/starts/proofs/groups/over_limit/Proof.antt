@@ -39,7 +39,8 @@ keep-from-requires c κs =
     let m = c .before in
     let given = entry (turn m) .pre in
     let old = turn m .loop .inv in
-    (given .timed .lasts .small, omega (arith, old .few, old .room, given .few, m .before .before .loop-test .taken), unfinished-yet given old (m .before .before .loop-test .taken))
+    let inside = m .before .before .loop-test .taken in
+    (rw (← m .start-moment .ensures .0) at (old .coming _ (omega arith) inside), given .timed .lasts .small, omega (arith, old .few, old .room, given .few, inside), unfinished-yet given old inside)
 
 filtered : (c : tie.After-keep-from Inv-loop μ-loop) → let at = turn (moment c) in
     let args = entry at .args in
