@@ -19,8 +19,9 @@ const IN_HAND: u64 = 110;
 const WINDOW: u64 = 165;
 
 /// How many instructions a group may cost a start of one of its actions, with 4,032 starts and 64 in hand: what fill takes beyond the same
-/// plan without groups, for each start and each group of its action.
-const START_IN_GROUP: u64 = 1_000;
+/// plan without groups, for each start and each group of its action. When this was set, it took 286; a count over all starts before takes
+/// more than 20,000.
+const START_IN_GROUP: u64 = 345;
 
 /// Prints the instructions; whether they are within the limits.
 pub fn instructions_within_limits() -> bool {
