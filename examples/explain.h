@@ -118,7 +118,44 @@ static void explain_windows(FILE *to, const struct list *job, uint32_t start)
     }
 }
 
-/* The start at a position that is refused by 6 to 10 or 15. */
+/* Whether the action of a start is in a group. */
+static int in_group(const struct list *job, unsigned group, uint32_t start)
+{
+    for (size_t i = 0; i < job->length; i++)
+        if (job->words[i] == planreader_group_member(group, planreader_start_action(start))) return 1;
+    return 0;
+}
+
+/* The starts before a position that are in a group and in hand at its moment: how many, and each of them, if there is a stream for it. */
+static unsigned others_in_hand(FILE *to, const struct list *job, const struct list *starts, unsigned position, unsigned group)
+{
+    unsigned count = 0;
+    for (unsigned i = 0; i < position; i++) {
+        uint32_t earlier = starts->words[i];
+        if (planreader_start_moment(starts->words[position]) >= end_of(job, earlier) || !in_group(job, group, earlier)) continue;
+        count++;
+        if (to != NULL)
+            fprintf(to, "  start %u, moment %u, action %u, of group %u is in hand until %u\n", i, planreader_start_moment(earlier),
+                    planreader_start_action(earlier), group, end_of(job, earlier));
+    }
+    return count;
+}
+
+/* 16: each group of its action that it takes over its limit, and what else of the group is in hand. */
+static void explain_groups(FILE *to, const struct list *job, const struct list *starts, unsigned position)
+{
+    uint32_t start = starts->words[position];
+    for (size_t i = 0; i < job->length; i++) {
+        if (planreader_kind(job->words[i]) != PLANREADER_KIND_GROUP) continue;
+        unsigned group = planreader_group_number(job->words[i]), limit = planreader_group_limit(job->words[i]);
+        unsigned others = others_in_hand(NULL, job, starts, position, group);
+        if (!in_group(job, group, start) || others < limit) continue;
+        fprintf(to, "  group %u, limit %u: with it %u in hand at %u\n", group, limit, others + 1, planreader_start_moment(start));
+        others_in_hand(to, job, starts, position, group);
+    }
+}
+
+/* The start at a position that is refused by 6 to 10, 15 or 16. */
 static inline void explain_start(FILE *to, const struct list *job, const struct list *starts, unsigned number, unsigned position)
 {
     uint32_t word = starts->words[position];
@@ -131,6 +168,7 @@ static inline void explain_start(FILE *to, const struct list *job, const struct 
     if (number == PLANREADER_START_WORD) explain_word(to, job, starts, position);
     if (number == PLANREADER_START_IN_HAND || number == PLANREADER_START_CLASHES) explain_overlap(to, job, starts, number, position);
     if (number == PLANREADER_START_OUTSIDE_WINDOWS) explain_windows(to, job, word);
+    if (number == PLANREADER_GROUP_OVER_LIMIT) explain_groups(to, job, starts, position);
     if (number == PLANREADER_START_NEEDS) explain_needs(to, job, starts, position);
 }
 

@@ -48,6 +48,7 @@ static void explain_move(unsigned long action, unsigned number)
         printf("  it would end at %u, and the last moment is %u\n", end_of(&job, starts.words[count]), last_moment());
     if (number == PLANREADER_START_IN_HAND || number == PLANREADER_START_CLASHES) explain_overlap(stdout, &job, &starts, number, count);
     if (number == PLANREADER_START_OUTSIDE_WINDOWS) explain_windows(stdout, &job, starts.words[count]);
+    if (number == PLANREADER_GROUP_OVER_LIMIT) explain_groups(stdout, &job, &starts, count);
     if (number == PLANREADER_START_NEEDS) explain_needs(stdout, &job, &starts, count);
 }
 

@@ -2,6 +2,7 @@
 #
 #     Head FLUENTS ACTIONS LAST     Known FLUENT true|false                          the head, initially known
 #     Action NUMBER DURATION        Needs FLUENT true|false   Makes FLUENT true|false   ShiftWindow ACTION FROM TO
+#     Group GROUP LIMIT             GroupMember GROUP ACTION
 #     Always   Fluent FLUENT   Not FORMULA   And FORMULA FORMULA   Or FORMULA FORMULA
 #     Act ACTION   Test FORMULA   Sequence NODE NODE   Choice NODE NODE   If FORMULA NODE NODE   While FORMULA NODE
 #     StartWindow NODE NODE M N   EndWindow NODE NODE M N   TaskSet   Member NODE
@@ -52,6 +53,8 @@ Action() { words_line 'Action NUMBER DURATION' '3 << 28' '6:63 0:63' "$@"; }
 Needs() { words_line 'Needs FLUENT true|false' '4 << 28' '0:63 6:truth' "$@"; }
 Makes() { words_line 'Makes FLUENT true|false' '4 << 28 | 2 << 6' '0:63 6:truth' "$@"; }
 ShiftWindow() { words_line 'ShiftWindow ACTION FROM TO' '12 << 28' '12:63 6:63 0:63' "$@"; }
+Group() { words_line 'Group GROUP LIMIT' '13 << 28' '24:7 0:63' "$@"; }
+GroupMember() { words_line 'GroupMember GROUP ACTION' '14 << 28' '24:7 0:63' "$@"; }
 
 Always() { words_line 'Always' '5 << 28' '' "$@"; }
 Fluent() { words_line 'Fluent FLUENT' '5 << 28 | 1 << 24' '6:63' "$@"; }

@@ -1,4 +1,5 @@
-//! Lawful plans for check and fill: the largest ones, one with the most shift windows, and plans by how many starts are in hand.
+//! Lawful plans for check and fill: the largest ones, one with the most shift windows, some with all groups, and plans by how many starts
+//! are in hand.
 use planreader_tests::words::{action, formula, head, initially, law, node, start};
 
 /// The last moments of the plans by starts in hand.
@@ -13,6 +14,14 @@ const MADE: usize = 6;
 
 /// Shift windows of the plan that has the most: with 64 known fluents, 64 actions and a node, its job has 2,048 words.
 pub const WINDOWS: usize = 1918;
+
+/// The groups that there may be, and the greatest limit: in the plans that have them, so many of each are in hand.
+const GROUPS: usize = 8;
+const LIMIT: usize = 63;
+
+/// In the plan with groups and the most in hand, each start with each group of its action: 4,032 starts of actions in eight groups, but for
+/// the eight actions that are in seven.
+pub const STARTS_IN_GROUPS: usize = 4032 * GROUPS - 63 * GROUPS;
 
 pub struct Plan {
     pub name: String,
@@ -30,8 +39,8 @@ pub fn all() -> Vec<Plan> {
         let in_hand = starts.len() * d;
         Plan { name: format!("the largest, d = {d}"), last: 63, job, starts, in_hand }
     });
-    let windows = [windowed(), unwindowed()];
-    largest.into_iter().chain(windows).chain(LASTS.into_iter().flat_map(by_starts_in_hand)).collect()
+    let windows_and_groups = [windowed(), grouped(), grouped_most_pairs(), grouped_durations(), bare()];
+    largest.into_iter().chain(windows_and_groups).chain(LASTS.into_iter().flat_map(by_starts_in_hand)).collect()
 }
 
 /// As many shift windows as there is room for, 29 or 30 for each action, side by side from moment 0 to 63: each start is held by one of
@@ -42,22 +51,66 @@ pub fn windowed() -> Plan {
         let count = (WINDOWS - a).div_ceil(64);
         shift_window(a, 63 * place / count, 63 * (place + 1) / count)
     };
-    with_windows(format!("{WINDOWS} shift windows"), (0..WINDOWS).map(window).collect())
+    let windows = (0..WINDOWS).map(window).collect();
+    without_laws(format!("{WINDOWS} shift windows, 4,032 starts"), windows, |_| 1, |_, _| true)
 }
 
-/// The same plan without its windows.
-pub fn unwindowed() -> Plan {
-    with_windows("no shift windows".to_string(), vec![])
+/// All groups, and the most in hand at a moment, every action: each group has all actions but one of its own, so that 63 of it are in hand.
+pub fn grouped() -> Plan {
+    let pairs = members(|group, action| action != group);
+    without_laws("8 groups of 63, 4,032 starts".to_string(), pairs, |_| 1, |_, _| true)
 }
 
-/// 64 fluents, all known from the start; 64 actions of duration 1 without laws, each of which starts at every moment but the last.
-fn with_windows(name: String, windows: Vec<u32>) -> Plan {
+/// The most pairs of group and action, every action in all groups. At each moment another one does not start, so that 63 are in hand.
+fn grouped_most_pairs() -> Plan {
+    let starts = |moment, action| action != moment;
+    without_laws("8 groups of 64, 3,969 starts".to_string(), members(|_, _| true), |_| 1, starts)
+}
+
+/// The groups of `grouped`, with actions of different durations, each again as soon as it has finished.
+fn grouped_durations() -> Plan {
+    let pairs = members(|group, action| action != group);
+    without_laws("8 groups of 63, durations 2, 7 and 63".to_string(), pairs, |a| [2, 7, 63][a % 3], |_, _| true)
+}
+
+/// The plan of `windowed` without its windows, and that of `grouped` without its groups.
+pub fn bare() -> Plan {
+    without_laws("no shift windows, no groups, 4,032 starts".to_string(), vec![], |_| 1, |_, _| true)
+}
+
+/// 64 fluents, all known from the start; 64 actions of these durations without laws, then words on them. Each starts at 0 and whenever it
+/// has finished, as long as it finishes by 63, but not where `starts` is false.
+fn without_laws(
+    name: String,
+    words: Vec<u32>,
+    duration: impl Fn(usize) -> usize,
+    starts: impl Fn(usize, usize) -> bool,
+) -> Plan {
     let known = (0..64).map(|f| initially(f, true));
-    let actions = (0..64).map(|a| action(a, 1));
-    let job = [head(64, 64, 63)].into_iter().chain(known).chain(actions).chain(windows).chain([node(0, 0, 0, 0, 0)]);
-    let starts: Vec<u32> = (0..63).flat_map(|u| (0..64).map(move |a| start(u, a))).collect();
-    let in_hand = starts.len();
-    Plan { name: format!("{name}, 4,032 starts"), last: 63, job: job.collect(), starts, in_hand }
+    let actions = (0..64).map(|a| action(a, duration(a)));
+    let job = [head(64, 64, 63)].into_iter().chain(known).chain(actions).chain(words).chain([node(0, 0, 0, 0, 0)]);
+    let starting = |u: usize, a: usize| u % duration(a) == 0 && u + duration(a) <= 63 && starts(u, a);
+    let pairs: Vec<(usize, usize)> = (0..63).flat_map(|u| (0..64).map(move |a| (u, a))).collect();
+    let pairs: Vec<(usize, usize)> = pairs.into_iter().filter(|&(u, a)| starting(u, a)).collect();
+    let in_hand = pairs.iter().map(|&(_, a)| duration(a)).sum();
+    let starts = pairs.into_iter().map(|(u, a)| start(u, a)).collect();
+    Plan { name, last: 63, job: job.collect(), starts, in_hand }
+}
+
+/// All groups with the greatest limit, and then the pairs of group and action that there are.
+fn members(is_member: impl Fn(usize, usize) -> bool) -> Vec<u32> {
+    let pairs: Vec<(usize, usize)> = (0..GROUPS).flat_map(|g| (0..64).map(move |a| (g, a))).collect();
+    let pairs = pairs.into_iter().filter(|&(g, a)| is_member(g, a)).map(|(g, a)| group_member(g, a));
+    (0..GROUPS).map(|g| group(g, LIMIT)).chain(pairs).collect()
+}
+
+/// "kind 13, 27..24 group, 5..0 limit; kind 14, 27..24 group, 5..0 action", request L5.
+fn group(group: usize, limit: usize) -> u32 {
+    13 << 28 | (group << 24 | limit) as u32
+}
+
+fn group_member(group: usize, action: usize) -> u32 {
+    14 << 28 | (group << 24 | action) as u32
 }
 
 /// "17..12 action, 11..6 from, 5..0 to", request L4.

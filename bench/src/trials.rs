@@ -1,16 +1,18 @@
 //! The calls on trials of 4,000 starts, beside check of those starts with their facts and beside the independent checker.
 use crate::calls::CALL;
 use crate::instructions::{count_run, counted_call};
-use crate::plans::{largest, windowed};
+use crate::plans::{grouped, largest, windowed};
 use crate::shapes::facts;
 use crate::time::{best, is_within};
 use planreader_tests::checker::{answer::Answer, trial as plain};
 use planreader_tests::host;
 
-/// The trials: of the largest plan, and of that with the most shift windows. The argument of a counted run that is about one.
+/// The trials: of the largest plan, of that with the most shift windows, and of that with all groups and the most in hand. The argument of
+/// a counted run that is about one.
 pub const LARGEST: &str = "trial";
 pub const WINDOWED: &str = "trial with shift windows";
-pub const NAMES: [&str; 2] = [LARGEST, WINDOWED];
+pub const GROUPED: &str = "trial with groups";
+pub const NAMES: [&str; 3] = [LARGEST, WINDOWED, GROUPED];
 
 /// The arguments for the two calls that are counted.
 const COUNTED_START: &str = "start";
@@ -49,6 +51,7 @@ impl Trial {
         let (job, all) = match name {
             LARGEST => largest(1),
             WINDOWED => (windowed().job, windowed().starts),
+            GROUPED => (grouped().job, grouped().starts),
             _ => panic!("no trial {name}"),
         };
         let starts = [&all[..62 * 64], &all[62 * 64 + 32..]].concat();
@@ -98,7 +101,7 @@ impl Trial {
 
 /// Prints the times; whether they are within the limits, all moves are accepted, and both say the same.
 pub fn within_limits() -> bool {
-    NAMES.map(trial_within_limits) == [true; 2]
+    !NAMES.map(trial_within_limits).contains(&false)
 }
 
 fn trial_within_limits(name: &str) -> bool {

@@ -1,13 +1,14 @@
 //! Instructions of fill by how many starts are in hand: the walk of the states carries these from moment to moment, and does not look
-//! through all starts at each. And by shift windows: they are gone through once a call, not for each start.
+//! through all starts at each. By shift windows: they are gone through once a call, not for each start. And by groups: a start is counted
+//! with those in hand, not with all before it.
 use crate::instructions::{all_within, count_run, counted_call};
-use crate::plans::{self, by_starts_in_hand, Plan, LASTS, WINDOWS};
+use crate::plans::{self, by_starts_in_hand, Plan, LASTS, STARTS_IN_GROUPS, WINDOWS};
 use planreader_tests::host;
 
 /// The argument of a counted run that is about fill on a plan.
 pub const COUNTED: &str = "fill";
 
-/// How many instructions fill may take without starts, and beyond that for each start (rows 6 to 10 and 15 look at it) and for each moment
+/// How many instructions fill may take without starts, and beyond that for each start (rows 6 to 10, 15 and 16 look at it) and for each moment
 /// at which one is in hand. When these were set, it took 606,440, about 522 and about 101.
 const WITHOUT_STARTS: u64 = 500_000;
 const START: u64 = 600;
@@ -16,6 +17,11 @@ const IN_HAND: u64 = 110;
 /// How many instructions a shift window may cost with 4,032 starts: what fill takes beyond the same plan without windows, for each window. When
 /// this was set, it took 135.
 const WINDOW: u64 = 165;
+
+/// How many instructions a group may cost a start of one of its actions, with 4,032 starts and 64 in hand: what fill takes beyond the same
+/// plan without groups, for each start and each group of its action. When this was set, it took 286; a count over all starts before takes
+/// more than 20,000.
+const START_IN_GROUP: u64 = 345;
 
 /// Prints the instructions; whether they are within the limits.
 pub fn instructions_within_limits() -> bool {
@@ -47,15 +53,22 @@ fn plan_within_limit(plan: &Plan, without: u64) -> Result<bool, String> {
 /// Prints the instructions with as many shift windows as there may be, and without; whether a window costs no more than it may.
 pub fn windows_within_limit() -> bool {
     println!("fill, instructions with shift windows; without; for each window; limit");
-    all_within([window_within_limit()].into_iter())
+    all_within([part_within_limit(&plans::windowed(), WINDOWS, WINDOW)].into_iter())
 }
 
-fn window_within_limit() -> Result<bool, String> {
-    let (with, without) = (count(&plans::windowed())?, count(&plans::unwindowed())?);
-    let each = with.saturating_sub(without) / WINDOWS as u64;
-    let told = if each <= WINDOW { "" } else { "  FAILED" };
-    println!("{with:>12} {without:>12} {each:>6} {WINDOW:>6}  {WINDOWS} windows, 4,032 starts{told}");
-    Ok(each <= WINDOW)
+/// Prints the instructions with all groups and the most in hand, and without groups; whether a group costs a start no more than it may.
+pub fn groups_within_limit() -> bool {
+    println!("fill, instructions with groups; without; for each start and group of its action; limit");
+    all_within([part_within_limit(&plans::grouped(), STARTS_IN_GROUPS, START_IN_GROUP)].into_iter())
+}
+
+/// Of a plan beyond what the bare one takes, for each of so many parts.
+fn part_within_limit(plan: &Plan, parts: usize, limit: u64) -> Result<bool, String> {
+    let (with, without) = (count(plan)?, count(&plans::bare())?);
+    let each = with.saturating_sub(without) / parts as u64;
+    let told = if each <= limit { "" } else { "  FAILED" };
+    println!("{with:>12} {without:>12} {each:>6} {limit:>6}  {}{told}", plan.name);
+    Ok(each <= limit)
 }
 
 /// How many instructions fill takes on a plan.

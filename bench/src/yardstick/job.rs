@@ -66,7 +66,7 @@ impl Job {
             6 => self.nodes.push(node(word)),
             7 => self.newest().members.push(field(word, 5, 0)),
             8 => self.newest().conditions.push(condition(word)),
-            _ => {} // a shift window, which binds the starts alone
+            _ => {} // a shift window, a group or a member of one, which bind the starts alone
         }
     }
 
