@@ -13,7 +13,7 @@ use Rattle.words.specs.Tests.{within}
 use Rattle.words.specs.Fields.{kind, field, fluentOf, roleOf}
 use Rattle.words.specs.Scan.{any}
 use Rattle.words.proofs.Choices.{within-true}
-use Rattle.job.specs.Rules.{sameEntry}
+use Rattle.job.specs.Rules.{sameFluent}
 use Rattle.job.specs.Follow.{nothing, setNode}
 use Rattle.job.specs.Before.{before, since}
 use Rattle.job.specs.Refusal.{jobRefusal}
@@ -75,7 +75,7 @@ module _ (job : List ℕ) (ok : jobRefusal job .number ≡ 0) where
       → fluentOf (headWord job) (getD job j 0) ≡ fluentOf (headWord job) (getD job i 0) → ⊥
   fresh i j l m hi hj e =
       let listed = not-true _ (tests-passed _ _ _ (rule job ok 2 i m hi) .2) in
-      true≢false (sym (since-hit (sameEntry (headWord job) (getD job i 0)) 1 job i j l same (λ u a b k. later u a b k)) ∙ listed)
+      true≢false (sym (since-hit (sameFluent (headWord job) (getD job i 0)) 1 job i j l same (λ u a b k. later u a b k)) ∙ listed)
     where
       later : (u : ℕ) → j ≤ u → u < i → kind (getD job u 0) ≡ 1 → ⊥
       later zero a b k = let z : j ≡ 0 = omega arith in omega (arith, k, rw z at hj)
@@ -84,11 +84,10 @@ module _ (job : List ℕ) (ok : jobRefusal job .number ≡ 0) where
       role : (w : ℕ) → field w 27 7 ≡ 0 → roleOf (headWord job) w / 2 ≡ 0
       role w b = omega arith
 
-      same : sameEntry (headWord job) (getD job i 0) (getD job j 0) ≡ true
+      same : sameFluent (headWord job) (getD job i 0) (getD job j 0) ≡ true
       same =
           rw (
-            hi,
-            hj,
+            eq-eqb (kind (getD job j 0)) (kind (getD job i 0)) (hj ∙ sym hi),
             role (getD job j 0) (bare j (omega arith) hj),
             role (getD job i 0) (bare i m hi),
             eq-eqb (fluentOf (headWord job) (getD job j 0)) (fluentOf (headWord job) (getD job i 0)) e,

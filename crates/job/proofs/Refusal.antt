@@ -1,4 +1,4 @@
--- The rule of a word by its kind, and what the rules bound. Assumes nothing.
+-- The rule of a word by its kind, what the rules bound, and what a word lists. Assumes nothing.
 use mathlib.Core.Bool.{Bool, true, false, not, cond, _&&_}
 use mathlib.Core.List.{List}
 use mathlib.Core.Path.{_≡_, refl, ap, sym, _∙_}
@@ -9,11 +9,16 @@ use lib.Dec.{eqb, ltb}
 use lib.ListN.{getD, length}
 use borrow.Author.Tests.{ne-eqb, eq-eqb, ltb-true, eqb-true, not-false}
 use Rattle.words.specs.Tests.{indicator, within}
-use Rattle.words.specs.Fields.{kind, actionNumber, actionsOf}
+use Rattle.words.specs.Fields.{kind, actionNumber, actionsOf, groupNumber, groupAction}
+use Rattle.words.specs.Scan.{any}
 use Rattle.words.proofs.Choices.{both-true}
+use Rattle.words.proofs.Lists.{each-of}
+use Rattle.words.proofs.Scan.{any-agree}
 use Rattle.answers.specs.Rows.{refusal, row, firstRefusal, firstOf}
 use Rattle.answers.proofs.Rows.{first-none, or-none, row-none}
-use Rattle.job.specs.Rules.{wordRefusalOf, limited}
+use Rattle.job.specs.Rules.{wordRefusalOf, limited, sameFluent}
+use Rattle.job.specs.Parts.{listsIn}
+use Rattle.job.specs.Code.Entries.{sameEntry}
 use Rattle.job.specs.Before.{before, countOfKind}
 use Rattle.job.specs.Follow.{byKind, predecessor, mayFollow}
 use Rattle.job.specs.Refusal.{rules, wordRefusal, refusalOf, nameRefusal, emptySet, endRefusal, jobRefusal}
@@ -148,3 +153,11 @@ end-clear job c =
       filled = row-none (emptySet p) 5 (countOfKind 6 p - 1) (omega arith) (d .0);
       named = d .1;
     }
+
+-- what a word lists, by its kind
+module _ (head w : ℕ) (S : List ℕ) where
+  pub fluent-entry : {k : ℕ} → kind w ≡ k → (k ≡ 14 → ⊥) → any (sameFluent head w) S ≡ any (sameEntry head w) S
+  fluent-entry e n = any-agree (sameFluent head w) (sameEntry head w) (each-of S (λ i l. rw (ne-eqb (kind w) 14 (λ z. n (sym e ∙ z)))))
+
+  pub pair-entry : kind w ≡ 14 → any (listsIn (groupNumber w) (groupAction w)) S ≡ any (sameEntry head w) S
+  pair-entry e = any-agree (listsIn (groupNumber w) (groupAction w)) (sameEntry head w) (each-of S (λ i l. rw (eq-eqb (kind w) 14 e)))

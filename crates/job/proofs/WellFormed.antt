@@ -2,12 +2,12 @@
 use mathlib.Core.List.{List}
 use mathlib.Core.Logic.{by-cases}
 use mathlib.Core.Path.{_≡_, ap, sym, _∙_}
-use Prim.Native.Nat.{ℕ, _≤_}
+use Prim.Native.Nat.{ℕ}
 use native.Mathlib.Decide.{ℕ-discrete}
 use native.Mathlib.Omega.{arith}
-use borrow.Author.Tests.{eqb-false, leb-true, ltb-true}
+use borrow.Author.Tests.{eqb-false, ltb-true}
 use lib.ListN.{getD}
-use Rattle.words.specs.Fields.{form, groupNumber}
+use Rattle.words.specs.Fields.{form}
 use Rattle.words.proofs.Choices.{both-true}
 use Rattle.answers.proofs.Rows.{first-none}
 use Rattle.job.specs.Before.{named}
@@ -47,10 +47,8 @@ well-formed job ok =
       counted = e .counted;
       lasting = λ a l. lasts job ok (word job ok 3 a (rw (e .counted) l) .1);
       law = λ i l h. ltb-true _ _ (tests-passed _ _ _ (rule job ok 4 i l h) .1);
-      group = λ i l h. let t : groupNumber (getD job i 0) ≤ 7 = leb-true _ _ (tests-passed _ _ _ (rule job ok 13 i l h) .1) in omega arith;
-      group-member = λ i l h.
-          let t : groupNumber (getD job i 0) ≤ 7 = leb-true _ _ (both-true _ _ (both-true _ _ (tests-passed _ _ _ (rule job ok 14 i l h) .1) .0) .0) in
-          omega arith;
+      group = λ i l h. ltb-true _ _ (tests-passed _ _ _ (rule job ok 13 i l h) .1);
+      group-member = λ i l h. ltb-true _ _ (both-true _ _ (both-true _ _ (tests-passed _ _ _ (rule job ok 14 i l h) .1) .0) .0);
       few-formulas = few job words 5 (limits-formulas job words);
       formula = λ k l. formula job ok (word job ok 5 k l .1);
       some-nodes = omega arith;

@@ -1,5 +1,5 @@
--- What a well-formed job says, part by part: its head, actions with their shift windows, groups, formulas and nodes. Words of a kind are
--- numbered from 0 as they stand.
+-- What a well-formed job says, part by part: its head, actions with their shift windows, groups, formulas and nodes. Actions,
+-- formulas and nodes are numbered from 0 as they stand, and a group has the number that its word says.
 use mathlib.Core.Bool.{Bool, _&&_}
 use mathlib.Core.List.{List}
 use Prim.Native.Nat.{ℕ}
@@ -45,7 +45,8 @@ isShiftWindowOf a w = ofKind 12 w && eqb a (shiftWindowAction w)
 unfoldable pub shiftWindowsOf : List ℕ → ℕ → List ℕ
 shiftWindowsOf job a = filter (isShiftWindowOf a) job
 
--- group g: its own word, which has its limit; its actions, those that a word of kind 14 lists in it
+-- group g: its own word, which has its limit; its actions, those that a word of kind 14 lists in it. A group that is not declared has no
+-- actions.
 abbrev pub isGroup : ℕ → ℕ → Bool
 isGroup g w = ofKind 13 w && eqb g (groupNumber w)
 

@@ -5,29 +5,30 @@ use Prim.Native.Nat.{ℕ, _-_}
 use lib.Dec.{eqb}
 use lib.ListN.{getD, length}
 use Rattle.words.specs.Tests.{within}
-use Rattle.words.specs.Fields.{kind, form, actionsOf, groupNumber}
+use Rattle.words.specs.Fields.{kind, form, actionsOf, groupNumber, groupAction}
 use Rattle.words.specs.Scan.{any}
-use Rattle.job.specs.Rules.{headRefusal, knownRefusal, actionRefusal, lawRefusal, formulaRefusal, nodeRefusal, memberRefusal, conditionRefusal, shiftWindowRefusal, groupRefusal, groupMemberRefusal, sameEntry}
+use Rattle.job.specs.Rules.{headRefusal, knownRefusal, actionRefusal, lawRefusal, sameFluent, formulaRefusal, nodeRefusal, memberRefusal, conditionRefusal, shiftWindowRefusal, groupRefusal, groupMemberRefusal}
 use Rattle.job.specs.Before.{before, countOfKind, since, latest, named}
 use Rattle.job.specs.Follow.{byKind, predecessor, mayFollow}
-use Rattle.job.specs.Parts.{isGroup}
+use Rattle.job.specs.Parts.{isGroup, listsIn}
 use Rattle.answers.specs.declared.Refusal.{Refusal}
 use Rattle.answers.specs.Rows.{row, firstRefusal, firstOf}
 
--- the refusal of word w after the words p of a job with that head, by each kind that it may be of; 0 for none
+-- the refusal of word w after the words p of a job with that head, by each kind that it may be of; 0 for none. All
+-- groups stand before all pairs of a group and an action, so that the pairs before a word stand after the last group.
 abbrev pub rules : ℕ → List ℕ → ℕ → List (ℕ × ℕ)
 rules head p w =
     (1, headRefusal w)
-    ∷ (2, knownRefusal head (any (sameEntry head w) (since 1 p)) w)
+    ∷ (2, knownRefusal head (any (sameFluent head w) (since 1 p)) w)
     ∷ (3, actionRefusal (countOfKind 3 p) w)
-    ∷ (4, lawRefusal head (any (sameEntry head w) (since 3 p)) w)
+    ∷ (4, lawRefusal head (any (sameFluent head w) (since 3 p)) w)
     ∷ (5, formulaRefusal head (countOfKind 5 p) w)
     ∷ (6, nodeRefusal (countOfKind 3 p) (countOfKind 5 p) (countOfKind 6 p) w)
     ∷ (7, memberRefusal (countOfKind 6 p) (countOfKind 7 (since 6 p)) w)
     ∷ (8, conditionRefusal (countOfKind 5 p) (countOfKind 7 (since 6 p)) (countOfKind 8 (since 6 p)) w)
     ∷ (12, shiftWindowRefusal (countOfKind 3 p) w)
     ∷ (13, groupRefusal (any (isGroup (groupNumber w)) p) w)
-    ∷ (14, groupMemberRefusal (countOfKind 3 p) (any (isGroup (groupNumber w)) p) (any (sameEntry head w) (since 13 p)) w)
+    ∷ (14, groupMemberRefusal (countOfKind 3 p) (any (isGroup (groupNumber w)) p) (any (listsIn (groupNumber w) (groupAction w)) (since 13 p)) w)
     ∷ []
 
 -- 2 for a word that may not follow the one before, or of a kind that a job does not have; else by its rule

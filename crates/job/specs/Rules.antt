@@ -7,7 +7,6 @@ use Rattle.words.specs.Tests.{implies, within}
 use Rattle.words.specs.Fields.{spare, kind, form, headSpare, fluentsOf, actionsOf, lastOf, fluentOf, knownSpare, actionSpare, actionNumber, durationOf, roleOf, lawSpare, formulaX, formulaY, atomFluent, atomSpare, nodeX, nodeM, nodeN, memberSpare, memberNode, conditionFormula, conditionI, conditionJ, conditionM, conditionN, shiftWindowSpare, shiftWindowAction, shiftWindowFrom, shiftWindowTo, groupSpare, groupNumber, groupAction}
 use Rattle.words.specs.Scan.{every}
 use Rattle.job.specs.Children.{nodeChildren}
-use Rattle.job.specs.Parts.{listsIn}
 
 -- rows 2, 3 and 4 on a word, in turn: what is allowed by form and spare bits; by numbers, references and ranges; and as not listed already
 unfoldable pub wordRefusalOf : Bool → Bool → Bool → ℕ
@@ -109,15 +108,11 @@ conditionRefusal formulas members conditions w = limited 8 conditions (condition
 abbrev pub shiftWindowRefusal : ℕ → ℕ → ℕ
 shiftWindowRefusal actions w = wordRefusalOf (shiftWindowSpare w) (ltb (shiftWindowAction w) actions && leb (shiftWindowFrom w) (shiftWindowTo w)) true
 
--- kind 13, group: whether it is declared already
+-- kind 13, group, one of 0 to 7: whether it is declared already
 abbrev pub groupRefusal : Bool → ℕ → ℕ
-groupRefusal declared w = wordRefusalOf (groupSpare w) (leb (groupNumber w) 7) (not declared)
+groupRefusal declared w = wordRefusalOf (groupSpare w) (ltb (groupNumber w) 8) (not declared)
 
 -- kind 14, an action in a group: how many actions are declared, whether the group is, and whether it has that action already
 abbrev pub groupMemberRefusal : ℕ → Bool → Bool → ℕ → ℕ
 groupMemberRefusal actions declared listed w =
-    wordRefusalOf (groupSpare w) (leb (groupNumber w) 7 && declared && ltb (groupAction w) actions) (not listed)
-
--- word v lists what w lists: of kind 14 an action in a group, of the other kinds that list a fluent
-abbrev pub sameEntry : ℕ → ℕ → ℕ → Bool
-sameEntry head w v = cond (eqb (kind w) 14) (listsIn (groupNumber w) (groupAction w) v) (sameFluent head w v)
+    wordRefusalOf (groupSpare w) (ltb (groupNumber w) 8 && declared && ltb (groupAction w) actions) (not listed)

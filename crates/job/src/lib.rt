@@ -56,8 +56,6 @@ pub const MAX_MEMBERS: usize = 4;
 
 pub const MAX_CONDITIONS: usize = 8;
 
-pub const LAST_GROUP: usize = 7;
-
 // Of each kind that is indexed (actions, formulas, nodes) there are at most as many.
 pub const MAX_PLACES: usize = 64;
 

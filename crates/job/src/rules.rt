@@ -1,4 +1,4 @@
-// Which words may follow which, and the rule of each kind, as tests with no branch: the value of the code is the definition's own term, so
+// Which words may follow which, and the rule of each kind, mostly as tests with no branch: the value of the code is the definition's own term, so
 // most prove themselves.
 ghost use mathlib.Core.Bool.{cond};
 ghost use mathlib.Core.Path.{_≡_};
@@ -10,7 +10,8 @@ ghost use Rattle.bitset.specs.Code.Members.{has};
 ghost use Rattle.job.specs.Children.{wordChildren};
 ghost use Rattle.job.specs.Follow.{mayFollow};
 ghost use Rattle.job.specs.Parts.{listsIn};
-ghost use Rattle.job.specs.Rules.{wordRefusalOf, limited, headRefusal, knownRefusal, actionRefusal, lawRefusal, sameFluent, formulaShape, formulaRange, formulaRefusal, nodeShape, nodeRange, nodeRefusal, memberRefusal, conditionShape, conditionRange, conditionRefusal, shiftWindowRefusal, groupRefusal, groupMemberRefusal, sameEntry};
+ghost use Rattle.job.specs.Rules.{wordRefusalOf, limited, headRefusal, knownRefusal, actionRefusal, lawRefusal, sameFluent, formulaShape, formulaRange, formulaRefusal, nodeShape, nodeRange, nodeRefusal, memberRefusal, conditionShape, conditionRange, conditionRefusal, shiftWindowRefusal, groupRefusal, groupMemberRefusal};
+ghost use Rattle.job.specs.Code.Entries.{sameEntry};
 use crate::ACTION;
 use crate::CONDITION;
 use crate::FORMULA;
@@ -18,7 +19,6 @@ use crate::GROUP;
 use crate::GROUP_MEMBER;
 use crate::HEAD;
 use crate::KNOWN;
-use crate::LAST_GROUP;
 use crate::LAST_MOMENT;
 use crate::LAW;
 use crate::MAX_ACTIONS;
@@ -268,7 +268,7 @@ pub fn group(groups: u64, w: u32) -> u32
 {
     let spare = words::group_spare(w);
     let g = words::group_number(w);
-    word_refusal_of(spare, g <= LAST_GROUP, !bitset::has(groups, g as u32))
+    word_refusal_of(spare, g < words::GROUPS, !bitset::has(groups, g as u32))
 }
 
 pub fn group_member(actions: usize, groups: u64, listed: bool, w: u32) -> u32
@@ -276,7 +276,7 @@ pub fn group_member(actions: usize, groups: u64, listed: bool, w: u32) -> u32
 {
     let spare = words::group_spare(w);
     let g = words::group_number(w);
-    let range = (g <= LAST_GROUP)
+    let range = (g < words::GROUPS)
         & bitset::has(groups, g as u32)
         & (words::group_action(w) < actions);
     word_refusal_of(spare, range, !listed)

@@ -6,7 +6,7 @@ ghost use lib.ListN.{length};
 ghost use Rattle.words.specs.Scan.{any};
 ghost use Rattle.answers.specs.Rows.{firstOf};
 ghost use Rattle.bitset.specs.Code.Members.{has, IsSetOf};
-ghost use Rattle.job.specs.Rules.{sameEntry};
+ghost use Rattle.job.specs.Code.Entries.{sameEntry};
 ghost use Rattle.job.specs.Parts.{isGroup};
 ghost use Rattle.job.specs.Before.{before, since};
 ghost use Rattle.job.specs.Follow.{predecessor};

@@ -1,12 +1,12 @@
 -- The groups of a job, one word of it after the other, and what their tables tell of a start. Assumes nothing.
-use mathlib.Core.Bool.{Bool, true, false, cond, _&&_, _||_, or-comm}
+use mathlib.Core.Bool.{Bool, true, false, not, cond, _&&_, _||_, or-comm}
 use mathlib.Core.List.{List, _∷_}
 use mathlib.Core.Logic.{by-cases}
 use mathlib.Core.Path.{_≡_, refl, ap, sym, _∙_}
 use Prim.Native.Nat.{ℕ, suc, _+_, _≤_, _<_}
 use native.Mathlib.Decide.{ℕ-discrete, decLt}
 use native.Mathlib.Omega.{arith}
-use borrow.Author.Tests.{eq-eqb, ne-eqb, le-leb, lt-leb, le-ltb, lt-ltb}
+use borrow.Author.Tests.{not-false, eqb-true, eq-eqb, ne-eqb, le-leb, lt-leb, le-ltb, lt-ltb}
 use lib.Dec.{eqb, leb, ltb}
 use lib.ListN.{length, getD, drop, set, replicate, length-set}
 use lib.Seq.{getD-set-same, getD-set-other}
@@ -14,8 +14,8 @@ use Rattle.bitset.specs.Code.Members.{has, IsSetOf}
 use Rattle.bitset.proofs.Digits.{has-zero}
 use Rattle.bitset.proofs.In.{empty-entry}
 use Rattle.words.specs.Fields.{kind, startMoment, startAction, groupNumber, groupLimit, groupAction}
-use Rattle.words.specs.Scan.{any, findOr, filter}
-use Rattle.words.proofs.AnyBelow.{some-cong}
+use Rattle.words.specs.Scan.{any, anyBelow, findOr, filter}
+use Rattle.words.proofs.AnyBelow.{some-none, none-below, some-cong}
 use Rattle.words.proofs.Filter.{filter-agree}
 use Rattle.words.proofs.Lists.{each-of}
 use Rattle.words.proofs.Scan.{drop-next, gives-end, any-end}
@@ -120,3 +120,13 @@ module _ {job : List ℕ} {groups : Groups} (table : GroupTable job groups) wher
       → someFull (groups .limits) (groups .members) held a ≡ overLimit job C s
   unfolding overLimit
   some-read s lasts more eh ea = rw (eh, ea) (some-cong _ _ 8 (λ g l. full-read g l s lasts (more (inGroup job g))))
+
+  -- where no group has an action, none is over its limit
+  pub empty-clear : anyBelow (λ g. not (eqb (getD (groups .members) g 0) 0)) 8 ≡ false → (C : List ℕ) (s : ℕ) → overLimit job C s ≡ false
+  unfolding overLimit
+  empty-clear e C s = some-none _ 8 (λ g l. rw (none g l))
+    where
+      none : (g : ℕ) → g < 8 → inGroup job g (startAction s) ≡ false
+      none g l =
+          let z : getD (groups .members) g 0 ≡ 0 = eqb-true _ 0 (not-false _ (none-below _ 8 e g l)) in
+          sym (table .members g l (startAction s)) ∙ rw z (has-zero (startAction s))

@@ -43,7 +43,7 @@ module _ (number : ℕ) (test : ℕ → Bool) where
       cases true e z = absurd (omega arith)
       cases false e z = refl
 
-  clear-row : (n : ℕ) → ((i : ℕ) → i < n → test i ≡ false) → firstOf (numbered number test) n ≡ passed
+  pub clear-row : (n : ℕ) → ((i : ℕ) → i < n → test i ≡ false) → firstOf (numbered number test) n ≡ passed
   unfolding firstOf
   clear-row zero h = refl
   clear-row (suc n) h = rw (clear-row n (λ i l. h i (omega arith)), h n (omega arith))

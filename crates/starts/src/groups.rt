@@ -1,9 +1,11 @@
 // Row 16: groups that exceed their limit.
-ghost use mathlib.Core.Bool.{true};
+ghost use mathlib.Core.Bool.{true, not};
 ghost use mathlib.Core.Path.{_≡_};
 ghost use Prim.Native.Nat.{ℕ, _<_, _≤_};
+ghost use lib.Dec.{eqb};
 ghost use lib.ListN.{length, getD, take};
 ghost use Rattle.words.specs.Fields.{kind, groupNumber};
+ghost use Rattle.words.specs.Scan.{anyBelow};
 ghost use Rattle.words.specs.Lists.{Each};
 ghost use Rattle.answers.specs.Rows.{firstOf};
 ghost use Rattle.job.specs.Code.WellFormed.{WellFormed};
@@ -19,9 +21,6 @@ use bitset::single;
 use bitset::union;
 use history::keep_unfinished;
 use words::*;
-
-// How many groups there can be.
-pub const GROUPS: usize = 8;
 
 // The limit of each group, and the set of its actions.
 pub struct Groups {
@@ -107,6 +106,20 @@ pub fn some_full(limits: &[usize; 8], members: &[u64; 8], held: &[u32], a: usize
     false
 }
 
+// Whether no group has an action.
+fn all_empty(members: &[u64; 8]) -> bool
+    ensures { λ r. ⌜ r ≡ not (anyBelow (λ g. not (eqb (getD (now (members .entry)) g 0) 0)) 8) ⌝ }
+{
+    let mut g = 0;
+    while g < GROUPS {
+        if members[g] != 0 {
+            return false;
+        }
+        g += 1;
+    }
+    true
+}
+
 // Keeps of the first `count` starts, which all finish after moment `t`, those that finish after moment `u`, which is not before `t`.
 fn keep_from(durations: &[usize; 64], t: usize, u: usize, held: &mut [u32], count: usize) -> usize
     requires { ⌜ (t ≤ u) × ((a : ℕ) → getD (now durations) a 0 < 64) × (count ≤ length (now held)) × Each (λ s. unfinishedBy (now durations) t s ≡ true) (take count (now held)) ⌝ }
@@ -125,6 +138,9 @@ pub fn over_limit(job: &[u32], durations: &[usize; 64], groups: Groups, starts: 
 {
     let limits = groups.limits;
     let members = groups.members;
+    if all_empty(&members) {
+        return none();
+    }
     let mut held = [0u32; 4096];
     let mut count = 0;
     let mut t = 0;

@@ -47,12 +47,14 @@ pub const OPEN: u8 = 1;
 
 pub const HOLDS: u8 = 2;
 
-// The strides of tables: how many fluents, actions and moments there can be.
+// The sizes of tables: how many fluents, actions, moments and groups there can be.
 pub const FLUENTS: usize = 64;
 
 pub const ACTIONS: usize = 64;
 
 pub const MOMENTS: usize = 64;
+
+pub const GROUPS: usize = 8;
 
 pub fn kind_of(w: u32) -> u32
     ensures { λ r. ⌜ (r ≡ kind w) × (r < 16) ⌝ }

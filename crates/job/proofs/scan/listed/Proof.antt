@@ -5,7 +5,7 @@ use Prim.Native.Nat.{_≤_}
 use borrow.Author.Tests.{eq-eqb, ne-eqb}
 use native.Mathlib.Omega.{arith}
 use lib.ListN.{length}
-use Rattle.job.specs.Rules.{sameEntry}
+use Rattle.job.specs.Code.Entries.{sameEntry}
 use Rattle.words.specs.Scan.{any}
 use Rattle.job.specs.Before.{before, since}
 use Rattle.job.proofs.Before.{since-any, since-none}

@@ -6,9 +6,9 @@ use native.Mathlib.Omega.{arith}
 use borrow.Author.Needs.{needs}
 use borrow.Author.Tests.{not-true, not-false, ne-eqb}
 use lib.ListN.{getD}
-use Rattle.words.specs.Fields.{groupNumber}
+use Rattle.words.specs.Fields.{kind, groupNumber}
 use Rattle.job.specs.Refusal.{refusalOf}
-use Rattle.job.proofs.Refusal.{ruled, may, may-not}
+use Rattle.job.proofs.Refusal.{ruled, may, may-not, fluent-entry, pair-entry}
 use Rattle.job.proofs.scan.word_refusal.Statement.{statement}
 use Rattle.job.proofs.scan.word_refusal.Tie as tie
 
@@ -25,6 +25,10 @@ passed : (c : tie.Else1) (k : ℕ) → c .before .before .before .kind-of .resul
 passed c k h =
     may (entry c .args .job .now) (entry c .args .i) k (sym (c .before .before .before .kind-of .ensures .0) ∙ h)
     (rw (← (c .before .before .predecessor .ensures), ← h) (sym (c .before .may-follow .ensures) ∙ not-false _ (c .if1 .left)))
+
+-- its kind, where it is told
+kind-is : (c : tie.Else1) (k : ℕ) → c .before .before .before .kind-of .result ≡ k → kind (getD (entry c .args .job .now) (entry c .args .i) 0) ≡ k
+kind-is c k h = sym (c .before .before .before .kind-of .ensures .0) ∙ h
 
 returns : tie.Need-returns
 returns c =
@@ -60,14 +64,14 @@ word-refusal-spec =
     (λ c κs. search needs) (λ c κs. search needs) (λ c κs. search needs) (λ c κs. search needs) (λ c κs. search needs) (λ c κs. search needs)
     (λ c κs. search needs) (λ c κs. search needs)
     (λ c. rw (passed (c .before .before) 1 (c .before .match .keys1)) (c .head .ensures))
-    (λ c. rw (passed (c .before .before .before) 2 (c .before .before .match .keys2), ← (c .before .listed .ensures)) (c .known .ensures))
+    (λ c. rw (passed (c .before .before .before) 2 (c .before .before .match .keys2), fluent-entry _ _ _ (kind-is (c .before .before .before) 2 (c .before .before .match .keys2)) (λ z. omega arith), ← (c .before .listed .ensures)) (c .known .ensures))
     (λ c. rw (passed (c .before .before) 3 (c .before .match .keys3), ← (entry (c .before .before) .pre .1 .actions)) (c .action .ensures))
-    (λ c. rw (passed (c .before .before .before) 4 (c .before .before .match .keys4), ← (c .before .listed2 .ensures)) (c .law .ensures))
+    (λ c. rw (passed (c .before .before .before) 4 (c .before .before .match .keys4), fluent-entry _ _ _ (kind-is (c .before .before .before) 4 (c .before .before .match .keys4)) (λ z. omega arith), ← (c .before .listed2 .ensures)) (c .law .ensures))
     (λ c. rw (passed (c .before .before) 5 (c .before .match .keys5), ← (entry (c .before .before) .pre .1 .formulas)) (c .formula .ensures))
     (λ c. rw (passed (c .before .before) 6 (c .before .match .keys6), ← (entry (c .before .before) .pre .1 .actions), ← (entry (c .before .before) .pre .1 .formulas), ← (entry (c .before .before) .pre .1 .nodes)) (c .node .ensures))
     (λ c. rw (passed (c .before .before) 7 (c .before .match .keys7), ← (entry (c .before .before) .pre .1 .nodes), ← (entry (c .before .before) .pre .1 .members)) (c .member .ensures))
     (λ c. rw (passed (c .before .before) 8 (c .before .match .keys8), ← (entry (c .before .before) .pre .1 .formulas), ← (entry (c .before .before) .pre .1 .members), ← (entry (c .before .before) .pre .1 .conditions)) (c .condition .ensures))
     (λ c. rw (passed (c .before .before) 12 (c .before .match .keys9), ← (entry (c .before .before) .pre .1 .actions)) (c .shift-window .ensures))
     (λ c. rw (passed (c .before .before) 13 (c .before .match .keys10), ← (entry (c .before .before) .pre .1 .groups (groupNumber (getD (entry (c .before .before) .args .job .now) (entry (c .before .before) .args .i) 0)))) (c .group .ensures))
-    (λ c. rw (passed (c .before .before .before) 14 (c .before .before .match .keys11), ← (entry (c .before .before .before) .pre .1 .actions), ← (entry (c .before .before .before) .pre .1 .groups (groupNumber (getD (entry (c .before .before .before) .args .job .now) (entry (c .before .before .before) .args .i) 0))), ← (c .before .listed3 .ensures)) (c .group-member .ensures))
+    (λ c. rw (passed (c .before .before .before) 14 (c .before .before .match .keys11), ← (entry (c .before .before .before) .pre .1 .actions), ← (entry (c .before .before .before) .pre .1 .groups (groupNumber (getD (entry (c .before .before .before) .args .job .now) (entry (c .before .before .before) .args .i) 0))), pair-entry (getD (entry (c .before .before .before) .args .job .now) 0 0) _ _ (kind-is (c .before .before .before) 14 (c .before .before .match .keys11)), ← (c .before .listed3 .ensures)) (c .group-member .ensures))
     returns-13)

@@ -1,16 +1,17 @@
 -- `starts::groups::over_limit` meets its contract. The invariant: the row fits no word before `i`, and of these the ones in hand are carried.
 -- Assumes nothing.
-use mathlib.Core.Bool.{Bool}
 use mathlib.Core.Path.{_≡_, sym, _∙_}
-use Prim.Native.Nat.{_-_, _≤_}
+use Prim.Native.Nat.{suc, _-_, _≤_}
 use native.Mathlib.Omega.{arith}
 use borrow.Author.Needs.{needs}
+use borrow.Author.Tests.{not-true}
 use lib.ListN.{length, getD, take}
 use lib.Seq.{length-take-le}
 use Rattle.words.specs.Fields.{startMoment}
 use Rattle.history.specs.Code.Held.{unfinishedBy, Filtered}
 use Rattle.starts.specs.Rows.{groupExceeded}
-use Rattle.starts.proofs.Rows.{tried-found, tried-end}
+use Rattle.starts.proofs.Rows.{clear-row, tried-found, tried-end}
+use Rattle.starts.proofs.GroupTable.{empty-clear}
 use Rattle.starts.proofs.GroupWalk.{Carrying, carrying-none, unfinished-yet, full-at, carrying-more}
 use Rattle.starts.proofs.groups.over_limit.Statement.{statement}
 use Rattle.starts.proofs.groups.over_limit.Tie as tie
@@ -25,8 +26,11 @@ abbrev μ-loop : tie.MeasureT-loop
 abbrev turn : tie.After-start-moment Inv-loop μ-loop → tie.At-loop Inv-loop μ-loop
 turn c = c .before .before .before
 
+abbrev asked : tie.After-all-empty Inv-loop μ-loop → tie.Start Inv-loop μ-loop
+asked c = c .before .before .before .before .before .before
+
 abbrev entry : tie.At-loop Inv-loop μ-loop → tie.Start Inv-loop μ-loop
-entry c = c .before .before .before .before .before
+entry c = asked (c .before .before)
 
 abbrev moment : tie.After-keep-from Inv-loop μ-loop → tie.After-start-moment Inv-loop μ-loop
 moment c = c .before .before
@@ -62,11 +66,22 @@ inside c =
     let old = turn (moment c) .loop .inv in
     omega (arith, c .keep-from .ensures .few, c .keep-from .kept .1 .1 .1 .0, old .few, old .room, entry (turn (moment c)) .pre .few, moment c .before .before .loop-test .taken)
 
+-- no group has an action
 returns : tie.Need-returns Inv-loop μ-loop
+unfolding groupExceeded
 returns c =
+    let e = c .before .before in
+    let none = not-true _ (sym (e .all-empty .ensures) ∙ c .before .if1 .taken) in
+    let args = asked e .args in
+    let job = args .job .now in
+    let starts = args .starts .now in
+    c .none .ensures ∙ sym (clear-row 16 (groupExceeded job starts) (length starts) (λ i l. empty-clear (asked e .pre .table) none (take (suc i) starts) (getD starts i 0)))
+
+returns-2 : tie.Need-returns-2 Inv-loop μ-loop
+returns-2 c =
     let t = c .before .before in
     let m = moment (kept t) in
-    c .refuse .ensures ∙ tried-found (turn m .loop .inv .tried) (omega arith) (m .before .before .loop-test .taken) (value t ∙ c .before .if1 .taken)
+    c .refuse .ensures ∙ tried-found (turn m .loop .inv .tried) (omega arith) (m .before .before .loop-test .taken) (value t ∙ c .before .if2 .taken)
 
 loop-again : tie.Need-loop-again Inv-loop μ-loop
 loop-again c =
@@ -74,13 +89,13 @@ loop-again c =
     let k = kept t in
     let m = moment k in
     rw (m .start-moment .ensures .0)
-    (carrying-more (entry (turn m) .pre) (turn m .loop .inv) (m .before .before .loop-test .taken) (filtered k) (k .keep-from .kept .1 .1 .1 .0) (value t ∙ c .if1 .left))
+    (carrying-more (entry (turn m) .pre) (turn m .loop .inv) (m .before .before .loop-test .taken) (filtered k) (k .keep-from .kept .1 .1 .1 .0) (value t ∙ c .if2 .left))
 
 pub over-limit-spec : {M : Type 1} → statement M
 over-limit-spec =
     tie.close
-    (tie.spec Inv-loop μ-loop (λ c. carrying-none (c .before .before .before .before .pre)) (λ c. search needs) (λ c. search needs) (λ c κs. search needs)
+    (tie.spec Inv-loop μ-loop (λ c κs. search needs) (λ c κs. search needs) returns (λ c. carrying-none (asked (c .before) .pre)) (λ c. search needs) (λ c. search needs) (λ c κs. search needs)
     (λ c. search needs) keep-from-requires
-    (λ c. inside (c .before .before .before)) (λ c. sym (length-take-le _ _ (inside (c .before .before .before .before)))) (λ c κs. search needs) (λ c κs. search needs) (λ c κs. search needs) returns
+    (λ c. inside (c .before .before .before)) (λ c. sym (length-take-le _ _ (inside (c .before .before .before .before)))) (λ c κs. search needs) (λ c κs. search needs) (λ c κs. search needs) returns-2
     (λ c. search needs) (λ c. search needs) (λ c. search needs) (λ c. search needs) (λ c. search needs) loop-again (λ c κs. search needs)
-    (λ c. c .none .ensures ∙ tried-end (c .before .before .loop .inv .tried) (omega arith)))
+    (λ c. c .none2 .ensures ∙ tried-end (c .before .before .loop .inv .tried) (omega arith)))
