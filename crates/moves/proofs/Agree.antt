@@ -3,7 +3,7 @@ use mathlib.Core.Bool.{Bool, true, false, not, cond, _&&_, true≢false, and-fal
 use mathlib.Core.List.{List, [], _∷_}
 use mathlib.Core.Logic.{by-cases}
 use mathlib.Core.Path.{_≡_, refl, ap, sym, _∙_}
-use Prim.Native.Nat.{ℕ, zero, suc, _+_, _-_, _<_, _≤_}
+use Prim.Native.Nat.{ℕ, _+_, _<_, _≤_}
 use native.Mathlib.Decide.{decLt}
 use native.Mathlib.Omega.{arith}
 use borrow.Author.Tests.{ltb-true, ltb-false, leb-false, le-ltb, lt-ltb, le-leb, lt-leb, eqb-true, eq-eqb, ne-eqb}
@@ -24,15 +24,14 @@ use Rattle.job.specs.Code.WellFormed.{WellFormed}
 use Rattle.job.proofs.WellFormed.{well-formed}
 use Rattle.history.specs.Actions.{finish}
 use Rattle.history.specs.Held.{Ascending}
-use Rattle.starts.specs.Rows.{isStart, ascends, wrongWord, endsLate, restarts, inHandAlready, clashing, clashes, mayStart, outsideWindows, overLimit, groupExceeded, unmetAt, needsUnmet, numbered, rowsRefusal, startsRefusal}
+use Rattle.starts.specs.Rows.{isStart, wrongWord, endsLate, restarts, inHandAlready, clashing, clashes, mayStart, outsideWindows, overLimit, groupExceeded, unmetAt, needsUnmet, numbered, rowsRefusal, startsRefusal}
 use Rattle.starts.proofs.Rows.{NoneFits, no-row, and-row, none-rows, row-clear, rows-last, rows-found, rows-next}
-use Rattle.starts.proofs.StartsFormed.{right-of, word-is, is-start-at, ascending}
+use Rattle.starts.proofs.StartsFormed.{right-of, word-is, word-moment, word-action, is-start-at, words-formed, ascending}
 use Rattle.starts.proofs.GroupLimits.{rows-keep, keeps-rows, start-keeps, keeps-start}
 use Rattle.starts.proofs.Needs.{unmet-before}
 use Rattle.starts.proofs.Opposed.{clashing-swap}
 use Rattle.moves.specs.Trials.{Trial, busy, startRefusal}
 use Rattle.moves.specs.Promises.{MoveAgrees}
-use Rattle.moves.proofs.Accept.{word-moment, word-action}
 use Rattle.moves.proofs.Passing.{Passing, passing}
 
 -- a test of a trial fails exactly where a row fits none of n words
@@ -114,20 +113,8 @@ module _ {R : ℕ → ℕ → Type 0} (w : ℕ) where
           let here : With R w s = record { before = λ k. each-out w ss a; after = λ k. absurd (omega arith) } in
           each-more here (ih p)
 
--- starts of the job that ascend: row 6 fits none
-words-right : (job L : List ℕ) → Each (λ s. isStart job s ≡ true) L → Pairs (λ s s'. s < s') L → (i : ℕ) → i < length L → wrongWord job L i ≡ false
-unfolding wrongWord
-words-right job L words order i l = rw (each-at words i l, climbs i l)
-  where
-    climbs : (i : ℕ) → i < length L → ascends L i ≡ true
-    climbs zero l = refl
-    climbs (suc i) l =
-        let same : suc i - 1 ≡ i = omega arith in
-        rw (ne-eqb (suc i) 0 (λ z. omega arith), same) (lt-ltb _ _ (pairs-at order (suc i) i (omega arith) l))
-
--- a start of action a at the moment of a trial that passes, which the trial does not have
-module _ (job : List ℕ) (formed : WellFormed job) (T : Trial) (h : Passing job T) (a : ℕ) (small : a < 64)
-    (new : Each (λ s. s ≡ startWord (T .moment) a → ⊥) (T .starts)) where
+-- a start of action a at the moment of a trial that passes
+module _ (job : List ℕ) (formed : WellFormed job) (T : Trial) (h : Passing job T) (a : ℕ) (small : a < 64) where
   abbrev u : ℕ
   u = T .moment
 
@@ -143,11 +130,14 @@ module _ (job : List ℕ) (formed : WellFormed job) (T : Trial) (h : Passing job
   u-small : u < 64
   u-small = omega (arith, formed .few-moments, h .present)
 
-  at-u : startMoment w ≡ u
+  pub at-u : startMoment (startWord (T .moment) a) ≡ T .moment
   at-u = word-moment u a u-small small
 
-  of-a : startAction w ≡ a
+  pub of-a : startAction (startWord (T .moment) a) ≡ a
   of-a = word-action u a u-small small
+
+  pub lasts : a < actions job → 0 < duration job (startAction (startWord (T .moment) a))
+  lasts l = rw of-a (formed .lasting a l)
 
   -- a row on each word, where a trial tests the new word alone; a row on each two, where it tests each of its starts beside the new word
   by-word : (t : ℕ → Bool) {b : Bool} → t w ≡ b → Each (λ s. t s ≡ false) S → Alike (length L) b (λ i. t (getD L i 0))
@@ -167,6 +157,10 @@ module _ (job : List ℕ) (formed : WellFormed job) (T : Trial) (h : Passing job
       all-free : Each (λ s. q s ≡ false) S → Pairs (λ s s'. t s s' ≡ false) L
       all-free n = pairs-insert w (each-with (λ s g e. g e .0) there n) (each-with (λ s g e. g e .1) there n) free
 
+  -- the trial does not have it
+  abbrev New : Type 0
+  New = Each (λ s. s ≡ w → ⊥) S
+
   -- row 6: the new word is a start of the job exactly where there is such an action
   is-start : a < actions job → isStart job w ≡ true
   is-start l =
@@ -179,9 +173,9 @@ module _ (job : List ℕ) (formed : WellFormed job) (T : Trial) (h : Passing job
         lt-ltb a (actions job) l,
       )
 
-  row-6 : Alike (length L) (leb (actions job) a) (wrongWord job L)
-  row-6 = record {
-    to = λ e. words-right job L (each-insert w (is-start (leb-false _ _ e)) (h .lawful .words)) (order-insert w new (h .lawful .order));
+  row-6 : New → Alike (length L) (leb (actions job) a) (wrongWord job L)
+  row-6 new = record {
+    to = λ e. words-formed (each-insert w (is-start (leb-false _ _ e)) (h .lawful .words)) (order-insert w new (h .lawful .order)) .right;
     from = λ f. lt-leb _ _ (named (each-of L (λ i l. is-start-at job L i (f i l))));
   }
     where
@@ -196,8 +190,8 @@ module _ (job : List ℕ) (formed : WellFormed job) (T : Trial) (h : Passing job
   abbrev Sooner : ℕ → Type 0
   Sooner s = startAction s ≡ a → (startMoment s < u) × (s ≤ w)
 
-  sooner : Each Sooner S
-  sooner = each-with (λ s f n. f n) known new
+  sooner : New → Each Sooner S
+  sooner new = each-with (λ s f n. f n) known new
     where
       earlier : (s : ℕ) → s ≡ startWord (startMoment s) (startAction s) → startMoment s ≤ u → (s ≡ w → ⊥) → Sooner s
       earlier s e l n same = by-cases (decLt (startMoment s) u) (λ m. (m, omega arith)) (λ m. absurd (n (omega arith)))
@@ -222,12 +216,12 @@ module _ (job : List ℕ) (formed : WellFormed job) (T : Trial) (h : Passing job
   not-later : (s : ℕ) → startMoment s ≤ u → restarts job w s ≡ false
   not-later s l = rw (at-u, le-ltb u (startMoment s) l) (and-false (eqb (startAction w) (startAction s)))
 
-  row-8 : Alike (length L) (any (busy job u a) S) (inHandAlready job L)
+  row-8 : New → Alike (length L) (any (busy job u a) S) (inHandAlready job L)
   unfolding inHandAlready
-  row-8 =
+  row-8 new =
       by-pair (restarts job) (busy job u a) (h .lawful .apart)
-      (each-with (λ s f l e. (again s f ∙ e, not-later s l)) sooner (h .past))
-      (each-map free sooner)
+      (each-with (λ s f l e. (again s f ∙ e, not-later s l)) (sooner new) (h .past))
+      (each-map free (sooner new))
     where
       free : (s : ℕ) → Sooner s → With (λ s s'. restarts job s s' ≡ false) w s → busy job u a s ≡ false
       free s f p = is-false (busy job u a s) (λ e.
@@ -247,9 +241,9 @@ module _ (job : List ℕ) (formed : WellFormed job) (T : Trial) (h : Passing job
   row-15 = by-word (λ s. not (mayStart job (startMoment s) (startAction s))) (rw (at-u, of-a)) (each-map (λ s e. ap not e) (h .lawful .inside))
 
   -- row 16: with the new start, counted with all, each group stays within its limit exactly where no word exceeds it with those before it
-  row-16 : leb (actions job) a ≡ false → Alike (length L) (overLimit job (w ∷ S) w) (groupExceeded job L)
+  row-16 : New → leb (actions job) a ≡ false → Alike (length L) (overLimit job (w ∷ S) w) (groupExceeded job L)
   unfolding overLimit groupExceeded
-  row-16 named = record {
+  row-16 new named = record {
     to = λ e i l. some-none _ 8 (λ g m.
         keeps-rows job (inGroup job g) (limitOf job g) L
         (start-keeps job (inGroup job g) (limitOf job g) w S past (h .lawful .within g m) (none-below _ 8 e g m)) i l);
@@ -262,7 +256,7 @@ module _ (job : List ℕ) (formed : WellFormed job) (T : Trial) (h : Passing job
       past = each-map (λ s m. omega (arith, at-u)) (h .past)
 
       ascends : Ascending L
-      ascends = ascending {job = job} (record { right = row-6 .to named }) (small-at (each-insert w (omega (arith, u-small)) (h .small)))
+      ascends = ascending {job = job} (record { right = row-6 new .to named }) (small-at (each-insert w (omega (arith, u-small)) (h .small)))
 
   -- row 10: a start of the job changes no needs up to its own moment, and none of the trial's starts is later
   row-10 : a < actions job → Alike (length L) (unmetAt job S u a) (needsUnmet job L)
@@ -271,23 +265,21 @@ module _ (job : List ℕ) (formed : WellFormed job) (T : Trial) (h : Passing job
       by-word (λ s. unmetAt job L (startMoment s) (startAction s)) (before (startMoment w) (startAction w) (omega arith) ∙ rw (at-u, of-a))
       (each-with (λ s m e. before (startMoment s) (startAction s) (omega (arith, at-u)) ∙ e) (h .past) (h .lawful .met))
     where
-      lasts : 0 < duration job (startAction w)
-      lasts = rw of-a (formed .lasting a l)
-
       before : (t b : ℕ) → t ≤ startMoment w → unmetAt job L t b ≡ unmetAt job S t b
-      before t b m = unmet-before job w lasts S t b m
+      before t b m = unmet-before job w (lasts l) S t b m
 
   -- the rows in their order; what row 6 shows, rows 16 and 10 ask
-  agrees : startRefusal job T a .number ≡ startsRefusal job L .number
+  pub agrees : Each (λ s. s ≡ startWord (T .moment) a → ⊥) (T .starts)
+      → startRefusal job T a .number ≡ startsRefusal job (insert (startWord (T .moment) a) (T .starts)) .number
   unfolding startRefusal startsRefusal
-  agrees =
+  agrees new =
       same-number (
-      beside (omega arith) row-6 (λ named.
+      beside (omega arith) (row-6 new) (λ named.
       beside (omega arith) row-7 (λ _.
-      beside (omega arith) row-8 (λ _.
+      beside (omega arith) (row-8 new) (λ _.
       beside (omega arith) row-9 (λ _.
       beside (omega arith) row-15 (λ _.
-      beside (omega arith) (row-16 named) (λ _.
+      beside (omega arith) (row-16 new named) (λ _.
       beside (omega arith) (row-10 (leb-false _ _ named)) (λ _. no-more))))))))
 
 pub move-agrees : MoveAgrees

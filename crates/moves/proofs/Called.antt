@@ -2,7 +2,7 @@
 use mathlib.Core.Bool.{Bool, true, false, cond}
 use mathlib.Core.List.{List, [], _∷_, _++_}
 use mathlib.Core.Path.{_≡_, refl, ap, sym, _∙_}
-use Prim.Native.Nat.{ℕ, _+_, _≤_}
+use Prim.Native.Nat.{ℕ, _≤_}
 use native.Mathlib.Omega.{arith}
 use borrow.Author.Tests.{eq-eqb, le-ltb}
 use lib.Dec.{eqb}
@@ -16,7 +16,8 @@ use Rattle.job.proofs.WellFormed.{well-formed}
 use Rattle.moves.specs.Trials.{Trial, Move, fresh, moveRefusal, moved, after, played}
 use Rattle.moves.specs.Calls.{trialWords, trialIn, beginAnswer, moveAnswer, shownFacts, showAnswer, handedBack, calledWords}
 use Rattle.moves.specs.Promises.{CalledSay, ShowAccepts}
-use Rattle.moves.proofs.Passing.{played-passing, lawful-few, played-passes}
+use Rattle.moves.proofs.Passing.{lawful-few}
+use Rattle.moves.proofs.Played.{played-passing, played-passes}
 
 -- the first words of a list in front of others are its own
 first-of : (S rest : List ℕ) → length S ≤ 4096 → firstWords (length S) (take 4096 (S ++ rest)) ≡ S

@@ -26,8 +26,9 @@ use Rattle.starts.proofs.Lawful.{lawful}
 use Rattle.starts.proofs.StartsFormed.{Right, right-of, word-is, ordered}
 use Rattle.moves.specs.Trials.{Trial, Move, Start, On, fresh, trialRefusal, startRefusal, onRefusal, ownRefusal, moveRefusal, moved, after, played}
 use Rattle.moves.specs.Promises.{GivenBy, GivenExactly}
-use Rattle.moves.proofs.Passing.{Passing, passing, passes, played-passing}
-use Rattle.moves.proofs.Agree.{move-agrees}
+use Rattle.moves.proofs.Passing.{Passing, passing, passes}
+use Rattle.moves.proofs.Agree.{agrees}
+use Rattle.moves.proofs.Played.{played-passing}
 
 -- starts below a start w: none is later
 in-order : {job : List ℕ} {w : ℕ} → Right job w → w < 2 ^ 32 → {S : List ℕ} → Each (λ s. isStart job s ≡ true) S → Each (λ s. s < 2 ^ 32) S → Each (λ s. s < w) S
@@ -134,7 +135,7 @@ module _ (job : List ℕ) (good : jobRefusal job .number ≡ 0) where
         new = each-map (λ s l e. omega (arith, whole)) (order .1)
 
         same : startRefusal job (trial (startMoment w) S) (startAction w) .number ≡ startsRefusal job (insert (startWord (startMoment w) (startAction w)) S) .number
-        same = move-agrees job good (trial (startMoment w) S) (smalls .0) (passes job (trial (startMoment w) S) earlier) (startAction w) (omega arith) new
+        same = agrees job formed (trial (startMoment w) S) earlier (startAction w) (omega arith) new
 
     back-start : (Passing job (trial (startMoment w) S) → GivenBy job (trial (startMoment w) S)) → GivenBy job (trial (startMoment w) (S ++ (w ∷ [])))
     back-start r =

@@ -1,7 +1,7 @@
 -- What is shown of a trial: the filler's facts for its starts, up to its moment; no move takes one back. Assumes nothing.
 use mathlib.Core.List.{List, [], _∷_, _++_, append-assoc, append-nil}
 use mathlib.Core.Path.{_≡_, sym, _∙_}
-use Prim.Native.Nat.{ℕ, _+_}
+use Prim.Native.Nat.{ℕ, _+_, _<_}
 use native.Mathlib.Omega.{arith}
 use borrow.Author.Tests.{eq-eqb, ne-eqb, le-ltb}
 use Rattle.words.specs.Fields.{startWord}
@@ -16,8 +16,9 @@ use Rattle.theory.specs.Answers.{planRefusal, fillRefusal, fillAnswer}
 use Rattle.moves.specs.Trials.{Trial, Move, Start, On, ownRefusal, moveRefusal, moved, after, played}
 use Rattle.moves.specs.Calls.{shownFacts}
 use Rattle.moves.specs.Promises.{FillAccepts, ShownAreFilled, RefusedKeeps, Extended, ShownStay}
-use Rattle.moves.proofs.Accept.{startable, at-u, new-lasts}
-use Rattle.moves.proofs.Passing.{Passing, after-all, played-passing, played-starts}
+use Rattle.moves.proofs.Passing.{Passing}
+use Rattle.moves.proofs.Agree.{at-u, lasts}
+use Rattle.moves.proofs.Played.{named, after-all, played-passing, played-starts}
 
 pub fill-accepts : FillAccepts
 unfolding fillAnswer fillRefusal planRefusal
@@ -41,11 +42,12 @@ module _ (job : List ℕ) (good : jobRefusal job .number ≡ 0) where
   -- an accepted move adds facts at the end, or none
   move-adds : (T : Trial) (m : Move) → Passing job T → ownRefusal job T m .number ≡ 0 → Extended (shownFacts job T) (shownFacts job (moved T m))
   move-adds T (Start a) h e =
-      let ok = startable job T a e in
+      let k = named job T a e in
+      let small : a < 64 = omega (arith, formed .few-actions) in
       record {
         rest = [];
-        same = rw append-nil (facts-before job (startWord (T .moment) a) (new-lasts job formed T a (h .present) (h .past) ok (h .lawful)) (T .starts) (T .moment)
-            (omega (arith, at-u job formed T a (h .present) (h .past) ok (h .lawful))));
+        same = rw append-nil (facts-before job (startWord (T .moment) a) (lasts job formed T h a small k) (T .starts) (T .moment)
+            (omega (arith, at-u job formed T h a small)));
       }
   move-adds T On h e = record { rest = factsAt job (T .starts) (T .moment + 1); same = facts-next job (T .starts) (T .moment) }
 

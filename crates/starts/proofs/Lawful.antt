@@ -1,33 +1,22 @@
 -- No row fits exactly lawful starts. Assumes nothing.
-use mathlib.Core.Bool.{true, not}
+use mathlib.Core.Bool.{not}
 use mathlib.Core.List.{List}
 use mathlib.Core.Path.{_≡_, refl, ap}
-use Prim.Native.Nat.{ℕ, zero, suc, _-_, _^_, _<_}
-use native.Mathlib.Omega.{arith}
-use borrow.Author.Tests.{not-false, ltb-false, le-ltb, lt-ltb, ne-eqb}
+use Prim.Native.Nat.{ℕ, _^_, _<_}
+use borrow.Author.Tests.{not-false, ltb-false, le-ltb}
 use lib.ListN.{length}
 use Rattle.words.specs.Lists.{Each}
 use Rattle.job.specs.Parts.{limitOf, inGroup}
-use Rattle.starts.specs.Rows.{ascends, wrongWord, endsLate, inHandAlready, clashes, outsideWindows, overLimit, groupExceeded, needsUnmet, startRows, startsRefusal}
+use Rattle.starts.specs.Rows.{endsLate, inHandAlready, clashes, outsideWindows, overLimit, groupExceeded, needsUnmet, startRows, startsRefusal}
 use Rattle.starts.specs.Code.Given.{StartsFormed}
 use Rattle.starts.specs.Lawful.{Lawful, LawfulExactly}
 use Rattle.words.proofs.AnyBelow.{some-none, none-below}
 use Rattle.words.proofs.Lists.{each-of, each-at, small-at, pairs-of, pairs-at}
 use Rattle.starts.proofs.Rows.{NoneFits, no-row, and-row, rows-none, none-rows}
-use Rattle.starts.proofs.StartsFormed.{is-start-at, words-ascend, ascending}
+use Rattle.starts.proofs.StartsFormed.{is-start-at, words-formed, words-ascend, ascending}
 use Rattle.starts.proofs.GroupLimits.{rows-keep, keeps-rows}
 
 module _ (job starts : List ℕ) where
-  pub lawful-formed : Lawful job starts → StartsFormed job starts
-  unfolding wrongWord
-  lawful-formed h = record { right = λ i l. rw (each-at (h .words) i l, climbs i l) }
-    where
-      climbs : (i : ℕ) → i < length starts → ascends starts i ≡ true
-      climbs zero l = refl
-      climbs (suc i) l =
-          let same : suc i - 1 ≡ i = omega arith in
-          rw (ne-eqb (suc i) 0 (λ z. omega arith), same) (lt-ltb _ _ (pairs-at (h .order) (suc i) i (omega arith) l))
-
   from : Each (λ s. s < 2 ^ 32) starts → NoneFits (length starts) (startRows job starts) → Lawful job starts
   unfolding endsLate inHandAlready clashes outsideWindows overLimit groupExceeded needsUnmet
   from small (and-row row6 (and-row row7 (and-row row8 (and-row row9 (and-row row15 (and-row row16 (and-row row10 no-row))))))) = record {
@@ -45,7 +34,7 @@ module _ (job starts : List ℕ) where
   to : Lawful job starts → NoneFits (length starts) (startRows job starts)
   unfolding endsLate inHandAlready clashes outsideWindows overLimit groupExceeded needsUnmet
   to h =
-      and-row (lawful-formed h .right)
+      and-row (words-formed (h .words) (h .order) .right)
       (and-row (λ i l. le-ltb _ _ (each-at (h .ends) i l))
       (and-row (λ i l. some-none _ i (λ j m. pairs-at (h .apart) i j m l))
       (and-row (λ i l. some-none _ i (λ j m. pairs-at (h .agree) i j m l))

@@ -1,16 +1,17 @@
--- Starts that row 6 does not fit: each is a start of the job, and their moments ascend. Assumes nothing.
+-- Starts that row 6 does not fit: exactly those that are each a start of the job and ascend; their moments ascend too. Assumes nothing.
 use mathlib.Core.Bool.{true, false}
 use mathlib.Core.List.{List}
 use mathlib.Core.Path.{_≡_, refl}
 use Prim.Native.Nat.{ℕ, zero, suc, _+_, _-_, _^_, _≤_, _<_}
 use native.Mathlib.Decide.{decLt}
 use native.Mathlib.Omega.{arith}
-use borrow.Author.Tests.{not-false, eqb-true, leb-true, ltb-true, ne-eqb}
+use borrow.Author.Tests.{not-false, eqb-true, leb-true, ltb-true, lt-ltb, ne-eqb}
 use lib.Dec.{eqb}
 use lib.ListN.{length, getD}
 use Rattle.words.specs.Fields.{kind, field, startMoment, startAction, startWord}
+use Rattle.words.specs.Lists.{Each, Pairs}
 use Rattle.words.proofs.Choices.{both-true}
-use Rattle.words.proofs.Lists.{pairs-of}
+use Rattle.words.proofs.Lists.{each-at, pairs-of, pairs-at}
 use Rattle.job.specs.Parts.{actions, lastMoment}
 use Rattle.history.specs.Actions.{finish}
 use Rattle.history.specs.Code.Tables.{Durations, tabledFinish, Named}
@@ -60,6 +61,17 @@ module _ (job starts : List ℕ) (i : ℕ) (h : wrongWord job starts i ≡ false
       let e : eqb i 0 ≡ false = ne-eqb i 0 (λ z. omega arith) in
       ltb-true _ _ (rw e at (parts .1))
 
+-- starts of the job that ascend: row 6 fits none
+pub words-formed : {job starts : List ℕ} → Each (λ s. isStart job s ≡ true) starts → Pairs (λ s s'. s < s') starts → StartsFormed job starts
+unfolding wrongWord
+words-formed {job} {starts} words order = record { right = λ i l. rw (each-at words i l, climbs i l) }
+  where
+    climbs : (i : ℕ) → i < length starts → ascends starts i ≡ true
+    climbs zero l = refl
+    climbs (suc i) l =
+        let same : suc i - 1 ≡ i = omega arith in
+        rw (ne-eqb (suc i) 0 (λ z. omega arith), same) (lt-ltb _ _ (pairs-at order (suc i) i (omega arith) l))
+
 -- once row 6, or rows 6 to 9, give no number
 pub row-passed : {job starts : List ℕ} {r : Refusal} → r ≡ firstOf (numbered 6 (wrongWord job starts)) (length starts) → r .number ≡ 0 → StartsFormed job starts
 row-passed {job} {starts} is e = record { right = row-clear 6 (wrongWord job starts) (length starts) (omega arith) (rw is at e) }
@@ -102,6 +114,14 @@ word-low r w = let k = r .of-kind in let b = r .bare in omega arith
 
 pub word-is : {job : List ℕ} {s : ℕ} → Right job s → s < 2 ^ 32 → s ≡ startWord (startMoment s) (startAction s)
 word-is r w = let b = word-low r w in low-bits _ (b .0) (b .1)
+
+-- and the word of a moment and an action has them in its fields
+module _ (u a : ℕ) (hu : u < 64) (ha : a < 64) where
+  pub word-moment : startMoment (startWord u a) ≡ u
+  word-moment = omega arith
+
+  pub word-action : startAction (startWord u a) ≡ a
+  word-action = omega arith
 
 -- of lists of 32-bit words
 module _ (job starts : List ℕ) (words : (i : ℕ) → getD starts i 0 < 2 ^ 32) where

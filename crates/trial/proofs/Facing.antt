@@ -25,8 +25,8 @@ use Rattle.starts.specs.declared.groups.Groups.{Groups}
 use Rattle.starts.proofs.GroupLimits.{one-in-front}
 use Rattle.starts.proofs.GroupTable.{some-read}
 use Rattle.starts.proofs.Opposed.{together-later}
+use Rattle.starts.proofs.StartsFormed.{word-moment, word-action}
 use Rattle.moves.specs.Trials.{busy}
-use Rattle.moves.proofs.Accept.{word-moment, word-action}
 use Rattle.trial.specs.Code.Given.{Facing, FacingAll}
 
 pub busy-read : (job : List ℕ) (u a s : ℕ) {x y z : ℕ} → x ≡ startAction s → y ≡ startMoment s → z ≡ finish job s

@@ -22,7 +22,7 @@ use Rattle.job.specs.Code.WellFormed.{WellFormed}
 use Rattle.facts.specs.Facts.{factsUpto}
 use Rattle.moves.specs.Trials.{Move, Start, On, trialRefusal, startRefusal, onRefusal, ownRefusal, moveRefusal, moved, after}
 use Rattle.moves.specs.Calls.{shownFacts}
-use Rattle.moves.proofs.Accept.{startable}
+use Rattle.moves.proofs.Played.{named}
 use Rattle.moves.proofs.Shown.{refused-keeps}
 use Rattle.trial.specs.declared.Trial.{Trial}
 use Rattle.trial.specs.Stepped.{trialOf, Stepped}
@@ -84,7 +84,7 @@ module _ (job : List ℕ) (t : Trial) (s : Sized t) where
 
     pub named-start : WellFormed job → startRefusal job (record { moment = t .moment; starts = take (t .length) (t .starts) }) a .number ≡ 0 → a < 64
     named-start formed z =
-        omega (arith, startable job (record { moment = t .moment; starts = take (t .length) (t .starts) }) a z .named, formed .few-actions)
+        omega (arith, named job (record { moment = t .moment; starts = take (t .length) (t .starts) }) a z, formed .few-actions)
 
     pub moved-start : {w : ℕ} {r : Trial} → w ≡ startWord (t .moment) a → WithWord t w r → trialOf r ≡ moved (trialOf t) (Start a)
     moved-start e h = h .trial ∙ rw (e, taken)

@@ -8,9 +8,9 @@ use lib.Dec.{leb, ltb}
 use lib.ListN.{length, getD}
 use Rattle.words.specs.Fields.{startWord}
 use Rattle.words.specs.Scan.{any}
-use Rattle.words.specs.Lists.{Each, Pairs, insert}
+use Rattle.words.specs.Lists.{Each, Pairs}
 use Rattle.words.proofs.Lists.{each-of, each-at, small-at, pairs-of}
-use Rattle.words.proofs.Insert.{each-insert, insert-length}
+use Rattle.words.proofs.Insert.{insert-length}
 use Rattle.answers.specs.declared.Refusal.{Refusal}
 use Rattle.answers.specs.Rows.{refusal, row, firstRefusal}
 use Rattle.job.specs.Parts.{headWord, actions, lastMoment, duration, lawsOf}
@@ -26,9 +26,9 @@ use Rattle.starts.proofs.Lawful.{lawful, rows-formed}
 use Rattle.theory.specs.Answers.{planRefusal}
 use Rattle.theory.specs.declared.Plan.{Plan}
 use Rattle.theory.proofs.Passing.{job-clear, plan-formed, actions-indexed}
-use Rattle.moves.specs.Trials.{Trial, busy, startRefusal}
-use Rattle.moves.proofs.Accept.{startable, accept}
-use Rattle.moves.proofs.Passing.{lawful-few}
+use Rattle.moves.specs.Trials.{Trial, Start, busy, startRefusal}
+use Rattle.moves.proofs.Passing.{Passing, lawful-few}
+use Rattle.moves.proofs.Played.{move-passes}
 use Rattle.trial.specs.Code.Given.{FacingAll, Present, heldRefusal, StartTested}
 
 -- a plan that passes has lawful starts
@@ -81,11 +81,9 @@ module _ {job starts : List ℕ} {u : ℕ} {plan : Plan} (given : Present job st
   new-room : (a : ℕ) → Each (λ s. s < 2 ^ 32) starts → startRefusal job (record { moment = u; starts = starts }) a .number ≡ 0 → length starts < 4096
   new-room a small e =
       let T : Trial = record { moment = u; starts = starts } in
-      let ok = startable job T a e in
-      let more = accept job present-formed T a (given .present) (given .past) ok (plan-lawful small (given .passed .clear)) in
-      let words : Each (λ s. s < 2 ^ 32) (insert (startWord u a) starts) =
-      each-insert (startWord u a) (omega (arith, given .present, present-formed .few-moments, ok .named, present-formed .few-actions)) small in
-      omega (arith, lawful-few words more, insert-length (startWord u a) starts)
+      let passing : Passing job T = record { present = given .present; past = given .past; small = small; lawful = plan-lawful small (given .passed .clear) } in
+      let more = move-passes job present-formed T (Start a) passing e in
+      omega (arith, lawful-few (more .small) (more .lawful), insert-length (startWord u a) starts)
 
   pub tested : {a : ℕ} {r : Refusal} → Each (λ s. s < 2 ^ 32) starts → r ≡ startRefusal job (record { moment = u; starts = starts }) a → StartTested job starts u a r
   tested {a} small e = record { refusal = e; room = λ z. new-room a small (ap (λ (r : Refusal). r .number) (sym e) ∙ z) }
