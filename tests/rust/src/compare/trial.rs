@@ -175,7 +175,7 @@ pub fn each_word(seed: u64, rounds: usize, calls: &Calls) -> Report {
 fn bad_job(random: &mut Random, job: &[u32]) -> Vec<u32> {
     match random.below(20) {
         0..=8 => damage::any(random, job),
-        9 => damage::fluent_again(random, job),
+        9 => damage::named_again(random, job),
         10..=11 => limits::no_node(random),
         12 => limits::empty_last_set(random),
         13..=14 => noise::words(random),
@@ -236,21 +236,21 @@ fn buffer_length(random: &mut Random) -> usize {
     }
 }
 
-pub const COLUMNS: [&str; 21] = [
-    "0", "1", "2", "3", "4", "5", "6", "7", "8", "9", "15", "10", "12", "14", "14 at n", "new 6", "new 7", "new 8",
-    "new 9", "new 15", "new 10",
+pub const COLUMNS: [&str; 23] = [
+    "0", "1", "2", "3", "4", "5", "6", "7", "8", "9", "15", "16", "10", "12", "14", "14 at n", "new 6", "new 7",
+    "new 8", "new 9", "new 15", "new 16", "new 10",
 ];
 
-/// All outcomes and situations that requests L1 and L4 make possible, and the pairs of refusals whose order they fix.
+/// All outcomes and situations that requests L1, L4 and L5 make possible, and the pairs of refusals whose order they fix.
 pub fn possible() -> Vec<(String, String)> {
     let mut places = trial_order::fixed();
     let mut add = |row: &str, numbers: &[usize]| {
         numbers.iter().for_each(|number| places.push((row.to_string(), number.to_string())));
     };
     add("begin", &[0, 1, 2, 3, 4, 5, 14]);
-    add("start", &[0, 1, 2, 3, 4, 5, 6, 7, 8, 9, 10, 14, 15]);
-    add("on", &[0, 1, 2, 3, 4, 5, 6, 7, 8, 9, 10, 14, 15]);
-    add("show", &[0, 1, 2, 3, 4, 5, 6, 7, 8, 9, 10, 12, 14, 15]);
+    add("start", &[0, 1, 2, 3, 4, 5, 6, 7, 8, 9, 10, 14, 15, 16]);
+    add("on", &[0, 1, 2, 3, 4, 5, 6, 7, 8, 9, 10, 14, 15, 16]);
+    add("show", &[0, 1, 2, 3, 4, 5, 6, 7, 8, 9, 10, 12, 14, 15, 16]);
     for call in ["begin", "start", "on", "show"] {
         add(&format!("{call}, at a later word"), &[2, 3, 4, 5]);
     }
@@ -258,7 +258,7 @@ pub fn possible() -> Vec<(String, String)> {
         add(&format!("show to {length} words"), &[12]);
     }
     for length in [4_096, 4_097, 5_000] {
-        add(&format!("show to {length} words"), &[0, 6, 7, 8, 9, 10, 14, 15]);
+        add(&format!("show to {length} words"), &[0, 6, 7, 8, 9, 10, 14, 15, 16]);
     }
     add("show to 100000 words", &[0]);
     trial_features::NEEDED.iter().for_each(|(situation, numbers)| add(situation, numbers));
@@ -361,7 +361,7 @@ mod tests {
         let planted = |job: &[u32], trial: &[u32], buffer: &mut [u32]| {
             let right = trial_show(job, trial, buffer);
             match right.number {
-                6..=10 | 15 => calls::check(job, starts(trial), &[]),
+                6..=10 | 15 | 16 => calls::check(job, starts(trial), &[]),
                 _ => right,
             }
         };
@@ -384,7 +384,7 @@ mod tests {
 
     #[test]
     fn a_refusal_that_writes_is_seen() {
-        for number in [7, 8, 9, 10, 15] {
+        for number in [7, 8, 9, 10, 15, 16] {
             let planted = move |job: &[u32], trial: &mut [u32], action: u32| {
                 let right = trial_start(job, trial, action);
                 if right.number == number {
@@ -446,7 +446,7 @@ mod tests {
     fn a_14_at_n_before_the_starts_numbers_is_seen() {
         let planted = |job: &[u32], trial: &mut [u32]| {
             let right = trial_on(job, trial);
-            match matches!(right.number, 6..=10 | 15) && trial[0] as usize == field(job[0], 7, 0) {
+            match matches!(right.number, 6..=10 | 15 | 16) && trial[0] as usize == field(job[0], 7, 0) {
                 true => Answer { number: 14, ..right },
                 false => right,
             }

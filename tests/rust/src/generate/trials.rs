@@ -2,7 +2,7 @@
 
 use crate::generate::draft::Draft;
 use crate::generate::plans::LawfulPlan;
-use crate::generate::{jobs, plan_damage, windows};
+use crate::generate::{groups, jobs, plan_damage, windows};
 use crate::random::Random;
 use crate::words::{self, bits, field};
 
@@ -271,7 +271,7 @@ pub fn all_starting(last: usize) -> LawfulPlan {
     LawfulPlan { draft, starts }
 }
 
-/// Two actions on two fluents, short ones, with few laws or many, and windows now and then.
+/// Two actions on two fluents, short ones, with few laws or many, and windows and groups now and then.
 pub fn tiny_job(random: &mut Random, last: usize) -> Draft {
     let mut draft = Draft { fluents: 2, last, ..Draft::default() };
     let known = random.below(3);
@@ -291,6 +291,7 @@ pub fn tiny_job(random: &mut Random, last: usize) -> Draft {
         draft.actions.push(action);
     }
     windows::add_wide(&mut draft);
+    groups::add_wide(&mut draft);
     draft.nodes = vec![vec![words::node(0, 0, 0, 0, 0)]];
     draft
 }
