@@ -70,12 +70,12 @@ extern "C" {
 #define PLANREADER_CALL(name) name
 #endif
 
-/* Is the plan lawful? Refusals 1 to 9, 15, 10 and 11, in this order, or 0. Writes nothing. */
+/* Is the plan lawful? Refusals 1 to 9, 15, 16, 10 and 11, in this order, or 0. Writes nothing. */
 uint64_t PLANREADER_CALL(check)(const uint32_t *job, size_t job_len, const uint32_t *starts, size_t starts_len,
                                 const uint32_t *facts, size_t facts_len);
 
 /* From lawful starts, writes the list of known facts to the buffer's first planreader_length words; with it the plan passes.
- * Refusals 12, 1 to 9, 15 and 10. A refusal changes no word of the buffer, and a success none after the list. */
+ * Refusals 12, 1 to 9, 15, 16 and 10. A refusal changes no word of the buffer, and a success none after the list. */
 uint64_t PLANREADER_CALL(fill)(const uint32_t *job, size_t job_len, const uint32_t *starts, size_t starts_len,
                                uint32_t *buffer, size_t buffer_len);
 
@@ -96,9 +96,9 @@ typedef uint32_t planreader_trial[PLANREADER_TRIAL_WORDS];
 uint64_t PLANREADER_CALL(trial_begin)(const uint32_t *job, size_t job_len, uint32_t *trial, size_t trial_len);
 
 /* Starts an action at the trial's moment. Any number may be given for the action. Refusals 1 to 5 with the job's position; then, all with
- * position 0: 14, or 6 to 9, 15 and 10, for a trial that no moves could give, see planreader_refusal; and 6 (no such action), 7, 8 (also for
- * an action already started at this moment), 9, 15 and 10 for the new start. A refusal changes no word of the trial; a success puts the start
- * in its place among the starts, and changes no word after them. */
+ * position 0: 14, or 6 to 9, 15, 16 and 10, for a trial that no moves could give, see planreader_refusal; and 6 (no such action), 7, 8 (also
+ * for an action already started at this moment), 9, 15, 16 (counted with all that is in hand, of whatever action number) and 10 for the new
+ * start. A refusal changes no word of the trial; a success puts the start in its place among the starts, and changes no word after them. */
 uint64_t PLANREADER_CALL(trial_start)(const uint32_t *job, size_t job_len, uint32_t *trial, size_t trial_len, uint32_t action);
 
 /* Goes on one moment. Refusals as for trial_start, but in place of those for the new start 14 where the trial is at the last moment. A
@@ -106,8 +106,8 @@ uint64_t PLANREADER_CALL(trial_start)(const uint32_t *job, size_t job_len, uint3
 uint64_t PLANREADER_CALL(trial_on)(const uint32_t *job, size_t job_len, uint32_t *trial, size_t trial_len);
 
 /* Writes the facts of moments 0 to the trial's, both included, to the buffer's first planreader_length words: those that fill writes for
- * the trial's starts, up to that moment. Refusal 12, before all others; then 1 to 5 with the job's position, and 14, or 6 to 9, 15 and 10, for
- * the trial, with position 0. A refusal changes no word of the buffer, and a success none after the facts. */
+ * the trial's starts, up to that moment. Refusal 12, before all others; then 1 to 5 with the job's position, and 14, or 6 to 9, 15, 16 and 10,
+ * for the trial, with position 0. A refusal changes no word of the buffer, and a success none after the facts. */
 uint64_t PLANREADER_CALL(trial_show)(const uint32_t *job, size_t job_len, const uint32_t *trial, size_t trial_len,
                                      uint32_t *buffer, size_t buffer_len);
 
@@ -129,14 +129,14 @@ static inline unsigned planreader_position(uint64_t answer) { return (unsigned)(
 static inline unsigned planreader_length(uint64_t answer) { return (unsigned)(answer >> 24 & 0xffff); }
 static inline unsigned planreader_count(uint64_t answer) { return (unsigned)(answer & 0xffffff); }
 
-/* Refusal numbers. The position is that of a word of the job (2, 3, 4), of a start (6 to 10 and 15) or of a fact (11), or as said here. The
- * trial calls give every number but 1 to 5 with position 0. */
+/* Refusal numbers. The position is that of a word of the job (2, 3, 4), of a start (6 to 10, 15 and 16) or of a fact (11), or as said here.
+ * The trial calls give every number but 1 to 5 with position 0. */
 enum planreader_refusal {
     PLANREADER_ACCEPTED = 0,
     PLANREADER_JOB_LENGTH = 1, /* position 0 */
     PLANREADER_JOB_SHAPE = 2,
     PLANREADER_JOB_VALUE = 3, /* or, at the job's length: not as many actions as the head says */
-    PLANREADER_JOB_FLUENT_TWICE = 4,
+    PLANREADER_JOB_FLUENT_TWICE = 4, /* or a group declared twice, or an action twice in one group */
     PLANREADER_JOB_NODES = 5, /* position 0 for a job without nodes, else a node's number: see examples/common.h */
     PLANREADER_START_WORD = 6,
     PLANREADER_START_ENDS_LATE = 7,
@@ -149,7 +149,10 @@ enum planreader_refusal {
     /* Of the trial calls alone, position 0: fewer than PLANREADER_TRIAL_WORDS words, more than 4,096 starts, a moment after the last, a start
      * whose moment (bits 11..6 of whatever word) is after the trial's; or trial_on at the last moment. */
     PLANREADER_TRIAL_BOUNDS = 14,
-    PLANREADER_START_OUTSIDE_WINDOWS = 15 /* comes after 9 and before 10 */
+    PLANREADER_START_OUTSIDE_WINDOWS = 15, /* comes after 9 and before 16 */
+    /* With this start, counted with those before it in the list alone, more starts of a group of its action are in hand at its moment than the
+     * group's limit. Comes after 15 and before 10. */
+    PLANREADER_GROUP_OVER_LIMIT = 16
 };
 
 /* What a refusal number says of what stands at the position; a text for every number. */
@@ -161,7 +164,7 @@ static inline const char *planreader_refusal_text(unsigned number)
         "a job word whose kind, form or place is not allowed, or with a spare bit set",
         ("a job word with a wrong number, reference, range or window, or one too many; "
          "or the job's end, with another number of actions than its head says"),
-        "a job word that names a fluent a second time",
+        "a job word that names a fluent, declares a group or puts an action in a group a second time",
         "a job without nodes, a task set without members, or a node not named as a child exactly once",
         "a start not sorted after the one before it, after the last moment, or of an action that the job lacks; or no start word",
         "a start that ends after the last moment",
@@ -174,11 +177,12 @@ static inline const char *planreader_refusal_text(unsigned number)
         ("a trial that no moves could give: a list that is too short, too many starts, or a moment or a start that is too late; "
          "or going on at the last moment"),
         "a start outside the shift windows of its action",
+        "a start that takes a group over its limit",
     };
     return number < sizeof texts / sizeof *texts ? texts[number] : "no number of a refusal";
 }
 
-/* The kind of a word, bits 31..28. A job has kinds 1 to 8 and 12, a plan 9 and 10, a reading 11. */
+/* The kind of a word, bits 31..28. A job has kinds 1 to 8 and 12 to 14, a plan 9 and 10, a reading 11. */
 enum planreader_word_kind {
     PLANREADER_KIND_HEAD = 1,
     PLANREADER_KIND_KNOWN = 2,
@@ -191,7 +195,9 @@ enum planreader_word_kind {
     PLANREADER_KIND_START = 9,
     PLANREADER_KIND_FACT = 10,
     PLANREADER_KIND_READING = 11,
-    PLANREADER_KIND_SHIFT_WINDOW = 12
+    PLANREADER_KIND_SHIFT_WINDOW = 12,
+    PLANREADER_KIND_GROUP = 13,
+    PLANREADER_KIND_GROUP_MEMBER = 14
 };
 
 /* The role of a law. */
@@ -261,6 +267,16 @@ static inline uint32_t planreader_law(unsigned role, unsigned fluent)
 static inline uint32_t planreader_shift_window(unsigned action, unsigned from, unsigned to)
 {
     return action < 64 && from < 64 && to < 64 ? 12u << 28 | action << 12 | from << 6 | to : 0;
+}
+/* The group, 0 to 7, then its limit: how many starts of the group's actions may be in hand at one moment; 0 forbids them all. */
+static inline uint32_t planreader_group(unsigned group, unsigned limit)
+{
+    return group < 16 && limit < 64 ? 13u << 28 | group << 24 | limit : 0;
+}
+/* A declared group, then an action that is in it. All groups are declared before the first of these. */
+static inline uint32_t planreader_group_member(unsigned group, unsigned action)
+{
+    return group < 16 && action < 64 ? 14u << 28 | group << 24 | action : 0;
 }
 /* The form (PLANREADER_ALWAYS ..), X, Y. */
 static inline uint32_t planreader_formula(unsigned form, unsigned x, unsigned y)
@@ -353,6 +369,10 @@ static inline unsigned planreader_law_fluent(uint32_t word) { return word & 63; 
 static inline unsigned planreader_shift_window_action(uint32_t word) { return word >> 12 & 63; }
 static inline unsigned planreader_shift_window_from(uint32_t word) { return word >> 6 & 63; }
 static inline unsigned planreader_shift_window_to(uint32_t word) { return word & 63; }
+static inline unsigned planreader_group_number(uint32_t word) { return word >> 24 & 15; }
+static inline unsigned planreader_group_limit(uint32_t word) { return word & 63; }
+static inline unsigned planreader_group_member_group(uint32_t word) { return word >> 24 & 15; }
+static inline unsigned planreader_group_member_action(uint32_t word) { return word & 63; }
 static inline unsigned planreader_formula_x(uint32_t word) { return word >> 6 & 63; }
 static inline unsigned planreader_formula_y(uint32_t word) { return word & 63; }
 static inline unsigned planreader_node_x(uint32_t word) { return word >> 18 & 63; }
