@@ -32,7 +32,7 @@ pub fn crowd(random: &mut Random) -> LawfulPlan {
     let mut draft = Draft { fluents: 1, last, ..Draft::default() };
     draft.actions = (0..64).map(|number| vec![words::action(number, random.between(2, 3))]).collect();
     draft.nodes = vec![vec![words::node(0, 0, 0, 0, 0)]];
-    let missing = random.below(3);
+    let missing = *random.pick(&[0, 0, 1, 1, 1, 2]);
     let left_out = random.some_of(64, missing);
     let later = random.chance(50);
     let moment = |action: usize| usize::from(later && action % 3 == 0);

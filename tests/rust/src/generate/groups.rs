@@ -45,10 +45,10 @@ pub fn add_plausible(draft: &mut Draft) {
     }
 }
 
-/// In one job of three up to three groups of about half the actions each. Most limits are low, few forbid the group.
+/// In one job of four up to three groups of about half the actions each. Most limits are low, few forbid the group.
 pub fn add_wide(draft: &mut Draft) {
     let mut random = draft.stream(SALT);
-    if !random.chance(35) {
+    if !random.chance(25) {
         return;
     }
     let how_many = random.between(1, 3);
