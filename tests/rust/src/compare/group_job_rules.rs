@@ -24,7 +24,7 @@ pub const JOBS: [Rule; 22] = [
     },
     Rule {
         name: "an action that is not there is let pass",
-        reads: |job| mapped(job, 14, |word| word & !bits(5, 0)),
+        reads: |job| without(job, |before, word| kind(word) == 14 && limit(word) >= actions(before)),
         ..RIGHT
     },
     Rule {
@@ -111,6 +111,10 @@ fn limit(word: u32) -> usize {
 
 fn group_word(word: u32) -> bool {
     matches!(kind(word), 13 | 14)
+}
+
+fn actions(before: &[u32]) -> usize {
+    before.iter().filter(|&&word| kind(word) == 3).count()
 }
 
 fn declared(before: &[u32], word: u32) -> bool {

@@ -17,12 +17,16 @@ pub fn without(job: &[u32], test: impl Fn(&[u32], u32) -> bool) -> Result<Job, R
     read_job(&kept)
 }
 
-/// The job with the words of a kind behind the last word of the others.
+/// The job with the words of a kind behind the last word of the others, where there are any of these.
 pub fn behind(job: &[u32], of: usize, others: &[usize]) -> Result<Job, Refusal> {
     let (moved, mut rest): (Vec<u32>, Vec<u32>) = job.iter().partition(|&&word| kind(word) == of);
-    let place = rest.iter().rposition(|&word| others.contains(&kind(word))).map_or(0, |last| last + 1);
-    rest.splice(place..place, moved);
-    read_job(&rest)
+    match rest.iter().rposition(|&word| others.contains(&kind(word))) {
+        Some(last) => {
+            rest.splice(last + 1..last + 1, moved);
+            read_job(&rest)
+        }
+        None => read_job(job),
+    }
 }
 
 /// The job, refused at its first word of a kind of which the test holds with the words before it, too.

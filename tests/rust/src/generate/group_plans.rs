@@ -12,10 +12,7 @@ use crate::words::{self, field, group, group_member, kind};
 /// A lawful plan that keeps its groups, mostly just so, and now and then has windows. A readable one has a program that reads
 /// from 0 to n.
 pub fn lawful(random: &mut Random, readable: bool) -> LawfulPlan {
-    let mut draft = window_plans::job(random);
-    draft.formulas = vec![words::formula(0, 0, 0)];
-    draft.nodes = vec![vec![words::node(0, 0, 0, 0, 0)]];
-    let starts = plans::lawful_starts(random, &draft);
+    let (mut draft, starts) = job_and_starts(random);
     if readable {
         programs::add_readable(random, &mut draft, &starts, 10);
     }
@@ -24,6 +21,19 @@ pub fn lawful(random: &mut Random, readable: bool) -> LawfulPlan {
     }
     add_groups(random, &mut draft, &starts);
     LawfulPlan { draft, starts }
+}
+
+/// Mostly with two starts or more.
+fn job_and_starts(random: &mut Random) -> (Draft, Vec<u32>) {
+    loop {
+        let mut draft = window_plans::job(random);
+        draft.formulas = vec![words::formula(0, 0, 0)];
+        draft.nodes = vec![vec![words::node(0, 0, 0, 0, 0)]];
+        let starts = plans::lawful_starts(random, &draft);
+        if starts.len() > 1 || random.chance(15) {
+            return (draft, starts);
+        }
+    }
 }
 
 /// 64 actions without laws, all of which start at one moment or two; in a group of all with a limit that they keep or not.
@@ -35,7 +45,7 @@ pub fn crowd(random: &mut Random) -> LawfulPlan {
     let missing = *random.pick(&[0, 0, 1, 1, 1, 2]);
     let left_out = random.some_of(64, missing);
     let later = random.chance(50);
-    let moment = |action: usize| usize::from(later && action % 3 == 0);
+    let moment = |action: usize| usize::from(later && action % 3 == 1);
     let mut starts: Vec<u32> = (0..64)
         .filter(|action| !left_out.contains(action))
         .map(|action| words::start(moment(action), action))

@@ -99,7 +99,7 @@ fn moments() -> Vec<Vector> {
         over("a shorter one in the middle of a longer one", all, &[(0, HOLD), (1, TURN)], 1),
         lawful("a finish on n", all, &[(1, HOLD), (4, GRIP)]),
         over("the last moment that is in hand", all, &[(3, HOLD), (5, TURN)], 1),
-        over("the second of two such", all, &[(0, GRIP), (2, GRIP), (3, TURN), (4, HOLD), (6, TURN)][..3].as_ref(), 2),
+        over("after one that starts at its own finish", all, &[(0, GRIP), (2, GRIP), (3, TURN)], 2),
     ]
 }
 
