@@ -31,7 +31,8 @@ fn all_starts_of_tiny_jobs_get_what_the_moments_say() {
 
 #[test]
 fn starts_of_tiny_trials_get_what_the_moments_say() {
-    let report = group_tiny::run_trials(3, &CALLS);
+    assert_eq!(group_tiny::run_trials(2, 1, &CALLS).differences, 0);
+    let report = group_tiny::run_trials(3, 3, &CALLS);
     report.print(0, "tiny trials, by refusal number", &group_tiny::COLUMNS);
     assert_eq!(report.differences, 0);
     assert!(group_tiny::COLUMNS.iter().all(|column| report.tally.count(group_tiny::TRIALS, column) > 10_000));

@@ -203,7 +203,7 @@ fn beside_bad_job(random: &mut Random, plan: &LawfulPlan, lawful: &Trial) -> Tri
     }
 }
 
-/// All four calls on one trial.
+/// All four calls on one trial; now and then one that starts an action of the trial again.
 fn each_call(random: &mut Random, plan: &LawfulPlan, job: &[u32], trial: &Trial, calls: &Calls, report: &mut Report) {
     let words = trial.slice(random);
     each_call_on(random, plan, job, &words, calls, report);
@@ -220,7 +220,8 @@ fn each_call_on(
     let words = Lent::new(trial);
     let none = Lent::new(&[]);
     let action = trials::action(random, plan.draft.actions.len());
-    for call in [Call::Begin, Call::Start(action), Call::On] {
+    let again = trials::again(trial).map(Call::Start);
+    for call in [Call::Begin, Call::Start(action), Call::On].into_iter().chain(again) {
         counted(call, job, &words, &none, calls, report);
     }
     let length = buffer_length(random);
@@ -308,7 +309,7 @@ mod tests {
 
     #[test]
     fn the_checker_agrees_with_itself_and_every_outcome_occurs() {
-        let report = run(SEED, 3_000, &right_calls(&right_fill));
+        let report = run(SEED, 5_000, &right_calls(&right_fill));
         report.print(SEED, "trials", &COLUMNS);
         assert_eq!(report.differences, 0);
         assert_eq!(report.tally.missing(&possible()), []);
@@ -426,7 +427,7 @@ mod tests {
     fn the_low_bits_of_an_action_are_seen() {
         for low in [63, 255, 0xffff, 0x7fff_ffff] {
             let planted = move |job: &[u32], trial: &mut [u32], action: u32| trial_start(job, trial, action & low);
-            is_seen(with_start(&planted));
+            assert!(run(SEED, 1_600, &with_start(&planted)).differences > 0);
             is_seen_in_moves(with_start(&planted));
         }
     }

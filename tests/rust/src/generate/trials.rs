@@ -90,6 +90,14 @@ pub fn action(random: &mut Random, actions: usize) -> u32 {
     }
 }
 
+/// For one trial of two, one of its actions; drawn from a stream by its words.
+pub fn again(trial: &[u32]) -> Option<u32> {
+    let number = trial.get(1).map_or(0, |&word| word as usize);
+    let starts = trial.get(2..2 + number.min(100))?;
+    let mut random = Random::by_words(starts, u64::from(trial[0]));
+    (!starts.is_empty() && random.chance(50)).then(|| random.pick(starts) & 63)
+}
+
 /// The words of a trial before they are laid out in a slice of some length.
 #[derive(Clone, Debug)]
 pub struct Trial {
