@@ -164,3 +164,25 @@ fn others() -> Vec<Vector> {
         vector("on where the group is forbidden", &[(1, 0, THREE)], 0, &[], Call::On, Outcome::Trial(1, vec![])),
     ]
 }
+
+#[cfg(test)]
+mod tests {
+    use super::*;
+    use crate::checker::trial::trial_start;
+    use crate::compare::group_trial_rules::{start_by, TRIAL_SLIPS};
+
+    #[test]
+    fn the_cases_tell_each_slip_of_a_new_start() {
+        for slip in TRIAL_SLIPS {
+            let start = start_by(slip);
+            let told = |vector: &Vector| {
+                let Call::Start(action) = vector.call else { return false };
+                let mut given = vector.trial.clone();
+                given.resize(vector.length, 7);
+                let mut right = given.clone();
+                start(&vector.job, &mut given, action) != trial_start(&vector.job, &mut right, action)
+            };
+            assert!(vectors().iter().any(told), "{}", slip.name);
+        }
+    }
+}
