@@ -23,7 +23,7 @@ pub fn run(seed: u64, plans: usize, calls: &Calls) -> Report {
     let mut asker = Asker::new(seed, calls, first_or_later);
     for number in 0..plans {
         let also = Also { find: number % 4 == 0, trial: number % 3 == 1, slips: number % 7 == 2 };
-        let drawn = match number % 40 {
+        let drawn = match number % 25 {
             9 => group_plans::crowd(&mut asker.random),
             _ => group_plans::lawful(&mut asker.random, number % 8 == 0),
         };

@@ -42,7 +42,7 @@ pub fn crowd(random: &mut Random) -> LawfulPlan {
     let mut draft = Draft { fluents: 1, last, ..Draft::default() };
     draft.actions = (0..64).map(|number| vec![words::action(number, random.between(2, 3))]).collect();
     draft.nodes = vec![vec![words::node(0, 0, 0, 0, 0)]];
-    let missing = *random.pick(&[0, 0, 1, 1, 1, 2]);
+    let missing = *random.pick(&[0, 0, 0, 1, 1, 2]);
     let left_out = random.some_of(64, missing);
     let later = random.chance(50);
     let moment = |action: usize| usize::from(later && action % 3 == 1);
@@ -57,7 +57,7 @@ pub fn crowd(random: &mut Random) -> LawfulPlan {
         draft.groups.push(group(other, other_limit));
         draft.pairs.extend((0..random.between(1, 64)).map(|action| group_member(other, action)));
     }
-    draft.groups.push(group(all, *random.pick(&[31, 32, 61, 62, 63, 63, 63])));
+    draft.groups.push(group(all, *random.pick(&[31, 32, 62, 63, 63, 63, 63])));
     draft.pairs.extend((0..64).map(|action| group_member(all, action)));
     LawfulPlan { draft, starts }
 }
