@@ -174,7 +174,7 @@ mod tests {
 
     #[test]
     fn checks_with_a_slip_are_seen() {
-        for slip in slips().into_iter().step_by(5) {
+        for slip in slips().into_iter().step_by(10) {
             let seen = differences(&planted::checking(&check_by(slip)));
             println!("{seen:>6} differences of 800 plans: {}", slip.name);
             assert!(seen > 0, "{}", slip.name);

@@ -427,7 +427,7 @@ mod tests {
     fn the_low_bits_of_an_action_are_seen() {
         for low in [63, 255, 0xffff, 0x7fff_ffff] {
             let planted = move |job: &[u32], trial: &mut [u32], action: u32| trial_start(job, trial, action & low);
-            assert!(run(SEED, 1_600, &with_start(&planted)).differences > 0);
+            assert!(run(SEED, 1_000, &with_start(&planted)).differences > 0);
             is_seen_in_moves(with_start(&planted));
         }
     }
