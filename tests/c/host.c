@@ -106,6 +106,34 @@ static void shifts(void)
     same("fill wrote other facts with a window", buffer, known, 5);
 }
 
+/* Two grippers, n = 4: actions of 2, 3 and 1 moments in a group whose limit is 2. A third in hand is 16 at its word, before the facts; one that
+ * starts where another finishes is none. */
+static void groups(void)
+{
+    const uint32_t cell[] = {0x10010304u, 0x20000040u, 0x30000002u, 0x30000043u, 0x30000081u, 0xd0000002u, 0xe0000002u, 0xe0000000u, 0xe0000001u, 0x60040000u};
+    const uint32_t twice[] = {0x10010104u, 0x30000001u, 0xd1000002u, 0xd1000001u, 0x60000000u}, none[] = {0x10010104u, 0x30000001u, 0xd1000002u, 0xe2000000u, 0x60000000u};
+    const uint32_t high[] = {0x10010104u, 0x30000001u, 0xd8000002u, 0x60000000u}, early[] = {0x10010104u, 0x30000001u, 0xe0000000u, 0x60000000u};
+    const uint32_t three_at_0[] = {0x90000000u, 0x90000001u, 0x90000002u}, at_1[] = {0x90000000u, 0x90000001u, 0x90000042u};
+    const uint32_t at_finish[] = {0x90000000u, 0x90000001u, 0x90000082u};
+    const uint32_t known[] = {0xa0000001u, 0xa0000081u, 0xa0000101u, 0xa0000181u, 0xa0000201u};
+    for (size_t i = 0; i < 5000; i++) buffer[i] = before[i];
+    expect("check, two in hand", check(cell, 10, three_at_0, 2, known, 5), 0, 0, 0);
+    expect("check, three in hand", check(cell, 10, three_at_0, 3, known, 5), 16, 2, 0);
+    expect("check, the third a moment later", check(cell, 10, at_1, 3, known, 5), 16, 2, 0);
+    expect("check, the third at a finish", check(cell, 10, at_finish, 3, known, 5), 0, 0, 0);
+    expect("check, a group twice", check(twice, 5, NULL, 0, NULL, 0), 4, 3, 0);
+    expect("check, a pair of an undeclared group", check(none, 5, NULL, 0, NULL, 0), 3, 3, 0);
+    expect("check, group 8", check(high, 4, NULL, 0, NULL, 0), 3, 2, 0);
+    expect("check, a pair before any group", check(early, 4, NULL, 0, NULL, 0), 2, 2, 0);
+    expect("fill, three in hand", fill(cell, 10, three_at_0, 3, buffer, 5000), 16, 2, 0);
+    expect("fill, short buffer before 16", fill(cell, 10, three_at_0, 3, buffer, 4095), 12, 0, 0);
+    expect("find, three in hand", find(cell, 10, three_at_0, 3, known, 5, buffer, 5000), 16, 2, 0);
+    same("a refusal for a group changed the buffer", buffer, before, 5000);
+    expect_count("find, the third at a finish", find(cell, 10, at_finish, 3, known, 5, buffer, 5000), 13, 0, 0, 1);
+    expect("fill, the third at a finish", fill(cell, 10, at_finish, 3, buffer, 5000), 0, 0, 5);
+    same("fill wrote other facts with a group", buffer, known, 5);
+}
+
 static uint32_t large_job[JOB_WORDS], large_starts[STARTS], large_facts[4096];
 
 static uint32_t large_reading[4096];
@@ -222,6 +250,7 @@ int main(void)
     small();
     example3();
     shifts();
+    groups();
     make_plan(large_job, large_starts);
     measure_all();
     printf("c host: %s\n", faults ? "FAILED" : "ok");

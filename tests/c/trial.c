@@ -343,7 +343,7 @@ static void refused_starts(void)
     shows_as_fill("two restarts, shown");
 }
 
-/* Pairs of numbers that fit one start: the lower one of 6, 7, 8, 9, 10 is given; for 15 see shifts. n = 3; fluent 0 is open. Actions: 0 lasts 3 and makes
+/* Pairs of numbers that fit one start: the lower one of 6, 7, 8, 9, 10 is given; for 15 and 16 see shifts and groups. n = 3; fluent 0 is open. Actions: 0 lasts 3 and makes
  * fluent 1 true; 1 lasts 1, needs fluent 0 true and makes fluent 1 false; 2 lasts 4, longer than the plan, needs fluent 0 true and makes
  * fluent 1 false; 3 lasts 2 and makes fluent 1 true. */
 static void order(void)
@@ -422,6 +422,45 @@ static void shifts(void)
     bad_trial("9 of a later start before 15", 2, clash, 2, 9);
     take_trial(5, outside, 1);
     goes_on("shifts, 15 before 14 at the last moment", 15);
+}
+
+/* Groups, 16: after 15 and before 10, of the trial's starts and of the new one, which is counted with higher action numbers too. n = 5; fluent
+ * 0 is false. Actions: 0 lasts 2 and makes fluent 1 true; 1 lasts 3; 2 lasts 1, needs fluent 0 true and makes fluent 1 false; 3 lasts 1, with a
+ * window from 2 to 5. All are in group 7, whose limit is 1; action 1 is in group 0 too, whose limit is 63. */
+static void groups(void)
+{
+    const uint32_t words[] = {0x10020405u, 0x20000040u, 0x30000002u, 0x40000081u, 0x30000043u, 0x30000081u, 0x40000000u, 0x400000c1u, 0x300000c1u,
+                              0xc0003085u, 0xd000003fu, 0xd7000001u, 0xe0000001u, 0xe7000003u, 0xe7000000u, 0xe7000001u, 0xe7000002u, 0x60000000u};
+    const uint32_t held[] = {0x90000001u}, then[] = {0x90000001u, 0x900000c0u}, over[] = {0x90000000u, 0x90000001u};
+    const uint32_t needing[] = {0x90000001u, 0x90000002u}, clash[] = {0x90000000u, 0x90000001u, 0x90000002u};
+    const uint32_t outside[] = {0x90000000u, 0x90000001u, 0x90000043u};
+    TAKE_JOB(words);
+    begins("groups, begin", TRIAL, 0, 0);
+    starts("groups, 10 where the group is kept", 2, 10);
+    starts("groups, the first", 1, 0);
+    starts("groups, a lower action", 0, 16);
+    starts("groups, a higher action: 16 before 10", 2, 16);
+    starts("groups, 15 before 16", 3, 15);
+    starts("groups, 8 before 16", 1, 8);
+    is("groups, after refusals", 0, held, 1);
+    goes_on("groups, on to 1", 0);
+    goes_on("groups, on to 2", 0);
+    starts("groups, the last moment of the first", 0, 16);
+    starts("groups, a higher action in its window", 3, 16);
+    goes_on("groups, on to 3", 0);
+    starts("groups, where the first finishes", 0, 0);
+    starts("groups, 9 before 16", 2, 9);
+    is("groups, at 3", 3, then, 2);
+    shows_as_fill("groups, shown");
+    goes_on("groups, on to 4", 0);
+    goes_on("groups, on to 5", 0);
+    starts("groups, 7 at the last moment", 0, 7);
+    bad_trial("two in hand of a group of one", 2, over, 2, 16);
+    bad_trial("16 before 10", 2, needing, 2, 16);
+    bad_trial("9 of a later start before 16", 2, clash, 3, 9);
+    bad_trial("15 of a later start before 16", 2, outside, 3, 15);
+    take_trial(5, over, 2);
+    goes_on("groups, 16 before 14 at the last moment", 16);
 }
 
 /* Example 3 of 004, the scope's P3, started with the higher number first: b and c at 0, a at 2. The states are 004's six. */
@@ -516,6 +555,7 @@ int main(void)
     order();
     needs();
     shifts();
+    groups();
     example3();
     door();
     large();

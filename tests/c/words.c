@@ -4,7 +4,7 @@
 #include <stdio.h>
 #include <string.h>
 
-enum { KINDS = 12, FIELDS = 6 };
+enum { KINDS = 14, FIELDS = 6 };
 
 /* The fields of a kind, in the order of its maker's parameters: highest and lowest bit. */
 struct layout {
@@ -26,6 +26,8 @@ static const struct layout layouts[KINDS + 1] = {
     {3, {{12, 7}, {6, 1}, {0, 0}}}, /* 10: moment, fluent, 0 true or 1 false */
     {3, {{17, 12}, {11, 6}, {5, 0}}}, /* 11: node, begin, end */
     {3, {{17, 12}, {11, 6}, {5, 0}}}, /* 12: action, from, to */
+    {2, {{27, 24}, {5, 0}}}, /* 13: group, limit */
+    {2, {{27, 24}, {5, 0}}}, /* 14: group, action */
 };
 
 static int faults;
@@ -50,7 +52,9 @@ static uint32_t made(unsigned kind, const unsigned *v)
     case PLANREADER_KIND_START: return planreader_start(v[0], v[1]);
     case PLANREADER_KIND_FACT: return planreader_fact(v[0], v[1], v[2] == 0);
     case PLANREADER_KIND_READING: return planreader_reading(v[0], v[1], v[2]);
-    default: return planreader_shift_window(v[0], v[1], v[2]);
+    case PLANREADER_KIND_SHIFT_WINDOW: return planreader_shift_window(v[0], v[1], v[2]);
+    case PLANREADER_KIND_GROUP: return planreader_group(v[0], v[1]);
+    default: return planreader_group_member(v[0], v[1]);
     }
 }
 
@@ -74,6 +78,8 @@ static unsigned value_read(unsigned kind, int field, uint32_t w)
         {planreader_fact_moment(w), planreader_fact_fluent(w), false_bit(planreader_fact_is_true(w))},
         {planreader_reading_node(w), planreader_reading_begin(w), planreader_reading_end(w)},
         {planreader_shift_window_action(w), planreader_shift_window_from(w), planreader_shift_window_to(w)},
+        {planreader_group_number(w), planreader_group_limit(w)},
+        {planreader_group_member_group(w), planreader_group_member_action(w)},
     };
     return values[kind][field];
 }
@@ -160,6 +166,8 @@ static void try_listed(void)
         {planreader_member(9), 0x70000009u},
         {planreader_condition(PLANREADER_BEGIN_AFTER_BEGIN, 0, 0, 1, 0, 1), 0x80001001u},
         {planreader_shift_window(1, 2, 3), 0xc0001083u},
+        {planreader_group(7, 2), 0xd7000002u},
+        {planreader_group_member(7, 63), 0xe700003fu},
     };
     for (size_t i = 0; i < sizeof pairs / sizeof *pairs; i++)
         if (pairs[i][0] != pairs[i][1]) fault("listed", pairs[i][1] >> 28, 0, pairs[i][0]);
@@ -211,26 +219,30 @@ static void try_numbers(void)
     const int refusals[] = {PLANREADER_ACCEPTED, PLANREADER_JOB_LENGTH, PLANREADER_JOB_SHAPE, PLANREADER_JOB_VALUE,
                             PLANREADER_JOB_FLUENT_TWICE, PLANREADER_JOB_NODES, PLANREADER_START_WORD, PLANREADER_START_ENDS_LATE,
                             PLANREADER_START_IN_HAND, PLANREADER_START_CLASHES, PLANREADER_START_NEEDS, PLANREADER_FACTS_DIFFER,
-                            PLANREADER_BUFFER_SHORT, PLANREADER_NO_READING, PLANREADER_TRIAL_BOUNDS, PLANREADER_START_OUTSIDE_WINDOWS};
+                            PLANREADER_BUFFER_SHORT, PLANREADER_NO_READING, PLANREADER_TRIAL_BOUNDS, PLANREADER_START_OUTSIDE_WINDOWS,
+                            PLANREADER_GROUP_OVER_LIMIT};
     for (int i = 0; i < 5; i++)
         if (formulas[i] != i || conditions[i] != i) fault("form", 5, i, 0);
     for (int i = 0; i < 9; i++)
         if (nodes[i] != i) fault("form", 6, i, 0);
-    for (int i = 0; i < 16; i++)
+    for (int i = 0; i < 17; i++)
         if (refusals[i] != i) fault("refusal", 0, i, 0);
     if (PLANREADER_KIND_SHIFT_WINDOW != 12) fault("kind", 12, 0, 0);
+    if (PLANREADER_KIND_GROUP != 13) fault("kind", 13, 0, 0);
+    if (PLANREADER_KIND_GROUP_MEMBER != 14) fault("kind", 14, 0, 0);
 }
 
-/* A text for every number: for 0 to 15 each its own, beyond them one that is none of these. */
+/* A text for every number: for 0 to 16 each its own, beyond them one that is none of these. */
 static void try_texts(void)
 {
-    for (unsigned a = 0; a <= 16; a++) {
+    for (unsigned a = 0; a <= 17; a++) {
         if (strlen(planreader_refusal_text(a)) < 8) fault("no text", 0, (int)a, 0);
         for (unsigned b = 0; b < a; b++)
             if (strcmp(planreader_refusal_text(a), planreader_refusal_text(b)) == 0) fault("same text", 0, (int)a, 0);
     }
-    for (unsigned a = 17; a < 300; a++)
-        if (strcmp(planreader_refusal_text(a), planreader_refusal_text(16)) != 0) fault("text beyond 15", 0, (int)a, 0);
+    for (unsigned a = 18; a < 300; a++)
+        if (strcmp(planreader_refusal_text(a), planreader_refusal_text(17)) != 0) fault("text beyond 16", 0, (int)a, 0);
+    if (strcmp(planreader_refusal_text(16), "a start that takes a group over its limit")) fault("text", 0, 16, 0);
 }
 
 /* A trial's words: the moment, the number of its starts, the starts; 4,098 of them, so that 4,096 starts have room. */

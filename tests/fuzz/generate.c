@@ -57,7 +57,7 @@ bool job_passes(const struct input *in)
 void repair_starts(struct input *in)
 {
     uint64_t answer = filled(in);
-    while ((planreader_number(answer) >= 6 && planreader_number(answer) <= 10) || planreader_number(answer) == 15) {
+    while ((planreader_number(answer) >= 6 && planreader_number(answer) <= 10) || planreader_number(answer) == 15 || planreader_number(answer) == 16) {
         size_t at = planreader_position(answer);
         if (at >= in->starts_len) return;
         memmove(in->starts + at, in->starts + at + 1, (in->starts_len - at - 1) * sizeof *in->starts);
@@ -76,6 +76,18 @@ uint32_t some_shift(struct dice *dice, unsigned actions)
 {
     uint32_t from = chance(dice, 3) ? roll(dice, 12) : 0, length = chance(dice, 3) ? roll(dice, 6) : roll(dice, 64), to = from + length;
     return shift_word(roll(dice, actions), from, to < 63 ? to : 63);
+}
+
+uint32_t some_limit(struct dice *dice) { return chance(dice, 8) ? roll(dice, 64) : roll(dice, 4); }
+
+/* Some groups, and then pairs of them. */
+static void add_groups(struct input *in, struct dice *dice, unsigned actions)
+{
+    uint32_t groups = 1 + roll(dice, 3), first = roll(dice, GROUPS);
+    for (uint32_t i = 0; i < groups; i++) add_job_word(in, group_word((first + i * 3) % GROUPS, some_limit(dice)));
+    for (uint32_t i = 0; i < groups; i++)
+        for (uint32_t a = 0; a < actions && a < 64; a++)
+            if (chance(dice, 2)) add_job_word(in, pair_word((first + i * 3) % GROUPS, a));
 }
 
 uint32_t some_formula(struct dice *dice, unsigned formulas, unsigned fluents)
@@ -178,6 +190,7 @@ void generate(struct input *in, struct dice *dice, unsigned size)
         add_laws(&draft, a);
     }
     for (uint32_t windows = chance(dice, 3) ? roll(dice, 8) : 0; windows > 0; windows--) add_job_word(in, some_shift(dice, draft.actions));
+    if (chance(dice, 3)) add_groups(in, dice, draft.actions);
     if (draft.easy) draft.formulas++, add_job_word(in, (uint32_t)FORMULA << 28 | 1u << 24);
     for (; draft.formulas < formulas; draft.formulas++) add_job_word(in, some_formula(dice, draft.formulas, draft.fluents));
     add_tree(&draft, size);

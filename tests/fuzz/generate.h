@@ -40,4 +40,7 @@ uint32_t some_window(struct dice *dice);
 
 /* A shift window of an action, mostly one that leaves room for starts. */
 uint32_t some_shift(struct dice *dice, unsigned actions);
+
+/* A group's limit, mostly low. */
+uint32_t some_limit(struct dice *dice);
 #endif

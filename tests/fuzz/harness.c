@@ -7,6 +7,7 @@
  * copies are heap blocks of exactly their size, under AddressSanitizer. */
 #include "harness.h"
 #include "counters.h"
+#include "group.h"
 #include "hold.h"
 #include "input.h"
 #include "planreader.h"
@@ -96,14 +97,25 @@ void note(int call, uint64_t answer)
 static void hold_fields(int call, uint64_t answer)
 {
     unsigned number = planreader_number(answer);
-    hold(number <= 13 || number == 15, call, "no such number", answer);
-    hold(call != CHECK || number <= 11 || number == 15, call, "a number that check has not", answer);
+    hold(number <= 13 || number == 15 || number == 16, call, "no such number", answer);
+    hold(call != CHECK || number <= 11 || number >= 15, call, "a number that check has not", answer);
     hold(call != FILL || (number != 11 && number != 13), call, "a number that fill has not", answer);
     hold(number == 0 || planreader_length(answer) == 0, call, "a refusal with a length", answer);
     hold((call == FIND && (number == 0 || number == 13)) || planreader_count(answer) == 0, call, "a count that is not to be there", answer);
     bool zero = number == 0 || number == 1 || number == 12 || number == 13;
     hold(!zero || planreader_position(answer) == 0, call, "a position that is not to be there", answer);
     hold(call != CHECK || number != 0 || answer == 0, call, "a success of check that is not 0", answer);
+}
+
+void hold_words(int call, struct list job, uint32_t kind, unsigned (*by_itself)(struct list job, size_t at), uint64_t answer)
+{
+    unsigned number = planreader_number(answer);
+    size_t position = planreader_position(answer);
+    bool at_word = number >= 2 && number <= 4 && position < job.len;
+    for (size_t i = 0; i < (at_word ? position : job.len); i++)
+        if (kind_of(job.words[i]) == kind) hold(by_itself(job, i) == 0, call, "a wrong window, group or pair passed", answer);
+    if (at_word && kind_of(job.words[position]) == kind)
+        hold(by_itself(job, position) == number, call, "a window, group or pair refused otherwise than by its word", answer);
 }
 
 /* The lists of a call. */
@@ -119,10 +131,10 @@ static unsigned nodes_in(struct list job)
 }
 
 /* Is it the number of a row on starts? */
-static bool is_of_starts(unsigned number) { return (number >= 6 && number <= 10) || number == 15; }
+static bool is_of_starts(unsigned number) { return (number >= 6 && number <= 10) || number == 15 || number == 16; }
 
-/* The place of a number's row: 15 comes between 9 and 10. */
-static unsigned row_of(unsigned number) { return number == 15 ? 10 : number + (number > 9); }
+/* The place of a number's row: 15 and 16 come between 9 and 10. */
+static unsigned row_of(unsigned number) { return number == 15 ? 10 : number == 16 ? 11 : number > 9 ? number + 2 : number; }
 
 /* Row 1 is its list's length alone; the other rows' positions lie in their lists. */
 static void hold_position(int call, struct lists in, uint64_t answer)
@@ -175,6 +187,7 @@ static uint64_t held_check(struct lists in)
     hold_fields(CHECK, answer);
     hold_position(CHECK, in, answer);
     hold_shifts(CHECK, in.job, in.starts, answer);
+    hold_groups(CHECK, in.job, in.starts, answer);
     note(CHECK, answer);
     return answer;
 }
@@ -188,6 +201,7 @@ static uint64_t held_write(int call, struct lists in, size_t len, uint32_t choic
     hold_fields(call, first);
     hold_position(call, in, first);
     hold_shifts(call, in.job, in.starts, first);
+    hold_groups(call, in.job, in.starts, first);
     hold_buffer(call, lent.contents[0], first);
     hold((planreader_number(first) == 12) == (len < 4096), call, "12 otherwise than by the buffer's length", first);
     struct list written = keep(lent.buffer.words, planreader_length(first));
@@ -256,7 +270,7 @@ static void hold_near_facts(struct lists in, struct list right)
     free(near);
 }
 
-/* Rows 2 to 4 go by a word and those before it, rows 6 to 10 and 15 likewise among the starts: cut after the refused word the answer stays, and
+/* Rows 2 to 4 go by a word and those before it, rows 6 to 10, 15 and 16 likewise among the starts: cut after the refused word the answer stays, and
  * cut before it no row up to this one fits. */
 static void hold_first(struct lists in, uint64_t answer)
 {

@@ -10,6 +10,6 @@ size_t LLVMFuzzerCustomCrossOver(const uint8_t *one, size_t one_size, const uint
                                  unsigned int seed);
 
 /* The calls, and how often each gave each number; how many were made. */
-enum { CHECK, FILL, FIND, TRIAL_BEGIN, TRIAL_START, TRIAL_ON, TRIAL_SHOW, CALLS, NUMBERS = 16 };
+enum { CHECK, FILL, FIND, TRIAL_BEGIN, TRIAL_START, TRIAL_ON, TRIAL_SHOW, CALLS, NUMBERS = 17 };
 extern unsigned long harness_seen[CALLS][NUMBERS], harness_calls;
 #endif

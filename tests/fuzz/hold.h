@@ -11,6 +11,9 @@ void hold(bool met, int call, const char *what, uint64_t answer);
 struct list keep(const uint32_t *words, size_t len);
 void drop(struct list kept);
 
+/* A word of a kind before the refused one, or in a job that passes, is right by itself; one that is refused has this number by itself. */
+void hold_words(int call, struct list job, uint32_t kind, unsigned (*by_itself)(struct list job, size_t at), uint64_t answer);
+
 bool same_words(const uint32_t *a, const uint32_t *b, size_t len);
 
 /* Lends a list in its room, locked. An empty one is NULL, or points where nothing may be read. */

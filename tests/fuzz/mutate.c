@@ -74,6 +74,8 @@ static const struct {
     [START] = {2, {{11, 6}, {5, 0}}},
     [FACT] = {3, {{12, 7}, {6, 1}, {0, 0}}},
     [SHIFT_WINDOW] = {3, {{17, 12}, {11, 6}, {5, 0}}},
+    [GROUP] = {2, {{27, 24}, {5, 0}}},
+    [GROUP_MEMBER] = {2, {{27, 24}, {5, 0}}},
 };
 
 static uint32_t other_value(uint32_t value, uint32_t most, struct dice *dice)
@@ -129,11 +131,13 @@ static size_t after_kind(const struct input *in, uint32_t kind)
     return in->job_len;
 }
 
-/* The place after the last action, its laws, and the windows. */
-static size_t after_actions(const struct input *in)
+/* The place after the last action, its laws, and the windows; and after the groups too. */
+static size_t after_windows(const struct input *in)
 {
     return after_kind(in, number_of(in, SHIFT_WINDOW) ? SHIFT_WINDOW : number_of(in, LAW) ? LAW : ACTION);
 }
+
+static size_t after_groups(const struct input *in) { return number_of(in, GROUP) ? after_kind(in, GROUP) : after_windows(in); }
 
 /* A law for an action, a known fluent, or a formula that nothing refers to yet. */
 static void add_declaration(struct input *in, struct dice *dice)
@@ -147,7 +151,7 @@ static void add_declaration(struct input *in, struct dice *dice)
         insert(open_job(in), after_kind(in, number_of(in, LAW) ? LAW : ACTION), (uint32_t)ACTION << 28 | (number_of(in, ACTION) & 63u) << 6 | (1 + roll(dice, 3)));
         break;
     default:
-        insert(open_job(in), formulas ? after_kind(in, FORMULA) : after_actions(in), some_formula(dice, formulas < 64 ? formulas : 64, fluents_of(in)));
+        insert(open_job(in), formulas ? after_kind(in, FORMULA) : number_of(in, GROUP_MEMBER) ? after_kind(in, GROUP_MEMBER) : after_groups(in), some_formula(dice, formulas < 64 ? formulas : 64, fluents_of(in)));
         break;
     }
 }
@@ -176,7 +180,28 @@ static void add_shift(struct input *in, struct dice *dice)
         from += roll(dice, 3), to += roll(dice, 3);
         word = shift_word(field(start, 5, 0), from ? from - 1 : 0, (to ? to - 1 : 0) & 63u);
     }
-    insert(open_job(in), after_actions(in), word);
+    insert(open_job(in), after_windows(in), word);
+}
+
+/* A pair of any group that is declared, mostly of an action of the plan. */
+static void add_pair(struct input *in, struct dice *dice)
+{
+    unsigned groups = number_of(in, GROUP), wanted = roll(dice, groups);
+    uint32_t action = roll(dice, number_of(in, ACTION)) & 63u;
+    if (groups == 0) return;
+    if (in->starts_len && !chance(dice, 3)) action = field(in->starts[roll(dice, (uint32_t)in->starts_len)], 5, 0);
+    for (size_t i = 0; i < in->job_len; i++) {
+        if (kind_of(in->job[i]) != GROUP || wanted-- > 0) continue;
+        insert(open_job(in), number_of(in, GROUP_MEMBER) ? after_kind(in, GROUP_MEMBER) : after_groups(in), pair_word(group_of(in->job[i]), action));
+        return;
+    }
+}
+
+/* A group with a few pairs. */
+static void add_group(struct input *in, struct dice *dice)
+{
+    insert(open_job(in), after_groups(in), group_word(roll(dice, chance(dice, 8) ? 16 : GROUPS), some_limit(dice)));
+    for (uint32_t pairs = roll(dice, 5); pairs > 0; pairs--) add_pair(in, dice);
 }
 
 /* A new root over the old one: a set, a loop, or a form with a new leaf beside the old root. */
@@ -325,7 +350,7 @@ static mutation *const mutations[] = {
     swap_words,   add_declaration, add_law,   wrap_root,     wrap_root,    add_condition,  add_condition,   change_form,
     put_start,    put_start,    shift_starts, change_last,   write_facts,  facts_by_fill,  change_choices,  carry_out_again,
     carry_out_again, repair_numbers, repair_plan, repair_job, lengthen_job, change_trial, change_trial,   add_shift,
-    add_shift,
+    add_shift,    add_group,    add_group,    add_pair,      add_pair,
 };
 enum { MUTATIONS = sizeof mutations / sizeof *mutations };
 

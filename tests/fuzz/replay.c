@@ -65,13 +65,13 @@ static int show(const char *call, int which, unsigned has)
 static int report(unsigned long executions)
 {
     printf("%lu executions, %lu calls; answers by number:\n", executions, harness_calls);
-    int never = show("check", CHECK, 0x8fffu);
-    never += show("fill", FILL, 0x97ffu);
-    never += show("find", FIND, 0xbfffu);
+    int never = show("check", CHECK, 0x18fffu);
+    never += show("fill", FILL, 0x197ffu);
+    never += show("find", FIND, 0x1bfffu);
     never += show("trial_begin", TRIAL_BEGIN, 0x403fu);
-    never += show("trial_start", TRIAL_START, 0xc7ffu);
-    never += show("trial_on", TRIAL_ON, 0xc7ffu);
-    return never + show("trial_show", TRIAL_SHOW, 0xd7ffu);
+    never += show("trial_start", TRIAL_START, 0x1c7ffu);
+    never += show("trial_on", TRIAL_ON, 0x1c7ffu);
+    return never + show("trial_show", TRIAL_SHOW, 0x1d7ffu);
 }
 
 static int run(uint64_t seed, unsigned long mutations, int files, char **names)

@@ -4,7 +4,7 @@
 #include <stddef.h>
 #include <stdint.h>
 
-enum kind { HEAD = 1, INITIALLY, ACTION, LAW, FORMULA, NODE, MEMBER, CONDITION, START, FACT, READING, SHIFT_WINDOW };
+enum kind { HEAD = 1, INITIALLY, ACTION, LAW, FORMULA, NODE, MEMBER, CONDITION, START, FACT, READING, SHIFT_WINDOW, GROUP, GROUP_MEMBER };
 enum form { ACT, TEST, SEQUENCE, CHOICE, BRANCH, LOOP, START_WINDOW, END_WINDOW, TASK_SET };
 
 struct list {
@@ -49,4 +49,46 @@ static inline uint32_t shift_word(uint32_t action, uint32_t from, uint32_t to)
 static inline uint32_t shift_action(uint32_t word) { return field(word, 17, 12); }
 static inline uint32_t shift_from(uint32_t word) { return field(word, 11, 6); }
 static inline uint32_t shift_to(uint32_t word) { return field(word, 5, 0); }
+
+enum { GROUPS = 8 };
+
+static inline uint32_t group_word(uint32_t group, uint32_t limit) { return (uint32_t)GROUP << 28 | group << 24 | limit; }
+static inline uint32_t pair_word(uint32_t group, uint32_t action) { return (uint32_t)GROUP_MEMBER << 28 | group << 24 | action; }
+static inline uint32_t group_of(uint32_t word) { return field(word, 27, 24); }
+static inline uint32_t group_limit(uint32_t word) { return field(word, 5, 0); }
+static inline uint32_t group_action(uint32_t word) { return field(word, 5, 0); }
+
+/* Actions declared before a word. */
+static inline uint32_t actions_before(struct list job, size_t at)
+{
+    uint32_t actions = 0;
+    for (size_t i = 0; i < at; i++) actions += kind_of(job.words[i]) == ACTION;
+    return actions;
+}
+
+/* How long an action lasts; 0 where it is not there. */
+static inline uint32_t duration_of(struct list job, uint32_t action)
+{
+    for (size_t i = 0; i < job.len; i++)
+        if (kind_of(job.words[i]) == ACTION && field(job.words[i], 11, 6) == action) return field(job.words[i], 5, 0);
+    return 0;
+}
+
+/* The groups of a well-formed job: their limits, 64 where there is none, and their actions as sets of bits. */
+struct groups {
+    uint32_t limit[GROUPS];
+    uint64_t actions[GROUPS];
+};
+
+static inline struct groups groups_of(struct list job)
+{
+    struct groups groups;
+    for (uint32_t g = 0; g < GROUPS; g++) groups.limit[g] = 64, groups.actions[g] = 0;
+    for (size_t i = 0; i < job.len; i++) {
+        uint32_t word = job.words[i], g = group_of(word) % GROUPS;
+        if (kind_of(word) == GROUP) groups.limit[g] = group_limit(word);
+        if (kind_of(word) == GROUP_MEMBER) groups.actions[g] |= UINT64_C(1) << group_action(word);
+    }
+    return groups;
+}
 #endif

@@ -14,7 +14,7 @@ int fault(void)
 }
 
 /* Is it the number of a row on starts? */
-static bool of_starts(unsigned number) { return (number >= 6 && number <= 10) || number == 15; }
+static bool of_starts(unsigned number) { return (number >= 6 && number <= 10) || number == 15 || number == 16; }
 
 /* For FAULT=count. */
 __attribute__((constructor)) static void count_faults(void)
@@ -36,6 +36,7 @@ static volatile uint32_t sink;
 
 uint64_t check(const uint32_t *job, size_t job_len, const uint32_t *starts, size_t starts_len, const uint32_t *facts, size_t facts_len)
 {
+    if (group_fault()) return group_check((struct list){job, job_len}, (struct list){starts, starts_len}, (struct list){facts, facts_len});
     static unsigned calls;
     job = shifted(job, job_len);
     uint64_t refusal = shift_refusal(job, job_len), answer = right_check(job, job_len, starts, starts_len, facts, facts_len);
@@ -124,6 +125,7 @@ static uint64_t fill_with_slip(const uint32_t *job, size_t job_len, const uint32
 
 uint64_t fill(const uint32_t *job, size_t job_len, const uint32_t *starts, size_t starts_len, uint32_t *buffer, size_t buffer_len)
 {
+    if (group_fault()) return group_fill((struct list){job, job_len}, (struct list){starts, starts_len}, buffer, buffer_len);
     static uint32_t room[4096];
     job = shifted(job, job_len);
     uint64_t refusal = buffer_len < 4096 ? 0 : shift_refusal(job, job_len);
@@ -229,6 +231,7 @@ static uint64_t wait_through(const uint32_t *job, size_t job_len, const uint32_t
 uint64_t find(const uint32_t *job, size_t job_len, const uint32_t *starts, size_t starts_len, const uint32_t *facts, size_t facts_len,
               uint32_t *buffer, size_t buffer_len)
 {
+    if (group_fault()) return group_find((struct list){job, job_len}, (struct list){starts, starts_len}, (struct list){facts, facts_len}, buffer, buffer_len);
     uint32_t first = buffer_len ? buffer[0] : 0;
     job = shifted(job, job_len);
     uint64_t refusal = buffer_len < 4096 ? 0 : shift_refusal(job, job_len);
@@ -260,6 +263,7 @@ static bool copied(const uint32_t *trial, size_t trial_len)
 
 uint64_t trial_begin(const uint32_t *job, size_t job_len, uint32_t *trial, size_t trial_len)
 {
+    if (group_fault()) return group_begin((struct list){job, job_len}, trial, trial_len);
     uint32_t moment = trial_len ? trial[0] : 0;
     job = shifted(job, job_len);
     if (fault() == BEGIN_14_BEFORE_JOB && trial_len < TRIAL_LEAST) return UINT64_C(14) << 56;
@@ -313,6 +317,7 @@ static uint64_t spoil_refused_start(const uint32_t *job, size_t job_len, uint32_
 
 uint64_t trial_start(const uint32_t *job, size_t job_len, uint32_t *trial, size_t trial_len, uint32_t action)
 {
+    if (group_fault()) return group_start((struct list){job, job_len}, trial, trial_len, action);
     bool whole = copied(trial, trial_len);
     job = shifted(job, job_len);
     if (fault() == START_READS_AFTER_TRIAL && trial_len) sink = trial[trial_len];
@@ -364,6 +369,7 @@ static uint64_t spoil_refused_on(const uint32_t *job, uint32_t *trial, uint64_t 
 
 uint64_t trial_on(const uint32_t *job, size_t job_len, uint32_t *trial, size_t trial_len)
 {
+    if (group_fault()) return group_on((struct list){job, job_len}, trial, trial_len);
     job = shifted(job, job_len);
     uint64_t answer = right_trial_on(job, job_len, trial, trial_len);
     if (fault() == ON_SKIPS_SHIFTS && planreader_number(answer) == 15) return right_trial_on(freed(job, job_len), job_len, trial, trial_len);
@@ -398,6 +404,7 @@ static uint64_t spoil_show(const uint32_t *job, size_t job_len, const uint32_t *
 
 uint64_t trial_show(const uint32_t *job, size_t job_len, const uint32_t *trial, size_t trial_len, uint32_t *buffer, size_t buffer_len)
 {
+    if (group_fault()) return group_show((struct list){job, job_len}, trial, trial_len, buffer, buffer_len);
     static uint32_t room[4096];
     job = shifted(job, job_len);
     uint64_t answer = right_trial_show(job, job_len, trial, trial_len, buffer, buffer_len);

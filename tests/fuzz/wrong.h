@@ -1,7 +1,8 @@
-/* The proved calls under other names, and the faults of wrong.c and wrong_shift.c. */
+/* The proved calls under other names, and the faults of wrong.c, wrong_shift.c and wrong_group.c. */
 #ifndef WRONG_H
 #define WRONG_H
 #include "planreader.h"
+#include "word.h"
 #include <stdbool.h>
 
 uint64_t right_check(const uint32_t *job, size_t job_len, const uint32_t *starts, size_t starts_len, const uint32_t *facts, size_t facts_len);
@@ -116,7 +117,62 @@ enum fault {
     START_SKIPS_SHIFTS,
     ON_SKIPS_SHIFTS,
     SHOW_SKIPS_SHIFTS,
-    FAULTS = SHOW_SKIPS_SHIFTS
+    GROUPS_NOT_KEPT,
+    GROUP_ITSELF_NOT_COUNTED,
+    GROUP_BELOW_LIMIT,
+    GROUP_0_LETS_ONE,
+    GROUP_63_NO_LIMIT,
+    GROUP_AT_FINISH_TOO,
+    GROUP_NOT_AT_LAST_MOMENT,
+    GROUP_NOT_AT_OWN_MOMENT,
+    GROUP_SAME_MOMENT_ALONE,
+    GROUP_ALL_BEFORE,
+    GROUP_ALL_OF_PLAN,
+    GROUP_SAME_ACTION_ALONE,
+    GROUP_LOWER_ALONE,
+    GROUP_HIGHER_ALONE,
+    GROUP_LATER_OF_MOMENT_TOO,
+    GROUP_ALL_IN_HAND,
+    GROUP_FIRST_OF_ACTION,
+    GROUP_LAST_OF_ACTION,
+    GROUP_ALL_MUST_BE_OVER,
+    GROUP_7_FORGOTTEN,
+    GROUP_0_FORGOTTEN,
+    GROUP_LIMIT_OF_NEXT,
+    GROUP_LEAST_LIMIT,
+    GROUP_LAST_PAIR_ALONE,
+    GROUP_LAST_PAIR_FORGOTTEN,
+    GROUP_PAIRS_OF_LAST,
+    GROUP_NEXT_ACTION,
+    GROUP_63_IN_NONE,
+    GROUP_EMPTY_HOLDS_ALL,
+    GROUP_AT_FIRST_OF_MOMENT,
+    GROUP_AT_LAST,
+    GROUP_16_BEFORE_15,
+    GROUP_16_BEFORE_9,
+    GROUP_16_AFTER_10,
+    GROUP_ABOVE_7,
+    GROUP_UNDECLARED,
+    GROUP_ACTION_NOT_DECLARED,
+    GROUP_TWICE,
+    PAIR_TWICE,
+    GROUP_AFTER_PAIR,
+    GROUP_TWICE_3,
+    PAIR_TWICE_3,
+    PAIR_AFTER_ACTION_3,
+    GROUP_LIMIT_0_IS_3,
+    GROUP_SPARE_BITS,
+    PAIR_SPARE_BITS,
+    CHECK_SKIPS_GROUPS,
+    FILL_SKIPS_GROUPS,
+    FIND_SKIPS_GROUPS,
+    START_SKIPS_GROUPS,
+    START_COUNTS_LOWER_ALONE,
+    START_10_BEFORE_16,
+    START_16_BEFORE_15,
+    ON_SKIPS_GROUPS,
+    SHOW_SKIPS_GROUPS,
+    FAULTS = SHOW_SKIPS_GROUPS
 };
 
 /* The fault that the environment's FAULT numbers. */
@@ -135,4 +191,14 @@ uint64_t shift_fill(const uint32_t *job, size_t job_len, const uint32_t *starts,
 
 /* A new start that is refused, of a trial that is sound: another answer. */
 uint64_t shift_start(const uint32_t *job, size_t job_len, uint32_t *trial, uint32_t action, uint64_t answer);
+
+/* wrong_group.c: is the fault one of groups? Then these are the calls. */
+bool group_fault(void);
+uint64_t group_check(struct list job, struct list starts, struct list facts);
+uint64_t group_fill(struct list job, struct list starts, uint32_t *buffer, size_t len);
+uint64_t group_find(struct list job, struct list starts, struct list facts, uint32_t *buffer, size_t len);
+uint64_t group_begin(struct list job, uint32_t *trial, size_t len);
+uint64_t group_start(struct list job, uint32_t *trial, size_t len, uint32_t action);
+uint64_t group_on(struct list job, uint32_t *trial, size_t len);
+uint64_t group_show(struct list job, const uint32_t *trial, size_t trial_len, uint32_t *buffer, size_t len);
 #endif

@@ -9,13 +9,6 @@ static bool is_window(uint32_t word) { return kind_of(word) == SHIFT_WINDOW && f
 
 static bool same_action(uint32_t a, uint32_t b) { return is_window(a) && is_window(b) && shift_action(a) == shift_action(b); }
 
-static uint32_t lasts(const uint32_t *job, size_t job_len, uint32_t action)
-{
-    for (size_t i = 0; i < job_len; i++)
-        if (kind_of(job[i]) == ACTION && field(job[i], 11, 6) == action) return field(job[i], 5, 0);
-    return 0;
-}
-
 /* The first or the last window of the same action. */
 static uint32_t outermost(const uint32_t *job, size_t job_len, uint32_t word, bool last)
 {
@@ -38,7 +31,7 @@ static uint32_t added_up(const uint32_t *job, size_t job_len, uint32_t word)
 /* A window by the fault. */
 static uint32_t window_by_fault(const uint32_t *job, size_t job_len, uint32_t word)
 {
-    uint32_t a = shift_action(word), from = shift_from(word), to = shift_to(word), later = to + lasts(job, job_len, a);
+    uint32_t a = shift_action(word), from = shift_from(word), to = shift_to(word), later = to + duration_of((struct list){job, job_len}, a);
     switch (fault()) {
     case SHIFTS_NOT_KEPT: return shift_word(a, 0, 63);
     case SHIFT_START_ON_FROM_REFUSED: return from < to ? shift_word(a, from + 1, to) : word;
@@ -62,7 +55,7 @@ static uint32_t word_by_fault(const uint32_t *job, size_t job_len, uint32_t word
     if (kind_of(word) != SHIFT_WINDOW) return word;
     if (fault() == SHIFT_SPARE_BITS) return word & 0xf003ffffu;
     if (fault() == SHIFT_LIMITS_SWAPPED && shift_from(word) > shift_to(word)) return shift_word(shift_action(word), shift_to(word), shift_from(word));
-    if (fault() == SHIFT_ACTION_NOT_DECLARED && !lasts(job, job_len, shift_action(word))) return with_field(word, 17, 12, 0);
+    if (fault() == SHIFT_ACTION_NOT_DECLARED && !duration_of((struct list){job, job_len}, shift_action(word))) return with_field(word, 17, 12, 0);
     return is_window(word) && field(job[0], 15, 8) ? window_by_fault(job, job_len, word) : word;
 }
 

@@ -9,6 +9,12 @@ impl Random {
         Random { state: seed }
     }
 
+    /// A stream by these words; another for each salt.
+    pub fn by_words(words: &[u32], salt: u64) -> Random {
+        let sum = |sum: u64, &word: &u32| (sum ^ u64::from(word)).wrapping_mul(0x0000_0100_0000_01b3);
+        Random::new(words.iter().fold(0xcbf2_9ce4_8422_2325 ^ salt, sum))
+    }
+
     pub fn number(&mut self) -> u64 {
         self.state = self.state.wrapping_add(0x9e37_79b9_7f4a_7c15);
         let mut z = self.state;

@@ -73,6 +73,16 @@ pub fn shift_window(action: usize, from: usize, to: usize) -> u32 {
     made(12, &[(action, 12), (from, 6), (to, 0)])
 }
 
+/// L5's kind 13.
+pub fn group(group: usize, limit: usize) -> u32 {
+    made(13, &[(group, 24), (limit, 0)])
+}
+
+/// L5's kind 14.
+pub fn group_member(group: usize, action: usize) -> u32 {
+    made(14, &[(group, 24), (action, 0)])
+}
+
 #[cfg(test)]
 mod tests {
     use super::*;
@@ -85,6 +95,8 @@ mod tests {
         assert_eq!(plan, [0x90000000, 0xa0000001, 0xa0000080]);
         assert_eq!(reading(0, 0, 1), 0xb0000001);
         assert_eq!(shift_window(1, 2, 3), 0xc0001083);
+        assert_eq!(group(7, 3), 0xd7000003);
+        assert_eq!(group_member(7, 63), 0xe700003f);
     }
 
     #[test]

@@ -36,7 +36,7 @@ fn hand_written_plans_get_the_paper_s_facts() {
             assert_eq!(answer, Answer::success(length, 0), "{}", vector.name);
             assert_eq!(buffer[..length], vector.facts, "{}", vector.name);
             assert_eq!(buffer[length..], noise[length..], "{}", vector.name);
-        } else if vector.number < 11 {
+        } else if vector.number != 11 {
             let right = Answer { number: vector.number, position: vector.position, length: 0, count: 0 };
             assert_eq!(answer, right, "{}", vector.name);
             assert_eq!(buffer, noise, "{}", vector.name);

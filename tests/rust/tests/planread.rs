@@ -96,6 +96,16 @@ fn hand_written_cases_print_the_paper_s_answers() {
 }
 
 #[test]
+fn hand_written_plans_with_windows_and_groups_print_the_paper_s_refusals() {
+    for vector in vectors::windows::vectors().into_iter().chain(vectors::groups::vectors()) {
+        if vector.number != 0 {
+            let text = printed_words(&vector.job, &[&vector.starts[..], &vector.facts].concat());
+            assert_eq!(text, refusal_text(vector.number, vector.position), "{}", vector.name);
+        }
+    }
+}
+
+#[test]
 fn bad_files_print_bad_file() {
     let bytes = vec![0; 32 * 1024 + 4];
     let good = || File::Bytes(&bytes[..8]);

@@ -22,7 +22,7 @@ fn generated_trials_get_the_checker_s_answers() {
 
 #[test]
 fn trials_with_each_word_damaged_get_the_checker_s_answers() {
-    let report = trial::each_word(WORDS_SEED, 20, &host::TRIAL_CALLS);
+    let report = trial::each_word(WORDS_SEED, 30, &host::TRIAL_CALLS);
     report.print(WORDS_SEED, "outcomes and situations", &trial::COLUMNS);
     assert!(report.cases >= 20_000);
     assert_eq!(report.differences, 0);

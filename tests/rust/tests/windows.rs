@@ -3,7 +3,7 @@
 
 use planreader_tests::checker::answer::Answer;
 use planreader_tests::compare::asker::Calls;
-use planreader_tests::compare::{window_features, window_tiny, windows};
+use planreader_tests::compare::{plans_by_hand, window_features, window_tiny, windows};
 use planreader_tests::host;
 use planreader_tests::vectors;
 
@@ -39,16 +39,7 @@ fn starts_of_two_actions_get_what_the_moments_say() {
 
 #[test]
 fn find_starts_from_what_check_gives_the_plans_written_by_hand() {
-    for vector in vectors::windows::vectors() {
-        let mut buffer = vec![7; 4_096];
-        let found = host::find(&vector.job, &vector.starts, &vector.facts, &mut buffer);
-        let lawful = [0, 13].contains(&found.number);
-        assert_eq!(lawful, vector.number == 0, "{}", vector.name);
-        if vector.number != 0 {
-            let refused = Answer { number: vector.number, position: vector.position, length: 0, count: 0 };
-            assert_eq!((found, buffer), (refused, vec![7; 4_096]), "{}", vector.name);
-        }
-    }
+    plans_by_hand::hold_find(&vectors::windows::vectors(), &host::find);
 }
 
 /// A short buffer comes before a start outside its windows, and so does a bad window.

@@ -10,7 +10,7 @@ use crate::checker::starts::{read_starts, Start};
 /// "shorter than 4,096 words"
 pub const LEAST_BUFFER: usize = 4096;
 
-/// A well-formed job with starts that rows 6 to 10 and 15 let pass, and what the rules make of them.
+/// A well-formed job with starts that rows 6 to 10, 15 and 16 let pass, and what the rules make of them.
 pub struct Plan {
     pub job: Job,
     pub starts: Vec<Start>,
@@ -18,7 +18,7 @@ pub struct Plan {
     pub facts: Vec<u32>,
 }
 
-/// Rows 1 to 10, with 15 after 9.
+/// Rows 1 to 10, with 15 and 16 after 9.
 pub fn read_plan(job: &[u32], starts: &[u32]) -> Result<Plan, Refusal> {
     let job = read_job(job)?;
     let starts = read_starts(&job, starts)?;
@@ -28,7 +28,7 @@ pub fn read_plan(job: &[u32], starts: &[u32]) -> Result<Plan, Refusal> {
     Ok(Plan { job, starts, states, facts })
 }
 
-/// Rows 1 to 11, with 15.
+/// Rows 1 to 11, with 15 and 16.
 pub fn read_whole_plan(job: &[u32], starts: &[u32], facts: &[u32]) -> Result<Plan, Refusal> {
     let plan = read_plan(job, starts)?;
     row_11(&plan.facts, facts)?;
@@ -42,7 +42,7 @@ pub fn lent_buffer(length: usize) -> Result<(), Refusal> {
     }
 }
 
-/// "Check has no lent buffer and runs numbers 1 to 11", and 15; "check gives length 0", count 0.
+/// "Check has no lent buffer and runs numbers 1 to 11", with 15 and 16; "check gives length 0", count 0.
 pub fn check(job: &[u32], starts: &[u32], facts: &[u32]) -> Answer {
     match read_whole_plan(job, starts, facts) {
         Ok(_) => Answer::success(0, 0),
@@ -68,7 +68,7 @@ pub enum Outcome {
     Read { world: World, decision: Decision },
 }
 
-/// "find runs all": 12, then 1 to 11 with 15, then 13.
+/// "find runs all": 12, then 1 to 11 with 15 and 16, then 13.
 pub fn find(job: &[u32], starts: &[u32], facts: &[u32], buffer: usize) -> Outcome {
     find_within(job, starts, facts, buffer, usize::MAX).expect("no bound on the placements")
 }

@@ -1,4 +1,5 @@
-//! Document 01, "Job words", and the rows on the job in "Where each check is made"; document 02, L4, "Shift windows".
+//! Document 01, "Job words", and the rows on the job in "Where each check is made"; document 02, L4, "Shift windows", and L5,
+//! "Grippers are few".
 
 use crate::checker::answer::{refuse, Refusal};
 use crate::words::{bits, field, form, kind};
@@ -14,6 +15,8 @@ pub struct Job {
     pub last: usize,
     pub initially: Vec<Known>,
     pub actions: Vec<Action>,
+    /// The groups that are declared, in the order of their kind 13 words.
+    pub groups: Vec<Group>,
     pub formulas: Vec<Formula>,
     pub nodes: Vec<Node>,
 }
@@ -39,6 +42,15 @@ pub struct Action {
 pub struct Shift {
     pub from: usize,
     pub to: usize,
+}
+
+/// L5: "kind 13, 27..24 group, 5..0 limit; kind 14, 27..24 group, 5..0 action"
+#[derive(Clone, Debug, PartialEq, Eq)]
+pub struct Group {
+    pub number: usize,
+    pub limit: usize,
+    /// The actions of its kind 14 words, in their order.
+    pub actions: Vec<usize>,
 }
 
 #[derive(Clone, Copy, Debug, PartialEq, Eq)]
@@ -93,7 +105,7 @@ pub fn read_job(words: &[u32]) -> Result<Job, Refusal> {
         if wrong(&job, word) {
             return refuse(3, position);
         }
-        if fluent_twice(&job, word) {
+        if named_twice(&job, word) {
             return refuse(4, position);
         }
         job.take(word);
@@ -110,7 +122,7 @@ fn not_allowed(before: Option<u32>, word: u32) -> bool {
 
 fn kind_and_form_allowed(word: u32) -> bool {
     match kind(word) {
-        1 | 2 | 3 | 4 | 7 | 12 => true,
+        1 | 2 | 3 | 4 | 7 | 12 | 13 | 14 => true,
         5 => form(word) <= 4,
         6 => form(word) <= 8,
         8 => form(word) <= 4,
@@ -119,7 +131,7 @@ fn kind_and_form_allowed(word: u32) -> bool {
 }
 
 /// The sentences "Follows ..". Kind 1 is "only and always word 0". Of kind 12: "it follows kinds 3, 4 or 12, and kinds 5
-/// and 6 may follow it".
+/// and 6 may follow it". "Kind 13 follows 3, 4, 12 or 13, kind 14 follows 13 or 14, and kinds 5 and 6 may follow either".
 fn may_follow(before: Option<u32>, word: u32) -> bool {
     let Some(before) = before else {
         return kind(word) == 1;
@@ -129,11 +141,13 @@ fn may_follow(before: Option<u32>, word: u32) -> bool {
         2 => matches!(kind(before), 1 | 2),
         3 => matches!(kind(before), 1..=4),
         4 => matches!(kind(before), 3 | 4),
-        5 => matches!(kind(before), 1..=5 | 12),
-        6 => matches!(kind(before), 1..=8 | 12) && !after_set,
+        5 => matches!(kind(before), 1..=5 | 12..=14),
+        6 => matches!(kind(before), 1..=8 | 12..=14) && !after_set,
         7 => after_set || kind(before) == 7,
         8 => matches!(kind(before), 7 | 8),
         12 => matches!(kind(before), 3 | 4 | 12),
+        13 => matches!(kind(before), 3 | 4 | 12 | 13),
+        14 => matches!(kind(before), 13 | 14),
         _ => false,
     }
 }
@@ -160,6 +174,7 @@ fn used_bits(word: u32) -> u32 {
         (8, 0) | (8, 1) => bits(27, 24) | bits(17, 15) | bits(14, 12) | m_n,
         (8, 2) | (8, 3) => bits(27, 24) | bits(23, 18) | bits(17, 15) | m_n,
         (12, _) => bits(17, 12) | bits(11, 6) | bits(5, 0),
+        (13 | 14, _) => bits(27, 24) | bits(5, 0),
         _ => bits(27, 24) | bits(23, 18) | bits(17, 15) | bits(14, 12) | m_n,
     };
     bits(31, 28) | fields
@@ -176,7 +191,9 @@ fn wrong(job: &Job, word: u32) -> bool {
         6 => job.nodes.len() == 64 || wrong_node(job, word),
         7 => wrong_member(job, word),
         8 => wrong_condition(job, word),
-        _ => wrong_shift(job, word),
+        12 => wrong_shift(job, word),
+        13 => field(word, 27, 24) > HIGHEST_GROUP,
+        _ => wrong_pair(job, word),
     }
 }
 
@@ -247,9 +264,19 @@ fn wrong_shift(job: &Job, word: u32) -> bool {
     field(word, 17, 12) >= job.actions.len() || field(word, 11, 6) > field(word, 5, 0)
 }
 
-// Row 4: "fluent twice in kind 2; or twice in roles 0, 1, or in 2, 3, of one action"
+/// "Groups are numbered 0 to 7, a higher number is 3"
+const HIGHEST_GROUP: usize = 7;
 
-fn fluent_twice(job: &Job, word: u32) -> bool {
+/// A higher number, or "an undeclared group 3"; an action not declared so far is a wrong reference.
+fn wrong_pair(job: &Job, word: u32) -> bool {
+    let number = field(word, 27, 24);
+    number > HIGHEST_GROUP || job.group(number).is_none() || field(word, 5, 0) >= job.actions.len()
+}
+
+// Row 4: "fluent twice in kind 2; or twice in roles 0, 1, or in 2, 3, of one action"; L5: "a group declared twice or a pair
+// listed twice is 4"
+
+fn named_twice(job: &Job, word: u32) -> bool {
     let fluent = field(word, 5, 0);
     let named = |list: &[Known]| list.iter().any(|known| known.fluent == fluent);
     match kind(word) {
@@ -261,6 +288,8 @@ fn fluent_twice(job: &Job, word: u32) -> bool {
                 _ => named(&action.makes),
             }
         }
+        13 => job.group(field(word, 27, 24)).is_some(),
+        14 => job.group(field(word, 27, 24)).is_some_and(|group| group.actions.contains(&field(word, 5, 0))),
         _ => false,
     }
 }
@@ -325,6 +354,7 @@ impl Job {
             last: 0,
             initially: vec![],
             actions: vec![],
+            groups: vec![],
             formulas: vec![],
             nodes: vec![],
         }
@@ -338,6 +368,11 @@ impl Job {
         }
     }
 
+    /// The declared group of this number.
+    fn group(&self, number: usize) -> Option<&Group> {
+        self.groups.iter().find(|group| group.number == number)
+    }
+
     fn take(&mut self, word: u32) {
         match kind(word) {
             1 => self.take_head(word),
@@ -347,6 +382,8 @@ impl Job {
             5 => self.formulas.push(formula_of(word)),
             6 => self.nodes.push(node_of(word)),
             12 => self.take_shift(word),
+            13 => self.take_group(word),
+            14 => self.take_pair(word),
             _ => self.take_set_word(word),
         }
     }
@@ -365,6 +402,17 @@ impl Job {
     fn take_shift(&mut self, word: u32) {
         let shift = Shift { from: field(word, 11, 6), to: field(word, 5, 0) };
         self.actions[field(word, 17, 12)].shifts.push(shift);
+    }
+
+    fn take_group(&mut self, word: u32) {
+        self.groups.push(Group { number: field(word, 27, 24), limit: field(word, 5, 0), actions: vec![] });
+    }
+
+    /// The group that the word names, whichever was declared last.
+    fn take_pair(&mut self, word: u32) {
+        let mut named = self.groups.iter_mut().filter(|group| group.number == field(word, 27, 24));
+        let group = named.next().expect("row 3 has seen that the group is declared");
+        group.actions.push(field(word, 5, 0));
     }
 
     /// "role (0 needs true, 1 needs false, 2 makes true, 3 makes false)"

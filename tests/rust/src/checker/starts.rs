@@ -1,8 +1,8 @@
-//! Document 01, "Starts and known facts": start words, and rows 6 to 9; then L4's row 15. Each row is a pass over all
-//! words.
+//! Document 01, "Starts and known facts": start words, and rows 6 to 9; then L4's row 15 and L5's row 16. Each row is a pass
+//! over all words.
 
 use crate::checker::answer::{refuse, Refusal};
-use crate::checker::job::{Action, Job};
+use crate::checker::job::{Action, Group, Job};
 use crate::words::{bits, field, kind};
 
 /// "the start is in hand at u ≤ t < u + d, hides at u < t < u + d, and finishes at u + d."
@@ -27,7 +27,7 @@ impl Start {
     }
 }
 
-/// Rows 6 to 9 and 15 over all start words.
+/// Rows 6 to 9, 15 and 16 over all start words.
 pub fn read_starts(job: &Job, words: &[u32]) -> Result<Vec<Start>, Refusal> {
     row_6(job, words)?;
     let starts: Vec<Start> = words.iter().map(|&word| start_of(job, word)).collect();
@@ -35,6 +35,7 @@ pub fn read_starts(job: &Job, words: &[u32]) -> Result<Vec<Start>, Refusal> {
     row_8(&starts)?;
     row_9(job, &starts)?;
     row_15(job, &starts)?;
+    row_16(job, &starts)?;
     Ok(starts)
 }
 
@@ -106,6 +107,26 @@ pub fn keeps_windows(job: &Job, start: &Start) -> bool {
     let shifts = &job.actions[start.action].shifts;
     let held = shifts.iter().any(|shift| shift.from <= start.moment && start.moment + start.duration <= shift.to);
     shifts.is_empty() || held
+}
+
+/// "the first start word with which, counted with the words before it alone, a group of its action exceeds its limit at that
+/// word's moment, after 15 and before 10"
+pub fn row_16(job: &Job, starts: &[Start]) -> Result<(), Refusal> {
+    match (0..starts.len()).find(|&position| exceeds(job, &starts[..position], &starts[position])) {
+        Some(position) => refuse(16, position),
+        None => Ok(()),
+    }
+}
+
+/// Whether a start, counted with others, takes a group of its action over its limit at its own moment.
+pub fn exceeds(job: &Job, others: &[Start], start: &Start) -> bool {
+    let mut own = job.groups.iter().filter(|group| group.actions.contains(&start.action));
+    own.any(|group| in_hand_of(group, others, start.moment) + 1 > group.limit)
+}
+
+/// How many of the starts in hand at t are of the group: "the starts in hand whose action is in the group".
+fn in_hand_of(group: &Group, starts: &[Start], t: usize) -> usize {
+    starts.iter().filter(|start| start.in_hand(t) && group.actions.contains(&start.action)).count()
 }
 
 /// "Two actions clash if one makes true what the other makes false."

@@ -1,10 +1,10 @@
-//! Request L1, "Stepping a plan by hand", with L4's row 15: the four calls, and what each leaves in the words lent to it. A
-//! trial crosses to C as words: its moment, the number of its starts, then the starts.
+//! Request L1, "Stepping a plan by hand", with L4's row 15 and L5's row 16: the four calls, and what each leaves in the words
+//! lent to it. A trial crosses to C as words: its moment, the number of its starts, then the starts.
 
 use crate::checker::answer::{refuse, Answer, Refusal};
 use crate::checker::calls::{lent_buffer, read_plan, Plan};
 use crate::checker::job::{read_job, Job};
-use crate::checker::starts::{clash, keeps_windows, Start};
+use crate::checker::starts::{clash, exceeds, keeps_windows, Start};
 use crate::words::{self, field};
 
 /// "a trial with more than 4,096 starts"
@@ -107,7 +107,8 @@ fn started(trial: Trial, action: usize) -> Result<(usize, Vec<u32>), Refusal> {
     Ok((trial.moment, words))
 }
 
-/// "A start is tested for 6 (no such action), 7, 8, 9, 10 in that order"; 15 is "after 9 and before 10".
+/// "A start is tested for 6 (no such action), 7, 8, 9, 10 in that order"; 15 is "after 9 and before 10", 16 "after 15 and
+/// before 10": "a new start is counted with all in hand, whatever their action numbers".
 fn new_start(trial: &Trial, action: usize) -> Result<(), Refusal> {
     let job = &trial.plan.job;
     if action >= job.actions.len() {
@@ -125,6 +126,9 @@ fn new_start(trial: &Trial, action: usize) -> Result<(), Refusal> {
     }
     if !keeps_windows(job, &new) {
         return refuse(15, 0);
+    }
+    if exceeds(job, &trial.plan.starts, &new) {
+        return refuse(16, 0);
     }
     let state = &trial.plan.states[new.moment];
     match job.actions[action].needs.iter().any(|need| state[need.fluent] != Some(need.value)) {

@@ -8,10 +8,11 @@ use crate::compare::find::{self, Find};
 use crate::compare::report::{shown, Report};
 use crate::compare::trial::{self, Lent};
 use crate::generate::finds::FindCase;
+use crate::generate::plan_damage;
 use crate::generate::plans::LawfulPlan;
 use crate::generate::trials::{Call, Trial};
 use crate::random::Random;
-use crate::words::field;
+use crate::words::{field, kind};
 
 /// The calls to be held against the checker.
 pub struct Calls<'a> {
@@ -49,8 +50,32 @@ impl Question<'_> {
         self.right.as_ref().map_or(&[], |plan| &plan.facts)
     }
 
+    /// The same; but of starts that are refused with a number, the list of the job without the words of these kinds, so that
+    /// nothing else is wrong.
+    pub fn facts_but_for(&self, number: usize, kinds: &[usize]) -> Vec<u32> {
+        match self.refusal() {
+            Some(refusal) if refusal.number == number => {
+                calls::fill(&without_kinds(self.job, kinds), self.starts, calls::LEAST_BUFFER).1
+            }
+            _ => self.facts().to_vec(),
+        }
+    }
+
     pub fn told(&self) -> String {
         format!("{}\n {}", shown("job", self.job), shown("starts", self.starts))
+    }
+}
+
+/// A job without its words of some kinds.
+pub fn without_kinds(job: &[u32], kinds: &[usize]) -> Vec<u32> {
+    job.iter().copied().filter(|&word| !kinds.contains(&kind(word))).collect()
+}
+
+/// The words for where in a list a refusal is.
+pub fn first_or_later(position: usize) -> &'static str {
+    match position {
+        0 => "at the first word",
+        _ => "at a later word",
     }
 }
 
@@ -82,6 +107,16 @@ impl Asker<'_> {
         let given = (self.calls.of_trials.check)(question.job, question.starts, facts);
         let case = || format!("check {}\n {}", question.told(), shown("facts", facts));
         self.report.judge(answer, given, &case);
+    }
+
+    /// Check with the facts and now and then with others, and fill.
+    pub fn list(&mut self, question: &Question, facts: &[u32]) {
+        self.check(question, facts);
+        if self.random.chance(25) {
+            let wrong = plan_damage::facts(&mut self.random, facts, 63, 64);
+            self.check(question, &wrong);
+        }
+        self.fill(question);
     }
 
     /// Each word of the buffer, and words on both sides of it, are the facts or as before.

@@ -60,6 +60,7 @@ fn find_case(random: &mut Random, case: &FindCase, find: &Find, report: &mut Rep
         1 => case.starts = plan_damage::changed(random, &case.starts),
         2 => facts = plan_damage::changed(random, &facts),
         3 => length = *random.pick(&[0, 1, 4_032, 4_095]),
+        4 => case.starts = finds::another_start(&case),
         _ => {}
     }
     let noise = random.words(length);
@@ -132,11 +133,11 @@ fn lawful_buffer(world: &World, length: usize, buffer: &[u32], noise: &[u32]) ->
     }
 }
 
-pub const COLUMNS: [&str; 15] = ["0", "1", "2", "3", "4", "5", "6", "7", "8", "9", "10", "11", "12", "13", "15"];
+pub const COLUMNS: [&str; 16] = ["0", "1", "2", "3", "4", "5", "6", "7", "8", "9", "10", "11", "12", "13", "15", "16"];
 
 /// All outcomes that document 01 makes possible, and the situations that a run must have met.
 pub fn possible() -> Vec<(String, String)> {
-    let numbers = [0, 2, 3, 6, 7, 11, 12, 13, 15];
+    let numbers = [0, 2, 3, 6, 7, 11, 12, 13, 15, 16];
     let mut places: Vec<_> = numbers.iter().map(|number| ("find".to_string(), number.to_string())).collect();
     let mut add = |names: &[&str], number: &str| {
         names.iter().for_each(|name| places.push((name.to_string(), number.to_string())));

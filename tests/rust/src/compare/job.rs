@@ -61,7 +61,7 @@ fn sort(word: u32) -> u32 {
 fn label(word: u32) -> String {
     let forms = [0, 0, 0, 0, 0, 5, 9, 0, 5];
     match kind(word) {
-        kind @ (1..=4 | 7 | 12) => format!("kind {kind}"),
+        kind @ (1..=4 | 7 | 12..=14) => format!("kind {kind}"),
         kind @ (5 | 6 | 8) if form(word) < forms[kind] => format!("kind {kind} form {}", form(word)),
         kind @ (5 | 6 | 8) => format!("kind {kind} no such form"),
         _ => "no kind of a job".to_string(),
@@ -104,7 +104,7 @@ pub fn possible() -> Vec<(String, String)> {
     for kind in [1, 3, 7, 12] {
         add(&format!("kind {kind}"), &["accepted", "2", "3"]);
     }
-    for kind in [2, 4] {
+    for kind in [2, 4, 13, 14] {
         add(&format!("kind {kind}"), &["accepted", "2", "3", "4"]);
     }
     add("no kind of a job", &["2"]);

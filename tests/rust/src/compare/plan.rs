@@ -114,7 +114,7 @@ fn count(report: &mut Report, call: &str, answer: Answer) {
     }
 }
 
-pub const COLUMNS: [&str; 14] = ["0", "1", "2", "3", "4", "5", "6", "7", "8", "9", "10", "11", "12", "15"];
+pub const COLUMNS: [&str; 15] = ["0", "1", "2", "3", "4", "5", "6", "7", "8", "9", "10", "11", "12", "15", "16"];
 
 /// All outcomes that documents 01 and 02 make possible, and the situations that a run must have met.
 pub fn possible() -> Vec<(String, String)> {
@@ -122,16 +122,16 @@ pub fn possible() -> Vec<(String, String)> {
     let mut add = |row: &str, numbers: &[usize]| {
         numbers.iter().for_each(|number| places.push((row.to_string(), number.to_string())));
     };
-    add("check", &[0, 1, 2, 3, 4, 5, 6, 7, 8, 9, 10, 11, 15]);
-    add("fill", &[0, 1, 2, 3, 4, 5, 6, 7, 8, 9, 10, 12, 15]);
-    add("check, at the first word", &[6, 7, 10, 11, 15]);
-    add("check, at the later word", &[6, 7, 8, 9, 10, 11, 15]);
-    add("fill, at the later word", &[6, 7, 8, 9, 10, 15]);
+    add("check", &[0, 1, 2, 3, 4, 5, 6, 7, 8, 9, 10, 11, 15, 16]);
+    add("fill", &[0, 1, 2, 3, 4, 5, 6, 7, 8, 9, 10, 12, 15, 16]);
+    add("check, at the first word", &[6, 7, 10, 11, 15, 16]);
+    add("check, at the later word", &[6, 7, 8, 9, 10, 11, 15, 16]);
+    add("fill, at the later word", &[6, 7, 8, 9, 10, 15, 16]);
     for length in [0, 1, 4_095] {
         add(&format!("fill with {length} words"), &[12]);
     }
     for length in [4_096, 4_097, 5_000] {
-        add(&format!("fill with {length} words"), &[0, 6, 7, 8, 9, 10, 15]);
+        add(&format!("fill with {length} words"), &[0, 6, 7, 8, 9, 10, 15, 16]);
     }
     for feature in plan_features::LAWFUL {
         add(feature, &[0]);

@@ -175,7 +175,7 @@ pub fn each_word(seed: u64, rounds: usize, calls: &Calls) -> Report {
 fn bad_job(random: &mut Random, job: &[u32]) -> Vec<u32> {
     match random.below(20) {
         0..=8 => damage::any(random, job),
-        9 => damage::fluent_again(random, job),
+        9 => damage::named_again(random, job),
         10..=11 => limits::no_node(random),
         12 => limits::empty_last_set(random),
         13..=14 => noise::words(random),
@@ -203,7 +203,7 @@ fn beside_bad_job(random: &mut Random, plan: &LawfulPlan, lawful: &Trial) -> Tri
     }
 }
 
-/// All four calls on one trial.
+/// All four calls on one trial; now and then one that starts an action of the trial again.
 fn each_call(random: &mut Random, plan: &LawfulPlan, job: &[u32], trial: &Trial, calls: &Calls, report: &mut Report) {
     let words = trial.slice(random);
     each_call_on(random, plan, job, &words, calls, report);
@@ -220,7 +220,8 @@ fn each_call_on(
     let words = Lent::new(trial);
     let none = Lent::new(&[]);
     let action = trials::action(random, plan.draft.actions.len());
-    for call in [Call::Begin, Call::Start(action), Call::On] {
+    let again = trials::again(trial).map(Call::Start);
+    for call in [Call::Begin, Call::Start(action), Call::On].into_iter().chain(again) {
         counted(call, job, &words, &none, calls, report);
     }
     let length = buffer_length(random);
@@ -236,21 +237,21 @@ fn buffer_length(random: &mut Random) -> usize {
     }
 }
 
-pub const COLUMNS: [&str; 21] = [
-    "0", "1", "2", "3", "4", "5", "6", "7", "8", "9", "15", "10", "12", "14", "14 at n", "new 6", "new 7", "new 8",
-    "new 9", "new 15", "new 10",
+pub const COLUMNS: [&str; 23] = [
+    "0", "1", "2", "3", "4", "5", "6", "7", "8", "9", "15", "16", "10", "12", "14", "14 at n", "new 6", "new 7",
+    "new 8", "new 9", "new 15", "new 16", "new 10",
 ];
 
-/// All outcomes and situations that requests L1 and L4 make possible, and the pairs of refusals whose order they fix.
+/// All outcomes and situations that requests L1, L4 and L5 make possible, and the pairs of refusals whose order they fix.
 pub fn possible() -> Vec<(String, String)> {
     let mut places = trial_order::fixed();
     let mut add = |row: &str, numbers: &[usize]| {
         numbers.iter().for_each(|number| places.push((row.to_string(), number.to_string())));
     };
     add("begin", &[0, 1, 2, 3, 4, 5, 14]);
-    add("start", &[0, 1, 2, 3, 4, 5, 6, 7, 8, 9, 10, 14, 15]);
-    add("on", &[0, 1, 2, 3, 4, 5, 6, 7, 8, 9, 10, 14, 15]);
-    add("show", &[0, 1, 2, 3, 4, 5, 6, 7, 8, 9, 10, 12, 14, 15]);
+    add("start", &[0, 1, 2, 3, 4, 5, 6, 7, 8, 9, 10, 14, 15, 16]);
+    add("on", &[0, 1, 2, 3, 4, 5, 6, 7, 8, 9, 10, 14, 15, 16]);
+    add("show", &[0, 1, 2, 3, 4, 5, 6, 7, 8, 9, 10, 12, 14, 15, 16]);
     for call in ["begin", "start", "on", "show"] {
         add(&format!("{call}, at a later word"), &[2, 3, 4, 5]);
     }
@@ -258,7 +259,7 @@ pub fn possible() -> Vec<(String, String)> {
         add(&format!("show to {length} words"), &[12]);
     }
     for length in [4_096, 4_097, 5_000] {
-        add(&format!("show to {length} words"), &[0, 6, 7, 8, 9, 10, 14, 15]);
+        add(&format!("show to {length} words"), &[0, 6, 7, 8, 9, 10, 14, 15, 16]);
     }
     add("show to 100000 words", &[0]);
     trial_features::NEEDED.iter().for_each(|(situation, numbers)| add(situation, numbers));
@@ -308,7 +309,7 @@ mod tests {
 
     #[test]
     fn the_checker_agrees_with_itself_and_every_outcome_occurs() {
-        let report = run(SEED, 3_000, &right_calls(&right_fill));
+        let report = run(SEED, 5_000, &right_calls(&right_fill));
         report.print(SEED, "trials", &COLUMNS);
         assert_eq!(report.differences, 0);
         assert_eq!(report.tally.missing(&possible()), []);
@@ -361,7 +362,7 @@ mod tests {
         let planted = |job: &[u32], trial: &[u32], buffer: &mut [u32]| {
             let right = trial_show(job, trial, buffer);
             match right.number {
-                6..=10 | 15 => calls::check(job, starts(trial), &[]),
+                6..=10 | 15 | 16 => calls::check(job, starts(trial), &[]),
                 _ => right,
             }
         };
@@ -384,7 +385,7 @@ mod tests {
 
     #[test]
     fn a_refusal_that_writes_is_seen() {
-        for number in [7, 8, 9, 10, 15] {
+        for number in [7, 8, 9, 10, 15, 16] {
             let planted = move |job: &[u32], trial: &mut [u32], action: u32| {
                 let right = trial_start(job, trial, action);
                 if right.number == number {
@@ -426,7 +427,7 @@ mod tests {
     fn the_low_bits_of_an_action_are_seen() {
         for low in [63, 255, 0xffff, 0x7fff_ffff] {
             let planted = move |job: &[u32], trial: &mut [u32], action: u32| trial_start(job, trial, action & low);
-            is_seen(with_start(&planted));
+            assert!(run(SEED, 1_000, &with_start(&planted)).differences > 0);
             is_seen_in_moves(with_start(&planted));
         }
     }
@@ -446,7 +447,7 @@ mod tests {
     fn a_14_at_n_before_the_starts_numbers_is_seen() {
         let planted = |job: &[u32], trial: &mut [u32]| {
             let right = trial_on(job, trial);
-            match matches!(right.number, 6..=10 | 15) && trial[0] as usize == field(job[0], 7, 0) {
+            match matches!(right.number, 6..=10 | 15 | 16) && trial[0] as usize == field(job[0], 7, 0) {
                 true => Answer { number: 14, ..right },
                 false => right,
             }

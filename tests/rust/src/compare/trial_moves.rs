@@ -92,7 +92,7 @@ fn asked(job: &[u32], told: &Told, last: Move, answer: Answer, calls: &Calls, re
     let facts = &buffer[..filled.length];
     let checked = (calls.check)(job, &told.starts, facts);
     report.judge(Answer::success(0, 0), checked, &|| tell("check takes them with fill's facts"));
-    if let (Move::Start(action @ 0..=63), 6..=10 | 15) = (last, answer.number) {
+    if let (Move::Start(action @ 0..=63), 6..=10 | 15 | 16) = (last, answer.number) {
         let word = start(told.moment, action as usize);
         let mut with = told.starts.clone();
         with.push(word);
@@ -170,13 +170,14 @@ fn count(report: &mut Report, told: &Told, moves: &[Move], last: usize) {
     met.iter().filter(|(holds, _)| *holds).for_each(|(_, what)| report.tally.add("lists", what));
 }
 
-pub const COLUMNS: [&str; 16] = [
+pub const COLUMNS: [&str; 17] = [
     "0",
     "6",
     "7",
     "8",
     "9",
     "15",
+    "16",
     "10",
     "14",
     "0 starts",
@@ -195,8 +196,8 @@ pub fn possible() -> Vec<(String, String)> {
     let mut add = |row: &str, columns: &[&str]| {
         columns.iter().for_each(|column| places.push((row.to_string(), column.to_string())));
     };
-    add("a start", &COLUMNS[..7]);
+    add("a start", &COLUMNS[..8]);
     add("going on", &["0", "14"]);
-    add("lists", &COLUMNS[8..]);
+    add("lists", &COLUMNS[9..]);
     places
 }

@@ -1,10 +1,10 @@
 //! The order of the refusals of a trial. Each row is looked at alone, whatever the others say, so that a run can show that
-//! it met every pair of rows whose order requests L1 and L4 fix: both fit, and the earlier one's number is given.
+//! it met every pair of rows whose order requests L1, L4 and L5 fix: both fit, and the earlier one's number is given.
 
 use crate::checker::answer::{Answer, Refusal};
 use crate::checker::facts::states;
 use crate::checker::job::{read_job, Job};
-use crate::checker::starts::{clash, keeps_windows, read_starts, Start};
+use crate::checker::starts::{clash, exceeds, keeps_windows, read_starts, Start};
 use crate::checker::trial::{MOST_STARTS, TRIAL_WORDS};
 use crate::generate::trials::Call;
 use crate::tally::Tally;
@@ -14,8 +14,8 @@ use crate::words::{field, kind};
 pub type Row = &'static str;
 
 const JOB: [Row; 6] = ["", "1", "2", "3", "4", "5"];
-const STARTS: [Row; 6] = ["6", "7", "8", "9", "15", "10"];
-const NEW: [Row; 6] = ["new 6", "new 7", "new 8", "new 9", "new 15", "new 10"];
+const STARTS: [Row; 7] = ["6", "7", "8", "9", "15", "16", "10"];
+const NEW: [Row; 7] = ["new 6", "new 7", "new 8", "new 9", "new 15", "new 16", "new 10"];
 const NO_TRIAL: Row = "14";
 const AT_LAST: Row = "14 at n";
 const SHORT_BUFFER: Row = "12";
@@ -87,9 +87,10 @@ fn rows_of_trial(call: Call, job: &Job, trial: &[u32]) -> Vec<Row> {
         pairs(&starts).any(|(v, u)| v.action == u.action && v.moment < u.moment && in_hand_too(v, u)),
         pairs(&starts).any(|(v, u)| clash(&job.actions[v.action], &job.actions[u.action]) && in_hand_too(v, u)),
         starts.iter().any(|start| !keeps_windows(job, start)),
+        (0..starts.len()).any(|later| exceeds(job, &starts[..later], &starts[later])),
         starts.iter().any(|start| unmet(job, &starts, start)),
     ];
-    rows.extend((0..6).filter(|&row| fit[row]).map(|row| STARTS[row]));
+    rows.extend((0..7).filter(|&row| fit[row]).map(|row| STARTS[row]));
     match (call, moment(trial)) {
         (Call::On, Some(moment)) if moment == job.last => rows.push(AT_LAST),
         (Call::Start(action), Some(moment)) => rows.extend(rows_of_new_start(job, &starts, moment, action as usize)),
@@ -109,9 +110,10 @@ fn rows_of_new_start(job: &Job, starts: &[Start], moment: usize, action: usize) 
         starts.iter().any(|old| old.action == action && old.in_hand(moment)),
         starts.iter().any(|old| clash(&job.actions[old.action], &job.actions[action]) && in_hand_too(old, &new)),
         !keeps_windows(job, &new),
+        exceeds(job, starts, &new),
         unmet(job, starts, &new),
     ];
-    (0..6).filter(|&row| fit[row]).map(|row| NEW[row]).collect()
+    (0..7).filter(|&row| fit[row]).map(|row| NEW[row]).collect()
 }
 
 fn no_trial(trial: &[u32], last: usize) -> bool {
@@ -180,19 +182,20 @@ pub fn fixed() -> Vec<(String, String)> {
     for call in [start, Call::On, show] {
         add(call, &JOB[1..], &[NO_TRIAL, STARTS[0]]);
         add(call, &[NO_TRIAL], &STARTS);
-        (0..6).for_each(|row| add(call, &[STARTS[row]], &STARTS[row + 1..]));
+        (0..7).for_each(|row| add(call, &[STARTS[row]], &STARTS[row + 1..]));
     }
     add(Call::On, &JOB[1..], &[AT_LAST]);
     add(Call::On, &STARTS, &[AT_LAST]);
     add(start, &JOB[1..], &NEW[..1]);
     add(start, &[NO_TRIAL], &NEW);
     for (row, first) in STARTS.into_iter().enumerate() {
-        let others: Vec<Row> = (0..6).filter(|&new| new != row).map(|new| NEW[new]).collect();
+        let others: Vec<Row> = (0..7).filter(|&new| new != row).map(|new| NEW[new]).collect();
         add(start, &[first], &others);
     }
     // Not 8 before 9 of the new start: the earlier start of its action would clash too, and be refused before.
     add(start, &[NEW[1]], &NEW[2..]);
     add(start, &[NEW[2], NEW[3]], &NEW[4..]);
     add(start, &[NEW[4]], &NEW[5..]);
+    add(start, &[NEW[5]], &NEW[6..]);
     places
 }

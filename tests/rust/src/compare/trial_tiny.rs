@@ -140,7 +140,7 @@ mod tests {
 
     #[test]
     fn a_trial_that_passes_with_a_number_of_its_starts_is_seen() {
-        for number in [6, 7, 8, 9, 10, 15] {
+        for number in [6, 7, 8, 9, 10, 15, 16] {
             let show = move |job: &[u32], trial: &[u32], buffer: &mut [u32]| {
                 let right = trial_show(job, trial, buffer);
                 if right.number == number {

@@ -4,6 +4,8 @@
 use crate::checker::answer::{Answer, Refusal};
 use crate::checker::job::{Job, Shift};
 use crate::checker::starts::Start;
+use crate::compare::asker::first_or_later;
+use crate::compare::rows::{self, PLACES};
 use crate::compare::window_case::Case;
 use crate::compare::window_rules::{slips, windows, Window, RIGHT};
 use crate::tally::{Needed, Tally};
@@ -157,16 +159,12 @@ fn in_trial(name: &str) -> String {
 /// The rows that are looked at beside 15.
 const ROWS: [usize; 5] = [6, 7, 8, 9, 10];
 
-/// Where one row first fits, as against the other.
-const PLACES: [&str; 3] = ["before", "on the word of", "after"];
-
 /// Counts each row that fits beside 15, by which of the two first fits an earlier word.
 pub fn order(tally: &mut Tally, case: &Case, answer: Option<Refusal>) {
     let (Some(outside), Some(answer)) = (case.at(15, &RIGHT).first().copied(), answer) else { return };
     for row in ROWS {
         if let Some(&at) = case.at(row, &RIGHT).first() {
-            let place = PLACES[1 + usize::from(at > outside) - usize::from(at < outside)];
-            tally.add(&beside(row, place), &answer.number.to_string());
+            tally.add(&beside(row, rows::place(at, outside)), &answer.number.to_string());
         }
     }
 }
@@ -178,14 +176,6 @@ fn beside(row: usize, place: &str) -> String {
 /// Which slips a case tells.
 pub fn told(tally: &mut Tally, case: &Case) {
     slips().iter().filter(|slip| case.tells(slip)).for_each(|slip| tally.add(&slip_row(slip.name), "told"));
-}
-
-/// Where in a list a refusal is.
-pub fn place(position: usize) -> &'static str {
-    match position {
-        0 => "at the first word",
-        _ => "at a later word",
-    }
 }
 
 fn slip_row(name: &str) -> String {
@@ -214,7 +204,7 @@ pub fn needed(plans: usize) -> Vec<Needed> {
     for call in ["start", "on", "show"] {
         ["0", "15"].iter().for_each(|number| add(call.to_string(), number, 100));
     }
-    for place in [place(0), place(1)] {
+    for place in [first_or_later(0), first_or_later(1)] {
         add(format!("check, {place}"), "15", 100);
     }
     add("check".to_string(), "11", 100);

@@ -5,6 +5,8 @@
 
 use crate::checker::answer::Refusal;
 use crate::checker::job::{read_job, Job};
+use crate::compare::read_slips::{behind, mapped, refusing};
+use crate::compare::rows::{Passes, RIGHT_PASSES};
 use crate::words::{bits, field, kind, shift_window};
 
 #[derive(Clone, Copy, Debug, PartialEq, Eq)]
@@ -32,8 +34,7 @@ pub struct Rule {
     pub name: &'static str,
     pub keeps: fn(&Asked) -> bool,
     pub reads: fn(&[u32]) -> Result<Job, Refusal>,
-    /// The passes over all words. Of several rows in one pass each word is asked in turn.
-    pub passes: &'static [&'static [usize]],
+    pub passes: Passes,
     /// Which of the words outside their windows is told.
     pub told: fn(&[usize]) -> usize,
 }
@@ -42,7 +43,7 @@ pub const RIGHT: Rule = Rule {
     name: "the right rule",
     keeps: |asked| free_or(asked, |window| holds(asked, window)),
     reads: read_job,
-    passes: &[&[6], &[7], &[8], &[9], &[15], &[10]],
+    passes: RIGHT_PASSES,
     told: |outside| outside[0],
 };
 
@@ -229,28 +230,28 @@ const JOBS: [Rule; 12] = [
         reads: |job| second(job, 3, |one, other| one.action > other.action),
         ..RIGHT
     },
-    Rule { name: "from = to is 3", reads: |job| refusing(job, |window, _| window.from == window.to), ..RIGHT },
-    Rule { name: "to above n is 3", reads: |job| refusing(job, |window, last| window.to > last), ..RIGHT },
-    Rule { name: "from above n is 3", reads: |job| refusing(job, |window, last| window.from > last), ..RIGHT },
-    Rule { name: "from > to is let pass", reads: |job| read_job(&mapped(job, in_order)), ..RIGHT },
+    Rule { name: "from = to is 3", reads: |job| wrong(job, |window, _| window.from == window.to), ..RIGHT },
+    Rule { name: "to above n is 3", reads: |job| wrong(job, |window, last| window.to > last), ..RIGHT },
+    Rule { name: "from above n is 3", reads: |job| wrong(job, |window, last| window.from > last), ..RIGHT },
+    Rule { name: "from > to is let pass", reads: |job| mapped(job, 12, in_order), ..RIGHT },
     Rule {
         name: "an action that is not there is let pass",
-        reads: |job| read_job(&mapped(job, |word| word & !bits(17, 12))),
+        reads: |job| mapped(job, 12, |word| word & !bits(17, 12)),
         ..RIGHT
     },
-    Rule { name: "spare bits are let pass", reads: |job| read_job(&mapped(job, |word| word & !bits(27, 18))), ..RIGHT },
-    Rule { name: "actions and laws may follow windows", reads: |job| read_job(&windows_last(job)), ..RIGHT },
+    Rule { name: "spare bits are let pass", reads: |job| mapped(job, 12, |word| word & !bits(27, 18)), ..RIGHT },
+    Rule { name: "actions and laws may follow windows", reads: |job| behind(job, 12, &[3, 4]), ..RIGHT },
 ];
 
 /// Slips in the order of the rows, and in the position.
 const ROWS: [Rule; 9] = [
-    Rule { name: "15 after 10", passes: &[&[6], &[7], &[8], &[9], &[10], &[15]], ..RIGHT },
-    Rule { name: "15 before 9", passes: &[&[6], &[7], &[8], &[15], &[9], &[10]], ..RIGHT },
-    Rule { name: "15 before 8", passes: &[&[6], &[7], &[15], &[8], &[9], &[10]], ..RIGHT },
-    Rule { name: "15 before 7", passes: &[&[6], &[15], &[7], &[8], &[9], &[10]], ..RIGHT },
-    Rule { name: "15 before 6", passes: &[&[15], &[6], &[7], &[8], &[9], &[10]], ..RIGHT },
-    Rule { name: "9 and 15 in one pass", passes: &[&[6], &[7], &[8], &[9, 15], &[10]], ..RIGHT },
-    Rule { name: "15 and 10 in one pass", passes: &[&[6], &[7], &[8], &[9], &[15, 10]], ..RIGHT },
+    Rule { name: "15 after 10", passes: &[&[6], &[7], &[8], &[9], &[16], &[10], &[15]], ..RIGHT },
+    Rule { name: "15 before 9", passes: &[&[6], &[7], &[8], &[15], &[9], &[16], &[10]], ..RIGHT },
+    Rule { name: "15 before 8", passes: &[&[6], &[7], &[15], &[8], &[9], &[16], &[10]], ..RIGHT },
+    Rule { name: "15 before 7", passes: &[&[6], &[15], &[7], &[8], &[9], &[16], &[10]], ..RIGHT },
+    Rule { name: "15 before 6", passes: &[&[15], &[6], &[7], &[8], &[9], &[16], &[10]], ..RIGHT },
+    Rule { name: "9 and 15 in one pass", passes: &[&[6], &[7], &[8], &[9, 15], &[16], &[10]], ..RIGHT },
+    Rule { name: "15 and 10 in one pass", passes: &[&[6], &[7], &[8], &[9], &[16], &[15, 10]], ..RIGHT },
     Rule { name: "the last word outside is told", told: |outside| outside[outside.len() - 1], ..RIGHT },
     Rule { name: "position 0", told: |_| 0, ..RIGHT },
 ];
@@ -306,10 +307,6 @@ pub fn windows(job: &[u32]) -> Vec<Window> {
     job.iter().filter(|&&word| kind(word) == 12).map(|&word| window_of(word)).collect()
 }
 
-fn mapped(job: &[u32], map: fn(u32) -> u32) -> Vec<u32> {
-    job.iter().map(|&word| if kind(word) == 12 { map(word) } else { word }).collect()
-}
-
 fn in_order(word: u32) -> u32 {
     let window = window_of(word);
     match window.from > window.to {
@@ -318,32 +315,12 @@ fn in_order(word: u32) -> u32 {
     }
 }
 
-/// The windows behind all actions and laws.
-fn windows_last(job: &[u32]) -> Vec<u32> {
-    let (windows, mut others): (Vec<u32>, Vec<u32>) = job.iter().partition(|&&word| kind(word) == 12);
-    let place = others.iter().rposition(|&word| matches!(kind(word), 3 | 4)).map_or(0, |last| last + 1);
-    others.splice(place..place, windows);
-    others
-}
-
-/// A job that is refused with 3 at the first window of which the test holds, too.
-fn refusing(job: &[u32], test: fn(&Window, usize) -> bool) -> Result<Job, Refusal> {
-    let read = read_job(job)?;
-    match job.iter().position(|&word| kind(word) == 12 && test(&window_of(word), read.last)) {
-        Some(position) => Err(Refusal { number: 3, position }),
-        None => Ok(read),
-    }
+/// A job that is refused with 3 at the first window of which the test holds with n, too.
+fn wrong(job: &[u32], test: fn(&Window, usize) -> bool) -> Result<Job, Refusal> {
+    refusing(job, (12, 3), |before, word| test(&window_of(word), field(before[0], 7, 0)))
 }
 
 /// A job that is refused at the first window of which the test holds with an earlier one, too.
 fn second(job: &[u32], number: usize, test: fn(&Window, &Window) -> bool) -> Result<Job, Refusal> {
-    let read = read_job(job)?;
-    let is_second = |position: usize| {
-        let earlier = windows(&job[..position]);
-        kind(job[position]) == 12 && earlier.iter().any(|one| test(one, &window_of(job[position])))
-    };
-    match (0..job.len()).find(|&position| is_second(position)) {
-        Some(position) => Err(Refusal { number, position }),
-        None => Ok(read),
-    }
+    refusing(job, (12, number), |before, word| windows(before).iter().any(|one| test(one, &window_of(word))))
 }

@@ -2,17 +2,15 @@
 //! plans were.
 
 use crate::checker::answer::Refusal;
-use crate::checker::calls;
 use crate::checker::job::read_job;
 use crate::checker::starts::{start_of, Start};
-use crate::compare::asker::{Also, Asker, Calls, Question};
+use crate::compare::asker::{first_or_later, Also, Asker, Calls, Question};
 use crate::compare::report::Report;
 use crate::compare::window_case::Case;
 use crate::compare::window_features as features;
 use crate::generate::plans::LawfulPlan;
 use crate::generate::trials::{Call, Trial};
 use crate::generate::{plan_damage, window_plans};
-use crate::words::kind;
 
 pub const COLUMNS: [&str; 14] = ["0", "2", "3", "4", "6", "7", "8", "9", "10", "11", "13", "14", "15", "told"];
 
@@ -21,7 +19,7 @@ const MOST_PLACEMENTS: usize = 20_000;
 
 /// Lawful plans as they are drawn, each with one that is not, mostly; and jobs with damaged windows.
 pub fn run(seed: u64, plans: usize, calls: &Calls) -> Report {
-    let mut asker = Asker::new(seed, calls, features::place);
+    let mut asker = Asker::new(seed, calls, first_or_later);
     for number in 0..plans {
         let also = Also { find: number % 4 == 0, trial: number % 4 == 2, slips: number % 8 < 4 };
         let lawful = window_plans::lawful(&mut asker.random, number % 8 == 0);
@@ -51,15 +49,9 @@ pub fn run(seed: u64, plans: usize, calls: &Calls) -> Report {
     asker.report
 }
 
-/// The list of the rules; of starts that are refused with 15, that of the job without windows, so that nothing else is wrong.
+/// The facts to hand in with a list.
 fn facts(question: &Question) -> Vec<u32> {
-    match question.refusal() {
-        Some(Refusal { number: 15, .. }) => {
-            let free: Vec<u32> = question.job.iter().copied().filter(|&word| kind(word) != 12).collect();
-            calls::fill(&free, question.starts, calls::LEAST_BUFFER).1
-        }
-        _ => question.facts().to_vec(),
-    }
+    question.facts_but_for(15, &[12])
 }
 
 /// A plan whose job is well formed.
@@ -91,13 +83,7 @@ fn list(asker: &mut Asker, question: &Question) {
         }
         Err(_) => {}
     }
-    let facts = facts(question);
-    asker.check(question, &facts);
-    if asker.random.chance(25) {
-        let wrong = plan_damage::facts(&mut asker.random, &facts, 63, 64);
-        asker.check(question, &wrong);
-    }
-    asker.fill(question);
+    asker.list(question, &facts(question));
 }
 
 /// The plan's first starts as a trial, those before the one that is refused or any, at the moment of the next: shown,
@@ -127,28 +113,22 @@ fn trial(asker: &mut Asker, job: &[u32], trial: &Trial, action: u32) {
 mod tests {
     use super::*;
     use crate::checker::answer::Answer;
-    use crate::checker::trial::{trial_on, trial_show, trial_start};
-    use crate::compare::find::tests::right_find;
+    use crate::checker::trial::trial_start;
+    use crate::compare::asker::without_kinds;
     use crate::compare::plan::tests::right_fill;
-    use crate::compare::plan::{Check, Fill};
+    use crate::compare::planted::{self, Unkept};
     use crate::compare::trial;
     use crate::compare::window_case::answer_by;
     use crate::compare::window_rules::{slips, Rule, RIGHT};
 
     const SEED: u64 = 91;
 
-    fn right() -> Calls<'static> {
-        Calls { of_trials: trial::right_calls(&right_fill), find: &right_find }
-    }
-
-    fn without_windows(job: &[u32]) -> Vec<u32> {
-        job.iter().copied().filter(|&word| kind(word) != 12).collect()
-    }
+    const UNKEPT: Unkept = Unkept { number: 15, kinds: &[12] };
 
     #[test]
     fn the_checker_agrees_with_itself_and_every_situation_is_met_often() {
         let plans = 4_000;
-        let report = run(SEED, plans, &right());
+        let report = run(SEED, plans, &planted::right());
         report.print(SEED, "plans with windows", &COLUMNS);
         assert_eq!(report.differences, 0);
         assert_eq!(report.tally.too_seldom(&features::needed(plans)), []);
@@ -156,75 +136,30 @@ mod tests {
 
     /// Rows that are worked out apart from the checker's own, by a rule.
     fn check_by(rule: Rule) -> impl Fn(&[u32], &[u32], &[u32]) -> Answer {
-        move |job, starts, facts| match answer_by(job, starts, &rule) {
-            Some(refusal) => Answer::refused(refusal),
-            None => match calls::check(job, starts, facts) {
-                right if matches!(right.number, 0 | 11) => right,
-                _ => Answer::success(0, 0),
-            },
-        }
+        planted::check_refusing(move |job, starts| answer_by(job, starts, &rule))
     }
 
-    fn differences(check: &Check, fill: &Fill) -> usize {
-        let of_trials = trial::Calls { check, ..trial::right_calls(fill) };
-        run(SEED, 800, &Calls { of_trials, find: &right_find }).differences
+    fn differences(calls: &Calls) -> usize {
+        run(SEED, 800, calls).differences
     }
 
     #[test]
     fn rows_by_the_right_rule_are_the_checker_s() {
-        assert_eq!(differences(&check_by(RIGHT), &right_fill), 0);
+        assert_eq!(differences(&planted::checking(&check_by(RIGHT))), 0);
     }
 
     #[test]
     fn checks_with_a_slip_are_seen() {
         for slip in slips().into_iter().step_by(4) {
-            let seen = differences(&check_by(slip), &right_fill);
+            let seen = differences(&planted::checking(&check_by(slip)));
             println!("{seen:>6} differences of 800 plans: {}", slip.name);
             assert!(seen > 0, "{}", slip.name);
         }
     }
 
     #[test]
-    fn a_filler_that_keeps_no_windows_is_seen() {
-        let planted = |job: &[u32], starts: &[u32], buffer: &mut [u32]| match right_fill(job, starts, buffer) {
-            Answer { number: 15, .. } => right_fill(&without_windows(job), starts, buffer),
-            right => right,
-        };
-        assert!(differences(&calls::check, &planted) > 0);
-    }
-
-    #[test]
-    fn a_finder_that_keeps_no_windows_is_seen() {
-        let planted = |job: &[u32], starts: &[u32], facts: &[u32], buffer: &mut [u32]| match right_find(
-            job, starts, facts, buffer,
-        ) {
-            Answer { number: 15, .. } => right_find(&without_windows(job), starts, facts, buffer),
-            right => right,
-        };
-        assert!(run(SEED, 400, &Calls { find: &planted, ..right() }).differences > 0);
-    }
-
-    fn is_seen(of_trials: trial::Calls) {
-        assert!(run(SEED, 800, &Calls { of_trials, find: &right_find }).differences > 0);
-    }
-
-    #[test]
-    fn trials_that_keep_no_windows_are_seen() {
-        let start = |job: &[u32], trial: &mut [u32], action: u32| match trial_start(job, trial, action) {
-            Answer { number: 15, .. } => trial_start(&without_windows(job), trial, action),
-            right => right,
-        };
-        is_seen(trial::Calls { start: &start, ..trial::right_calls(&right_fill) });
-        let on = |job: &[u32], trial: &mut [u32]| match trial_on(job, trial) {
-            Answer { number: 15, .. } => trial_on(&without_windows(job), trial),
-            right => right,
-        };
-        is_seen(trial::Calls { on: &on, ..trial::right_calls(&right_fill) });
-        let show = |job: &[u32], trial: &[u32], buffer: &mut [u32]| match trial_show(job, trial, buffer) {
-            Answer { number: 15, .. } => trial_show(&without_windows(job), trial, buffer),
-            right => right,
-        };
-        is_seen(trial::Calls { show: &show, ..trial::right_calls(&right_fill) });
+    fn calls_that_keep_no_windows_are_seen() {
+        planted::each_unkept(UNKEPT, &|calls, name| assert!(differences(calls) > 0, "{name}"));
     }
 
     /// 10 where the job without windows has it, though 15 comes first; and a position that is kept.
@@ -232,7 +167,7 @@ mod tests {
     fn a_15_after_10_in_a_trial_and_a_position_are_seen() {
         let start = |job: &[u32], trial: &mut [u32], action: u32| match trial_start(job, trial, action) {
             right @ Answer { number: 15, .. } => {
-                let free = trial_start(&without_windows(job), &mut trial.to_vec(), action);
+                let free = trial_start(&without_kinds(job, &[12]), &mut trial.to_vec(), action);
                 if free.number == 10 {
                     free
                 } else {
@@ -241,11 +176,10 @@ mod tests {
             }
             right => right,
         };
-        is_seen(trial::Calls { start: &start, ..trial::right_calls(&right_fill) });
-        let show = |job: &[u32], trial: &[u32], buffer: &mut [u32]| match trial_show(job, trial, buffer) {
-            Answer { number: 15, .. } => calls::check(job, &trial[2..2 + trial[1] as usize], &[]),
-            right => right,
-        };
-        is_seen(trial::Calls { show: &show, ..trial::right_calls(&right_fill) });
+        let of_trials = trial::Calls { start: &start, ..trial::right_calls(&right_fill) };
+        assert!(differences(&Calls { of_trials, ..planted::right() }) > 0);
+        let show = planted::show_with_position(15);
+        let of_trials = trial::Calls { show: &show, ..trial::right_calls(&right_fill) };
+        assert!(differences(&Calls { of_trials, ..planted::right() }) > 0);
     }
 }

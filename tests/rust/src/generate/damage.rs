@@ -37,6 +37,7 @@ fn fields(word: u32) -> &'static [(u32, u32)] {
         7 => &[(5, 0)],
         8 => &[(23, 18), (17, 15), (14, 12), (11, 6), (5, 0)],
         12 => &[(17, 12), (11, 6), (5, 0)],
+        13 | 14 => &[(27, 24), (5, 0)],
         _ => &[(11, 6), (5, 0)],
     }
 }
@@ -149,15 +150,17 @@ pub fn window(random: &mut Random, job: &[u32]) -> Vec<u32> {
     job
 }
 
-/// A fluent a second time among the initial words, or in the laws of one action; roles 0 and 2 may share one.
-pub fn fluent_again(random: &mut Random, job: &[u32]) -> Vec<u32> {
+/// A fluent a second time among the initial words, or in the laws of one action, where roles 0 and 2 may share one; or a
+/// group or a pair a second time.
+pub fn named_again(random: &mut Random, job: &[u32]) -> Vec<u32> {
     let mut job = job.to_vec();
-    let named = |word: u32| matches!(kind(word), 2 | 4);
+    let named = |word: u32| matches!(kind(word), 2 | 4 | 13 | 14);
     let places: Vec<usize> = (0..job.len()).filter(|&index| named(job[index])).collect();
     if let Some(&word) = places.get(random.below(places.len().max(1))) {
         let value = (random.below(4) as u32) << 6;
         let again = match kind(job[word]) {
             2 => job[word] & !words::bits(6, 6) | value & words::bits(6, 6),
+            13 | 14 => job[word],
             _ => job[word] & !words::bits(7, 6) | value,
         };
         job.insert(word + 1, again);

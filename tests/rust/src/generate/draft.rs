@@ -1,5 +1,6 @@
 //! A job in the making: its sections, each a list of words that is put together at the end.
 
+use crate::random::Random;
 use crate::words;
 
 #[derive(Clone, Debug, Default)]
@@ -11,6 +12,9 @@ pub struct Draft {
     pub actions: Vec<Vec<u32>>,
     /// Shift windows (L4), of any actions in any order.
     pub windows: Vec<u32>,
+    /// Groups (L5), then the pairs of a group and an action.
+    pub groups: Vec<u32>,
+    pub pairs: Vec<u32>,
     pub formulas: Vec<u32>,
     /// Each node word with its members and conditions.
     pub nodes: Vec<Vec<u32>>,
@@ -23,8 +27,15 @@ impl Draft {
         job.extend(&self.initially);
         job.extend(self.actions.concat());
         job.extend(&self.windows);
+        job.extend(&self.groups);
+        job.extend(&self.pairs);
         job.extend(&self.formulas);
         job.extend(self.nodes.concat());
         job
+    }
+
+    /// A stream of numbers by the words so far; another for each salt.
+    pub fn stream(&self, salt: u64) -> Random {
+        Random::by_words(&self.words(), salt)
     }
 }

@@ -4,7 +4,7 @@ use crate::checker::calls::read_plan;
 use crate::generate::draft::Draft;
 use crate::generate::{damage, jobs, plan_damage, plans, programs};
 use crate::random::Random;
-use crate::words::{self, kind};
+use crate::words::{self, field, kind};
 
 #[derive(Clone, Debug, PartialEq)]
 pub struct FindCase {
@@ -55,6 +55,19 @@ pub fn crowded(random: &mut Random) -> FindCase {
     }
     draft.nodes.push(set);
     FindCase { job: draft.words(), starts }
+}
+
+/// The starts with one more, at the moment of one of them; drawn from a stream by the job's words.
+pub fn another_start(case: &FindCase) -> Vec<u32> {
+    let mut random = Random::by_words(&case.job, 0);
+    let mut starts = case.starts.clone();
+    let moment = if starts.is_empty() { 0 } else { field(*random.pick(&starts), 11, 6) };
+    let new = words::start(moment, random.below(field(case.job[0], 15, 8)));
+    if !starts.contains(&new) {
+        starts.push(new);
+        starts.sort();
+    }
+    starts
 }
 
 /// Two tests with a wide window between them; the first formula always holds. One in four is an end window, which starts cut short.

@@ -58,7 +58,7 @@ fn each_of_one_job(random: &mut Random, visit: &mut dyn FnMut(&[u32])) {
     let named = match random.below(3) {
         0 => damage::other_child(random, &job),
         1 => damage::window(random, &job),
-        _ => damage::fluent_again(random, &job),
+        _ => damage::named_again(random, &job),
     };
     visit(&named);
     match random.below(2) {

@@ -1,7 +1,7 @@
 //! Well-formed jobs of all kinds and forms.
 
 use crate::generate::draft::Draft;
-use crate::generate::windows;
+use crate::generate::{groups, windows};
 use crate::random::Random;
 use crate::words;
 
@@ -13,6 +13,7 @@ pub fn well_formed(random: &mut Random) -> Draft {
     let actions = size(random, 64);
     draft.actions = (0..actions).map(|number| action_words(random, draft.fluents, number)).collect();
     windows::add_any(&mut draft);
+    groups::add_any(&mut draft);
     let formulas = size(random, 65) - 1;
     for number in 0..formulas {
         let form = formula_form(random, number);

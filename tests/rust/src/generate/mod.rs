@@ -6,6 +6,8 @@ pub mod carried_starts;
 pub mod damage;
 pub mod draft;
 pub mod finds;
+pub mod group_plans;
+pub mod groups;
 pub mod job_cases;
 pub mod jobs;
 pub mod limits;

@@ -1,7 +1,7 @@
 //! Words that no job writer meant.
 
 use crate::generate::draft::Draft;
-use crate::generate::windows;
+use crate::generate::{groups, windows};
 use crate::random::Random;
 use crate::words;
 
@@ -30,6 +30,7 @@ pub fn plausible(random: &mut Random) -> Vec<u32> {
         draft.actions.push(action);
     }
     windows::add_plausible(&mut draft);
+    groups::add_plausible(&mut draft);
     for _ in 0..low(random) {
         draft.formulas.push(words::formula(random.below(6), low(random), low(random) * random.below(2)));
     }

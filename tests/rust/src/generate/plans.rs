@@ -2,9 +2,9 @@
 
 use crate::checker::facts::{initial_state, state_at, State};
 use crate::checker::job::{read_job, Job};
-use crate::checker::starts::{clash, keeps_windows, Start};
+use crate::checker::starts::{clash, exceeds, keeps_windows, Start};
 use crate::generate::draft::Draft;
-use crate::generate::{jobs, windows};
+use crate::generate::{groups, jobs, windows};
 use crate::random::Random;
 use crate::words;
 
@@ -28,14 +28,15 @@ pub fn plan_job(random: &mut Random) -> Draft {
     plan_job_until(random, last)
 }
 
-/// Fluents and actions for a plan, and windows now and then; no formulas and nodes yet.
+/// Fluents and actions for a plan, and windows and groups now and then; no formulas and nodes yet.
 pub fn plan_job_until(random: &mut Random, last: usize) -> Draft {
     let mut draft = free_plan_job_until(random, last);
     windows::add_wide(&mut draft);
+    groups::add_wide(&mut draft);
     draft
 }
 
-/// The same without windows.
+/// The same without windows and groups.
 pub fn free_plan_job_until(random: &mut Random, last: usize) -> Draft {
     let fluents = *random.pick(&[1, 2, 2, 3, 3, 4, 5, 6, 64]);
     let known = random.between(0, fluents);
@@ -95,9 +96,11 @@ pub fn lawful_starts(random: &mut Random, draft: &Draft) -> Vec<u32> {
 
 fn may_start(job: &Job, starts: &[Start], state: &State, t: usize, number: usize) -> bool {
     let action = &job.actions[number];
+    let new = Start { moment: t, action: number, duration: action.duration };
     let mut others = starts.iter().filter(|start| start.in_hand(t));
     t + action.duration <= job.last
-        && keeps_windows(job, &Start { moment: t, action: number, duration: action.duration })
+        && keeps_windows(job, &new)
+        && !exceeds(job, starts, &new)
         && action.needs.iter().all(|need| state[need.fluent] == Some(need.value))
         && others.all(|other| other.action != number && !clash(action, &job.actions[other.action]))
 }

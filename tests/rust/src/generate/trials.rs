@@ -2,7 +2,7 @@
 
 use crate::generate::draft::Draft;
 use crate::generate::plans::LawfulPlan;
-use crate::generate::{jobs, plan_damage, windows};
+use crate::generate::{groups, jobs, plan_damage, windows};
 use crate::random::Random;
 use crate::words::{self, bits, field};
 
@@ -88,6 +88,14 @@ pub fn action(random: &mut Random, actions: usize) -> u32 {
         3 => random.word(),
         _ => there,
     }
+}
+
+/// For one trial of two, one of its actions; drawn from a stream by its words.
+pub fn again(trial: &[u32]) -> Option<u32> {
+    let number = trial.get(1).map_or(0, |&word| word as usize);
+    let starts = trial.get(2..2 + number.min(100))?;
+    let mut random = Random::by_words(starts, u64::from(trial[0]));
+    (!starts.is_empty() && random.chance(50)).then(|| random.pick(starts) & 63)
 }
 
 /// The words of a trial before they are laid out in a slice of some length.
@@ -271,7 +279,7 @@ pub fn all_starting(last: usize) -> LawfulPlan {
     LawfulPlan { draft, starts }
 }
 
-/// Two actions on two fluents, short ones, with few laws or many, and windows now and then.
+/// Two actions on two fluents, short ones, with few laws or many, and windows and groups now and then.
 pub fn tiny_job(random: &mut Random, last: usize) -> Draft {
     let mut draft = Draft { fluents: 2, last, ..Draft::default() };
     let known = random.below(3);
@@ -291,6 +299,7 @@ pub fn tiny_job(random: &mut Random, last: usize) -> Draft {
         draft.actions.push(action);
     }
     windows::add_wide(&mut draft);
+    groups::add_wide(&mut draft);
     draft.nodes = vec![vec![words::node(0, 0, 0, 0, 0)]];
     draft
 }

@@ -21,7 +21,7 @@ pub fn lawful(random: &mut Random, readable: bool) -> LawfulPlan {
 }
 
 /// Of few moments or few actions, so that the checker's passes are short.
-fn job(random: &mut Random) -> Draft {
+pub fn job(random: &mut Random) -> Draft {
     loop {
         let last = *random.pick(&[0, 1, 2, 3, 4, 5, 6, 7, 8, 10, 12, 20, 63]);
         let draft = plans::free_plan_job_until(random, last);
@@ -42,7 +42,7 @@ fn moments(starts: &[u32], action: usize) -> Vec<usize> {
 
 /// Windows for three actions of four: some that hold the starts, and others that need not hold anything. They stand by
 /// action, or mixed.
-fn around(random: &mut Random, draft: &Draft, starts: &[u32]) -> Vec<u32> {
+pub fn around(random: &mut Random, draft: &Draft, starts: &[u32]) -> Vec<u32> {
     let mut windows = vec![];
     for action in 0..draft.actions.len() {
         if random.chance(75) {

@@ -6,15 +6,12 @@ use crate::generate::jobs;
 use crate::random::Random;
 use crate::words::{self, field};
 
-/// A stream by the words of a draft.
-fn stream(draft: &Draft) -> Random {
-    let sum = |sum: u64, &word: &u32| (sum ^ u64::from(word)).wrapping_mul(0x0000_0100_0000_01b3);
-    Random::new(draft.words().iter().fold(0xcbf2_9ce4_8422_2325, sum))
-}
+/// That of the first words drawn in this way.
+const SALT: u64 = 0;
 
 /// In one job of two any windows of its actions, few mostly.
 pub fn add_any(draft: &mut Draft) {
-    let mut random = stream(draft);
+    let mut random = draft.stream(SALT);
     if random.chance(50) {
         let how_many = jobs::size(&mut random, 64);
         draft.windows = (0..how_many).map(|_| any(&mut random, draft.actions.len())).collect();
@@ -29,7 +26,7 @@ fn any(random: &mut Random, actions: usize) -> u32 {
 
 /// Words of the kind with low fields, right by luck only.
 pub fn add_plausible(draft: &mut Draft) {
-    let mut random = stream(draft);
+    let mut random = draft.stream(SALT);
     for _ in 0..random.below(4).min(random.below(4)) {
         draft.windows.push(words::shift_window(random.below(3), random.below(3), random.below(4)));
     }
@@ -37,7 +34,7 @@ pub fn add_plausible(draft: &mut Draft) {
 
 /// In one job of three windows for about half the actions. Most of them leave room for some starts.
 pub fn add_wide(draft: &mut Draft) {
-    let mut random = stream(draft);
+    let mut random = draft.stream(SALT);
     if !random.chance(35) {
         return;
     }

@@ -1,6 +1,6 @@
 //! The job rows, word by word: the paper's sentences and the settled open points 1 to 9.
 
-use crate::vectors::{proved, window_jobs};
+use crate::vectors::{group_jobs, proved, window_jobs};
 use crate::words::*;
 
 pub struct Vector {
@@ -29,6 +29,7 @@ pub fn vectors() -> Vec<Vector> {
         ends(),
         order(),
         window_jobs::vectors(),
+        group_jobs::vectors(),
     ];
     all.extend(groups.into_iter().flatten());
     all
@@ -82,7 +83,7 @@ fn heads() -> Vec<Vector> {
         vector("point 3: a second head", vec![head(1, 1, 0), head(1, 1, 0), action(0, 1), ACT], 2, 1),
         vector("point 3: kind 0 inside", after_action(&[0x00000000]), 2, 2),
         vector("point 3: kind 9 inside", after_action(&[0x90000000]), 2, 2),
-        vector("point 3: kind 13 inside", after_action(&[0xd0000000]), 2, 2),
+        vector("point 3: kind 11 inside", after_action(&[0xb0000000]), 2, 2),
         vector("point 3: kind 15 inside", after_action(&[0xf0000000]), 2, 2),
     ]
 }

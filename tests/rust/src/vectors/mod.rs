@@ -2,7 +2,11 @@
 
 pub mod carried;
 pub mod find;
+pub mod group_jobs;
+pub mod group_trials;
+pub mod groups;
 pub mod job;
+pub mod job_words;
 pub mod plan;
 pub mod proved;
 pub mod trial;

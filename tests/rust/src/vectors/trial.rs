@@ -2,7 +2,7 @@
 
 use crate::generate::trials::{self, Call};
 use crate::vectors::plan::{job, DROP, FOLD, LIFT, PRESS};
-use crate::vectors::window_trials;
+use crate::vectors::{group_trials, window_trials};
 use crate::words::*;
 
 /// What comes back; after a refusal all words are as they were.
@@ -39,6 +39,7 @@ pub fn vectors() -> Vec<Vector> {
         order(),
         limits(),
         window_trials::vectors(),
+        group_trials::vectors(),
     ];
     groups.into_iter().flatten().collect()
 }

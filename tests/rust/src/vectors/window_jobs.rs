@@ -2,6 +2,7 @@
 //! it"; "from ≤ to or refusal 3".
 
 use crate::vectors::job::Vector;
+use crate::vectors::job_words::*;
 use crate::words::*;
 
 pub fn vectors() -> Vec<Vector> {
@@ -12,16 +13,6 @@ pub fn vectors() -> Vec<Vector> {
 fn vector(name: &'static str, job: Vec<u32>, number: usize, position: usize) -> Vector {
     Vector { name, job, number, position }
 }
-
-const HEAD: u32 = 0x10020103;
-const ACTION: u32 = 0x30000001;
-const LAW: u32 = 0x40000080;
-const ALWAYS: u32 = 0x50000000;
-const ACT: u32 = 0x60000000;
-const SET: u32 = 0x68000000;
-const MEMBER: u32 = 0x70000000;
-const CONDITION: u32 = 0x80000000;
-const WINDOW: u32 = 0xc0000001;
 
 /// What a window follows.
 fn places() -> Vec<Vector> {
@@ -54,8 +45,8 @@ fn followers() -> Vec<Vector> {
         vector("a member after a window", then(&[MEMBER, ACT]), 2, 3),
         vector("a condition after a window", then(&[CONDITION, ACT]), 2, 3),
         vector("a start after a window", then(&[start(0, 0), ACT]), 2, 3),
-        vector("kind 13 after a window", then(&[0xd0000001, ACT]), 2, 3),
-        vector("kind 14 after a window", then(&[0xe0000000, ACT]), 2, 3),
+        vector("a group after a window", then(&[group(0, 1), ACT]), 0, 0),
+        vector("a pair after a window", then(&[group_member(0, 0), ACT]), 2, 3),
         vector("a window as last word: no node", then(&[]), 5, 0),
         vector("fewer actions than the head's, before no node", vec![head(2, 2, 3), ACTION, WINDOW], 3, 3),
     ]

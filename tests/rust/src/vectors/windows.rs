@@ -28,7 +28,7 @@ pub fn job(shifts: &[Shift]) -> Vec<u32> {
 }
 
 /// A moment and an action.
-type At = (usize, usize);
+pub type At = (usize, usize);
 
 pub fn starts_of(starts: &[At]) -> Vec<u32> {
     starts.iter().map(|&(moment, action)| start(moment, action)).collect()
