@@ -19,7 +19,9 @@ use Rattle.words.proofs.Insert.{each-insert, pairs-insert, order-insert}
 use Rattle.answers.specs.declared.Refusal.{Refusal}
 use Rattle.answers.specs.Rows.{row, firstRefusal, firstRow, firstOf}
 use Rattle.answers.proofs.Range.{first-all}
+use Rattle.answers.proofs.Rows.{or-passed}
 use Rattle.job.specs.Parts.{actions, lastMoment, duration, limitOf, inGroup}
+use Rattle.job.specs.Refusal.{jobRefusal}
 use Rattle.job.specs.Code.WellFormed.{WellFormed}
 use Rattle.job.proofs.WellFormed.{well-formed}
 use Rattle.history.specs.Actions.{finish}
@@ -30,7 +32,8 @@ use Rattle.starts.proofs.StartsFormed.{right-of, word-is, word-moment, word-act
 use Rattle.starts.proofs.GroupLimits.{rows-keep, keeps-rows, start-keeps, keeps-start}
 use Rattle.starts.proofs.Needs.{unmet-before}
 use Rattle.starts.proofs.Opposed.{clashing-swap}
-use Rattle.moves.specs.Trials.{Trial, busy, startRefusal}
+use Rattle.theory.specs.Answers.{planRefusal}
+use Rattle.moves.specs.Trials.{Trial, busy, trialRefusal, startRefusal, moveRefusal}
 use Rattle.moves.specs.Promises.{MoveAgrees}
 use Rattle.moves.proofs.Passing.{Passing, passing}
 
@@ -283,4 +286,10 @@ module _ (job : List ℕ) (formed : WellFormed job) (T : Trial) (h : Passing job
       beside (omega arith) (row-10 (leb-false _ _ named)) (λ _. no-more))))))))
 
 pub move-agrees : MoveAgrees
-move-agrees job good T small e a l new = agrees job (well-formed job good) T (passing job T small e) a l new
+unfolding moveRefusal planRefusal
+move-agrees job good T small e a l new =
+    let L = insert (startWord (T .moment) a) (T .starts) in
+    let number : Refusal → ℕ = λ r. r .number in
+    sym (ap number (or-passed (trialRefusal job T) (startRefusal job T a) e ∙ or-passed (jobRefusal job) (firstRefusal (trialRefusal job T) (startRefusal job T a)) good))
+    ∙ agrees job (well-formed job good) T (passing job T small e) a l new
+    ∙ ap number (or-passed (jobRefusal job) (startsRefusal job L) good)

@@ -9,9 +9,8 @@ use Rattle.words.specs.Lists.{Each, insert, sorted}
 use Rattle.answers.specs.declared.Answer.the-variants.{Accepted}
 use Rattle.job.specs.Refusal.{jobRefusal}
 use Rattle.facts.specs.Facts.{factsAfter, factsOf}
-use Rattle.starts.specs.Rows.{startsRefusal}
-use Rattle.theory.specs.Answers.{fillAnswer}
-use Rattle.moves.specs.Trials.{Trial, Move, trialRefusal, startRefusal, moveRefusal, after, played, accepted}
+use Rattle.theory.specs.Answers.{planRefusal, fillAnswer}
+use Rattle.moves.specs.Trials.{Trial, Move, Start, trialRefusal, moveRefusal, after, played, accepted}
 use Rattle.moves.specs.Calls.{trialIn, shownFacts, showAnswer, calledWords}
 
 -- each trial so reached passes the tests
@@ -58,13 +57,13 @@ GivenExactly =
     (job : List ℕ) → jobRefusal job .number ≡ 0 → (T : Trial) → Each (λ s. s < 2 ^ 32) (T .starts)
     → trialRefusal job T .number ≡ 0 ↔ GivenBy job T
 
--- a new start has the number that check gives the trial's starts with its word put in; a start of this moment again is 8 in a trial but 6 in
--- a check, where the word stands twice
+-- starting an action, of a number that a start word can have, has the number that check gives the trial's starts with its word put in. A start
+-- of this moment again is left out: it is 8 in a trial but 6 in a check, where the word stands twice.
 abbrev pub MoveAgrees : Type 0
 MoveAgrees =
     (job : List ℕ) → jobRefusal job .number ≡ 0 → (T : Trial) → Each (λ s. s < 2 ^ 32) (T .starts) → trialRefusal job T .number ≡ 0
     → (a : ℕ) → a < 64 → Each (λ s. s ≡ startWord (T .moment) a → ⊥) (T .starts)
-    → startRefusal job T a .number ≡ startsRefusal job (insert (startWord (T .moment) a) (T .starts)) .number
+    → moveRefusal job T (Start a) .number ≡ planRefusal job (insert (startWord (T .moment) a) (T .starts)) .number
 
 -- the calls do the same: after trial_begin and a list of moves, the lent words say the trial that these moves give, and trial_show accepts it
 abbrev pub CalledSay : Type 0

@@ -42,10 +42,10 @@ busy job u a s = eqb (startAction s) a && inHand job u s
 
 -- starting action a now: 6, no such action; 7, it would end after n; 8, it is in hand, also where it was started at this moment; 9, it clashes
 -- with a start of the trial, both in hand at some moment, also with one of this moment that has a higher action number; 15, it is outside its
--- shift windows; 16, with it, counted with all starts of the trial, a group exceeds its limit now; 10, its needs are not known now
-unfoldable pub startRefusal : List ℕ → Trial → ℕ → Refusal
-startRefusal job T a =
-    firstRow (
+-- shift windows; 16, with it a group of its action exceeds its limit now, counted with all in hand, whatever their action numbers; 10, its needs
+-- are not known now
+abbrev pub newStartRows : List ℕ → Trial → ℕ → List Refusal
+newStartRows job T a =
     row (leb (actions job) a) 6 0
     ∷ row (ltb (lastMoment job) (T .moment + duration job a)) 7 0
     ∷ row (any (busy job (T .moment) a) (T .starts)) 8 0
@@ -53,7 +53,10 @@ startRefusal job T a =
     ∷ row (not (mayStart job (T .moment) a)) 15 0
     ∷ row (overLimit job (startWord (T .moment) a ∷ T .starts) (startWord (T .moment) a)) 16 0
     ∷ row (unmetAt job (T .starts) (T .moment) a) 10 0
-    ∷ [])
+    ∷ []
+
+unfoldable pub startRefusal : List ℕ → Trial → ℕ → Refusal
+startRefusal job T a = firstRow (newStartRows job T a)
 
 -- going on: 14 at moment n
 unfoldable pub onRefusal : List ℕ → Trial → Refusal

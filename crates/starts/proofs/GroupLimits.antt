@@ -1,12 +1,11 @@
 -- A group, which is any test on actions with any limit: it is within its limit at each moment exactly when no word exceeds it with the words
 -- before it; and so with one start more. Assumes nothing.
 use mathlib.Core.Bool.{Bool, true, false, _&&_}
-use mathlib.Core.List.{List, _∷_}
-use mathlib.Core.Path.{_≡_, refl, ap, sym, _∙_}
+use mathlib.Core.List.{List, [], _∷_}
+use mathlib.Core.Path.{_≡_, refl, ap, _∙_}
 use Prim.Native.Nat.{ℕ, zero, suc, _+_, _≤_, _<_}
 use native.Mathlib.Omega.{arith}
-use borrow.Author.Tests.{ltb-true, ltb-false, le-ltb}
-use lib.Dec.{ltb}
+use borrow.Author.Tests.{ltb-true, ltb-false}
 use lib.ListN.{length, getD, take}
 use lib.Seq.{getD-take, length-take-le, take-length}
 use Rattle.words.specs.Tests.{indicator}
@@ -14,13 +13,13 @@ use Rattle.words.specs.Fields.{startMoment, startAction}
 use Rattle.words.specs.Lists.{Each, insert}
 use Rattle.words.specs.Scan.{filter}
 use Rattle.words.proofs.Choices.{is-false, both-true}
-use Rattle.words.proofs.Lists.{each-of, each-map, pairs-at}
-use Rattle.words.proofs.Filter.{filter-filter, count-cons, count-take, count-next, count-insert, count-le}
-use Rattle.history.specs.Actions.{finish, inHand}
+use Rattle.words.proofs.Lists.{each-of, each-at, each-map, pairs-at}
+use Rattle.words.proofs.Filter.{each-filter, filter-none, filter-filter, count-cons, count-take, count-next, count-insert, count-le}
+use Rattle.history.specs.Actions.{inHand}
 use Rattle.history.specs.Held.{heldAt, Ascending}
 use Rattle.history.proofs.Held.{in-hand-true, true-in-hand}
 use Rattle.starts.specs.Rows.{inUse, exceeds}
-use Rattle.starts.specs.Lawful.{Within}
+use Rattle.starts.specs.Lawful.{Within, WithinExactly, ZeroForbids}
 
 module _ (job : List ℕ) (group : ℕ → Bool) where
   -- start s uses it at moment t
@@ -29,6 +28,10 @@ module _ (job : List ℕ) (group : ℕ → Bool) where
 
   in-use : (S : List ℕ) (t : ℕ) → inUse job group S t ≡ length (filter (uses t) S)
   in-use S t = ap length (filter-filter (λ s. group (startAction s)) (inHand job t) S)
+
+  -- the first n starts use no more of it than all
+  first-fewer : (S : List ℕ) (n t : ℕ) → inUse job group (take n S) t ≤ inUse job group S t
+  first-fewer S n t = omega (arith, in-use (take n S) t, in-use S t, count-take (uses t) n S)
 
   -- the starts C are the starts S and one more, w
   pub record OneMore (w : ℕ) (S C : List ℕ) : Type 0 where
@@ -43,14 +46,14 @@ module _ (job : List ℕ) (group : ℕ → Bool) where
   pub one-taken : (S : List ℕ) (n : ℕ) → n < length S → OneMore (getD S n 0) (take n S) (take (suc n) S)
   one-taken S n l = record { adds = λ t. in-use (take (suc n) S) t ∙ rw (in-use (take n S) t) (count-next (uses t) n S l) }
 
-  -- a start in hand at t was so at its own moment, and at that of a later start
+  -- a start in hand at t is so at each moment from its own to t
   used-before : (t u s : ℕ) → u ≤ t → startMoment s ≤ u → uses t s ≡ true → uses u s ≡ true
   used-before t u s l m e =
       let p = both-true (inHand job t s) (group (startAction s)) e in
       rw (true-in-hand job u s m (omega (arith, in-hand-true job t s (p .0) .1)), p .1)
 
   module _ (limit : ℕ) where
-    -- what is within the limit exceeds it with no start, and so do fewer
+    -- starts within the limit exceed it with none of them, and fewer starts are within it too
     pub within-clear : (C : List ℕ) → Within job group limit C → (w : ℕ) → exceeds job group limit C w ≡ false
     within-clear C h w = is-false _ (λ e.
         let p = both-true (group (startAction w)) _ e in
@@ -59,7 +62,7 @@ module _ (job : List ℕ) (group : ℕ → Bool) where
     pub within-fewer : {w : ℕ} {S C : List ℕ} → OneMore w S C → Within job group limit C → Within job group limit S
     within-fewer more h t = omega (arith, more .adds t, h t)
 
-    -- one start more, which none of the others is later than: where it does not exceed the limit, it stays within it
+    -- one start more, which none of the others is later than: where it does not exceed the limit, they stay within it
     pub within-more : (w : ℕ) {S C : List ℕ} → OneMore w S C → Each (λ s. startMoment s ≤ startMoment w) S
         → Within job group limit S → exceeds job group limit C w ≡ false → Within job group limit C
     within-more w {S} {C} more past h clear t = cases (uses t w) refl
@@ -108,7 +111,7 @@ module _ (job : List ℕ) (group : ℕ → Bool) where
       keeps-rows h i l = within-clear (take (suc i) S) first (getD S i 0)
         where
           first : Within job group limit (take (suc i) S)
-          first t = omega (arith, in-use (take (suc i) S) t, in-use S t, count-take (uses t) (suc i) S, h t)
+          first t = omega (arith, first-fewer S (suc i) t, h t)
 
     -- a start put in, counted with all
     pub start-keeps : (w : ℕ) (S : List ℕ) → Each (λ s. startMoment s ≤ startMoment w) S
@@ -120,3 +123,20 @@ module _ (job : List ℕ) (group : ℕ → Bool) where
 
     pub keeps-start : (w : ℕ) (S : List ℕ) → Within job group limit (insert w S) → exceeds job group limit (w ∷ S) w ≡ false
     keeps-start w S h = within-clear (w ∷ S) (λ t. omega (arith, one-inserted w S .adds t, one-in-front w S .adds t, h t)) w
+
+pub within-exactly : WithinExactly
+within-exactly job group limit starts ascends = (rows-keep job group limit starts ascends, keeps-rows job group limit starts)
+
+pub zero-forbids : ZeroForbids
+unfolding filter
+zero-forbids job group starts lasting = (λ h. each-of starts (λ i l. is-false _ (λ e. used h i l e)), λ none t. rw (unused none t) (omega arith))
+  where
+    used : Within job group 0 starts → (i : ℕ) → i < length starts → group (startAction (getD starts i 0)) ≡ true → ⊥
+    used h i l e =
+        let s : ℕ = getD starts i 0 in
+        let u : ℕ = startMoment (getD starts i 0) in
+        let here : uses job group u s ≡ true = rw (true-in-hand job u s (omega arith) (omega (arith, each-at lasting i l)), e) in
+        omega (arith, one-taken job group starts i l .adds u, ap indicator here, first-fewer job group starts (suc i) u, h u)
+
+    unused : Each (λ s. group (startAction s) ≡ false) starts → (t : ℕ) → filter (λ s. group (startAction s)) (heldAt job starts t) ≡ []
+    unused none t = filter-none (λ s. group (startAction s)) (each-filter (inHand job t) none)

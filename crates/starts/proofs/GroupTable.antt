@@ -1,9 +1,9 @@
 -- The groups of a job, one word of it after the other, and what their tables tell of a start. Assumes nothing.
 use mathlib.Core.Bool.{Bool, true, false, not, cond, _&&_, _||_, or-comm}
-use mathlib.Core.List.{List, _∷_}
+use mathlib.Core.List.{List}
 use mathlib.Core.Logic.{by-cases}
 use mathlib.Core.Path.{_≡_, refl, ap, sym, _∙_}
-use Prim.Native.Nat.{ℕ, suc, _+_, _≤_, _<_}
+use Prim.Native.Nat.{ℕ, _+_, _<_}
 use native.Mathlib.Decide.{ℕ-discrete, decLt}
 use native.Mathlib.Omega.{arith}
 use borrow.Author.Tests.{not-false, eqb-true, eq-eqb, ne-eqb, le-leb, lt-leb, le-ltb, lt-ltb}
@@ -14,7 +14,7 @@ use Rattle.bitset.specs.Code.Members.{has, IsSetOf}
 use Rattle.bitset.proofs.Digits.{has-zero}
 use Rattle.bitset.proofs.In.{empty-entry}
 use Rattle.words.specs.Fields.{kind, startMoment, startAction, groupNumber, groupLimit, groupAction}
-use Rattle.words.specs.Scan.{any, anyBelow, findOr, filter}
+use Rattle.words.specs.Scan.{any, anyBelow, findOr}
 use Rattle.words.proofs.AnyBelow.{some-none, none-below, some-cong}
 use Rattle.words.proofs.Filter.{filter-agree}
 use Rattle.words.proofs.Lists.{each-of}

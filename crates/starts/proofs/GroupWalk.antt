@@ -2,7 +2,7 @@
 use mathlib.Core.Bool.{Bool, true, false}
 use mathlib.Core.List.{List}
 use mathlib.Core.Path.{_≡_, refl, sym, _∙_}
-use Prim.Native.Nat.{ℕ, zero, suc, _+_, _≤_, _<_}
+use Prim.Native.Nat.{ℕ, _+_, _≤_, _<_}
 use native.Mathlib.Numerals.{add-one}
 use native.Mathlib.Omega.{arith}
 use borrow.Author.Tests.{lt-ltb}
@@ -19,7 +19,7 @@ use Rattle.history.specs.Held.{heldAt, unfinished}
 use Rattle.history.specs.Code.Held.{unfinishedBy, Filtered}
 use Rattle.history.proofs.Held.{in-hand-true, true-in-hand, held-later}
 use Rattle.history.proofs.Moments.{finish-tabled}
-use Rattle.starts.specs.Rows.{overLimit, groupExceeded}
+use Rattle.starts.specs.Rows.{groupExceeded}
 use Rattle.starts.specs.Code.GroupTable.{someFull}
 use Rattle.starts.specs.Code.Given.{Grouped}
 use Rattle.starts.specs.declared.groups.Groups.{Groups}
@@ -28,8 +28,8 @@ use Rattle.starts.proofs.StartsFormed.{right-word}
 use Rattle.starts.proofs.GroupLimits.{one-taken}
 use Rattle.starts.proofs.GroupTable.{some-read}
 
--- at word i: the row fits none before it, and of these the ones in hand at moment t, which none of them is later than and no other earlier, are
--- the first `count` words of a list
+-- at word i: the row fits no word before it. Those in hand at moment t are the first `count` words of a list; no word before i is later than t,
+-- and none from i on earlier.
 pub record Carrying (job starts : List ℕ) (held : List ℕ) (count t i : ℕ) : Type 0 where
   pub tried : Tried 16 (groupExceeded job starts) (length starts) i
   pub few : count ≤ i

@@ -4,12 +4,14 @@ use mathlib.Core.Bool.{Bool, true, false}
 use mathlib.Core.List.{List}
 use mathlib.Core.Logic.{_↔_}
 use mathlib.Core.Path.{_≡_}
-use Prim.Native.Nat.{ℕ, _^_, _≤_, _<_}
+use Prim.Native.Nat.{ℕ, suc, _^_, _≤_, _<_}
+use lib.ListN.{length, getD, take}
 use Rattle.words.specs.Fields.{startMoment, startAction}
 use Rattle.job.specs.Parts.{lastMoment, limitOf, inGroup}
 use Rattle.history.specs.Actions.{finish}
+use Rattle.history.specs.Held.{Lasting, Ascending}
 use Rattle.words.specs.Lists.{Each, Pairs}
-use Rattle.starts.specs.Rows.{isStart, restarts, clashing, mayStart, inUse, unmetAt, startsRefusal}
+use Rattle.starts.specs.Rows.{isStart, restarts, clashing, mayStart, inUse, exceeds, unmetAt, startsRefusal}
 
 -- at each moment at most the limit of a group is in use
 abbrev pub Within : List ℕ → (ℕ → Bool) → ℕ → List ℕ → Type 0
@@ -25,6 +27,19 @@ pub record Lawful (job starts : List ℕ) : Type 0 where
   pub within : (g : ℕ) → g < 8 → Within job (inGroup job g) (limitOf job g) starts
   pub met : Each (λ s. unmetAt job starts (startMoment s) (startAction s) ≡ false) starts
 
--- no row fits 32-bit words exactly where they are lawful starts
+-- of 32-bit words (larger numbers could ascend while their moments do not), no row fits exactly where they are lawful starts
 abbrev pub LawfulExactly : Type 0
 LawfulExactly = (job starts : List ℕ) → Each (λ s. s < 2 ^ 32) starts → startsRefusal job starts .number ≡ 0 ↔ Lawful job starts
+
+-- of any group: where the moments ascend, no start exceeds the limit with those before it exactly where at each moment at most the limit is in
+-- use. `within-exactly` and `zero-forbids` (proofs/GroupLimits.antt) show it.
+abbrev pub WithinExactly : Type 0
+WithinExactly =
+    (job : List ℕ) (group : ℕ → Bool) (limit : ℕ) (starts : List ℕ) → Ascending starts
+    → ((i : ℕ) → i < length starts → exceeds job group limit (take (suc i) starts) (getD starts i 0) ≡ false) ↔ Within job group limit starts
+
+-- a limit of 0 forbids the group
+abbrev pub ZeroForbids : Type 0
+ZeroForbids =
+    (job : List ℕ) (group : ℕ → Bool) (starts : List ℕ) → Lasting job starts
+    → Within job group 0 starts ↔ Each (λ s. group (startAction s) ≡ false) starts

@@ -72,11 +72,11 @@ outsideWindows job starts i = not (mayStart job (startMoment (getD starts i 0)) 
 abbrev pub inUse : List ℕ → (ℕ → Bool) → List ℕ → ℕ → ℕ
 inUse job group starts t = length (filter (λ s. group (startAction s)) (heldAt job starts t))
 
--- the action of start s is in the group, of which, counting these starts, more than the limit is in use at the moment of s
+-- the action of start s is in the group, and counting these starts more than the limit of it is in use at the moment of s
 abbrev pub exceeds : List ℕ → (ℕ → Bool) → ℕ → List ℕ → ℕ → Bool
 exceeds job group limit counted s = group (startAction s) && ltb limit (inUse job group counted (startMoment s))
 
--- some group of the job
+-- so with some group of the job, of 0 to 7
 unfoldable pub overLimit : List ℕ → List ℕ → ℕ → Bool
 overLimit job counted s = anyBelow (λ g. exceeds job (inGroup job g) (limitOf job g) counted s) 8
 

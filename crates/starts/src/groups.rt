@@ -121,6 +121,7 @@ fn all_empty(members: &[u64; 8]) -> bool
 }
 
 // Keeps of the first `count` starts, which all finish after moment `t`, those that finish after moment `u`, which is not before `t`.
+// At the same moment that is all of them, without a pass.
 fn keep_from(durations: &[usize; 64], t: usize, u: usize, held: &mut [u32], count: usize) -> usize
     requires { ⌜ (t ≤ u) × ((a : ℕ) → getD (now durations) a 0 < 64) × (count ≤ length (now held)) × Each (λ s. unfinishedBy (now durations) t s ≡ true) (take count (now held)) ⌝ }
     ensures { λ r. ⌜ Filtered (unfinishedBy (now (durations .entry)) u) count (now (held .entry)) r (now (held .exit)) ⌝ }

@@ -1,4 +1,4 @@
--- What a job that rows 1 to 5 pass has: its index is that of all its words. Assumes nothing.
+-- What a job has that rows 1 to 5 pass, with its index of all its words, and a plan that the rows on starts pass. Assumes nothing.
 use mathlib.Core.List.{List}
 use mathlib.Core.Path.{_≡_, _∙_}
 use Prim.Native.Nat.{ℕ, _≤_}

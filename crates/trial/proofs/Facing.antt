@@ -1,5 +1,5 @@
--- When a start that is not later is one of the same action in hand, and when it clashes with a new one; that starts in hand alone do. Assumes
--- nothing.
+-- When a start that is not later is one of the same action in hand, when it clashes with a new one, and which are counted with it in a group;
+-- that starts in hand alone do. Assumes nothing.
 use mathlib.Core.Bool.{Bool, true, false, _&&_}
 use mathlib.Core.List.{List, _∷_}
 use mathlib.Core.Path.{_≡_, refl, ap, sym, _∙_}

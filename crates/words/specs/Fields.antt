@@ -169,8 +169,8 @@ shiftWindowFrom w = field w 11 6
 abbrev pub shiftWindowTo : ℕ → ℕ
 shiftWindowTo w = field w 5 0
 
--- kind 13, group (a resource of limited capacity): its number and its limit; kind 14, an action in a group: the group's number and the action; and the bits
--- that both leave spare
+-- kind 13, group (a resource of limited capacity): its number and its limit; kind 14, an action in a group: the group's number and the
+-- action; and the bits that both leave spare
 abbrev pub groupSpare : ℕ → Bool
 groupSpare w = spare w 23 6
 

@@ -28,7 +28,7 @@ pub record Tabled (job durations effects : List ℕ) : Type 0 where
   pub lasts : Durations job durations
   pub makes : Effects job effects
 
--- rows 7 to 9: the starts of such a job, once row 6 fits none
+-- rows 7 to 9 and 16: the starts of such a job, once row 6 fits none
 pub record Timed (job durations starts : List ℕ) : Type 0 where
   pub formed : WellFormed job
   pub lasts : Durations job durations
@@ -46,7 +46,7 @@ pub record Compared (job table : List ℕ) (b : ℕ) : Type 0 where
   pub entries : Clashes job table
   pub action : b < actions job
 
--- row 16: of such starts, at most 4,096
+-- row 16: such starts, at most 4,096 with moments that ascend, and the tables of the groups
 pub record Grouped (job durations starts : List ℕ) (groups : Groups) : Type 0 where
   pub timed : Timed job durations starts
   pub table : GroupTable job groups

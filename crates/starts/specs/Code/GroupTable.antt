@@ -25,7 +25,7 @@ pub record MemberStored (w : ℕ) (old new : List ℕ) : Type 0 where
   pub size : length new ≡ length old
   pub entry : (g a : ℕ) → has (getD new g 0) a ≡ (listsIn g a w || has (getD old g 0) a)
 
--- how many of the starts `held` have an action in a set; they leave no room for a start of action a, if it is in the set, below the limit
+-- how many of the starts `held` have an action in a set; action a is in the set, and they are as many as the limit already
 abbrev pub heldOf : ℕ → List ℕ → ℕ
 heldOf members held = length (filter (λ s. has members (startAction s)) held)
 

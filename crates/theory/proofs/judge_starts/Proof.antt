@@ -44,7 +44,7 @@ tabled c = lasting (making (windowed (grouped c)))
 abbrev timed : tie.After-check-times → tie.Start
 timed c = placed (tabled c .before)
 
--- past rows 6 to 9, from the history, and from row 10
+-- past rows 6 to 9, from the history; row 15 from row 16, the history from row 15
 abbrev told : tie.After-history → tie.Else1
 told c = c .before .before .before
 

@@ -1,20 +1,18 @@
 -- Between functions: what the rows of a new start ask and give; a trial that was judged, that has a start more,
 -- that can be stored.
-use mathlib.Core.Bool.{Bool, not}
+use mathlib.Core.Bool.{Bool}
 use mathlib.Core.List.{List, [], _∷_}
 use mathlib.Core.Path.{_≡_}
 use Prim.Native.Nat.{ℕ, _≤_, _<_}
-use lib.ListN.{length, take}
-use Rattle.words.specs.Fields.{startMoment, startAction, startWord}
-use Rattle.words.specs.Scan.{any}
+use lib.ListN.{length, take, drop}
+use Rattle.words.specs.Fields.{startMoment, startAction}
 use Rattle.words.specs.Lists.{Each, insert}
 use Rattle.job.specs.Parts.{actions, lastMoment}
 use Rattle.answers.specs.declared.Refusal.{Refusal}
-use Rattle.answers.specs.Rows.{row, firstRow}
-use Rattle.starts.specs.Rows.{clashing, mayStart, overLimit}
+use Rattle.answers.specs.Rows.{firstRow}
 use Rattle.starts.specs.Code.Given.{Tabled}
 use Rattle.job.specs.Refusal.{jobRefusal}
-use Rattle.moves.specs.Trials.{outside, busy, startRefusal, trialRefusal}
+use Rattle.moves.specs.Trials.{outside, newStartRows, startRefusal, trialRefusal}
 use Rattle.trial.specs.declared.Trial.{Trial}
 use Rattle.trial.specs.declared.Moved.{Moved}
 use Rattle.trial.specs.Stepped.{trialOf}
@@ -46,12 +44,7 @@ pub record Present (job starts : List ℕ) (u : ℕ) (plan : Plan) : Type 0 wher
 -- rows 8, 9, 15 and 16 of action a started at moment u, which look at no start but those in hand
 abbrev pub heldRefusal : List ℕ → List ℕ → ℕ → ℕ → Refusal
 heldRefusal job starts u a =
-    firstRow (
-    row (any (busy job u a) starts) 8 0
-    ∷ row (any (λ s. clashing job s (startWord u a)) starts) 9 0
-    ∷ row (not (mayStart job u a)) 15 0
-    ∷ row (overLimit job (startWord u a ∷ starts) (startWord u a)) 16 0
-    ∷ [])
+    firstRow (take 4 (drop 2 (newStartRows job (record { moment = u; starts = starts }) a)))
 
 -- its refusal by rows 6 to 10, 15 and 16, and room for it where there is none
 pub record StartTested (job starts : List ℕ) (u a : ℕ) (r : Refusal) : Type 0 where
