@@ -150,8 +150,8 @@ enum planreader_refusal {
      * whose moment (bits 11..6 of whatever word) is after the trial's; or trial_on at the last moment. */
     PLANREADER_TRIAL_BOUNDS = 14,
     PLANREADER_START_OUTSIDE_WINDOWS = 15, /* comes after 9 and before 16 */
-    /* With this start, counted with those before it in the list alone, more starts of a group of its action are in hand at its moment than the
-     * group's limit. Comes after 15 and before 10. */
+    /* With this start and those before it in the list, more starts of a group of its action are in hand at its moment than the group's limit.
+     * Comes after 15 and before 10. */
     PLANREADER_GROUP_OVER_LIMIT = 16
 };
 

@@ -343,9 +343,9 @@ static void refused_starts(void)
     shows_as_fill("two restarts, shown");
 }
 
-/* Pairs of numbers that fit one start: the lower one of 6, 7, 8, 9, 10 is given; for 15 and 16 see shifts and groups. n = 3; fluent 0 is open. Actions: 0 lasts 3 and makes
- * fluent 1 true; 1 lasts 1, needs fluent 0 true and makes fluent 1 false; 2 lasts 4, longer than the plan, needs fluent 0 true and makes
- * fluent 1 false; 3 lasts 2 and makes fluent 1 true. */
+/* Pairs of numbers that fit one start: the lower one of 6, 7, 8, 9, 10 is given; for 15 and 16 see shifts and groups. n = 3; fluent 0 is open.
+ * Actions: 0 lasts 3 and makes fluent 1 true; 1 lasts 1, needs fluent 0 true and makes fluent 1 false; 2 lasts 4, longer than the plan, needs
+ * fluent 0 true and makes fluent 1 false; 3 lasts 2 and makes fluent 1 true. */
 static void order(void)
 {
     const uint32_t words[] = {0x10020403u, 0x20000041u, 0x30000003u, 0x40000081u, 0x30000041u, 0x40000000u, 0x400000c1u,

@@ -1,4 +1,4 @@
-/* The faults of wrong.c in groups. The rule of a fault is for all calls, so that none shows by what another call says: rows 6 to 15, 10 and the
+/* The faults of wrong.c in groups. The rule of a fault is for all calls, so that none shows by what another call says: rows 6 to 9, 15, 10 and the
  * rest are those of the job without groups, and row 16 is worked out here. */
 #include "wrong.h"
 #include "word.h"

@@ -14,8 +14,8 @@ use Rattle.job.specs.Parts.{isGroup, listsIn}
 use Rattle.answers.specs.declared.Refusal.{Refusal}
 use Rattle.answers.specs.Rows.{row, firstRefusal, firstOf}
 
--- the refusal of word w after the words p of a job with that head, by each kind that it may be of; 0 for none. All
--- groups stand before all pairs of a group and an action, so that the pairs before a word stand after the last group.
+-- the refusal of word w after the words p of a job with that head, by each kind that it may be of; 0 for none. All groups stand before
+-- all pairs of a group and an action, so that the pairs before a word stand after the last group.
 abbrev pub rules : ℕ → List ℕ → ℕ → List (ℕ × ℕ)
 rules head p w =
     (1, headRefusal w)

@@ -32,13 +32,13 @@ abbrev pub LawfulExactly : Type 0
 LawfulExactly = (job starts : List ℕ) → Each (λ s. s < 2 ^ 32) starts → startsRefusal job starts .number ≡ 0 ↔ Lawful job starts
 
 -- of any group: where the moments ascend, no start exceeds the limit with those before it exactly where at each moment at most the limit is in
--- use. `within-exactly` and `zero-forbids` (proofs/GroupLimits.antt) show it.
+-- use. `within-exactly` (proofs/GroupLimits.antt) shows it.
 abbrev pub WithinExactly : Type 0
 WithinExactly =
     (job : List ℕ) (group : ℕ → Bool) (limit : ℕ) (starts : List ℕ) → Ascending starts
     → ((i : ℕ) → i < length starts → exceeds job group limit (take (suc i) starts) (getD starts i 0) ≡ false) ↔ Within job group limit starts
 
--- a limit of 0 forbids the group
+-- where each start lasts, a limit of 0 forbids the group; `zero-forbids` there shows it
 abbrev pub ZeroForbids : Type 0
 ZeroForbids =
     (job : List ℕ) (group : ℕ → Bool) (starts : List ℕ) → Lasting job starts

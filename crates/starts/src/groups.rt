@@ -48,7 +48,7 @@ fn store_member(w: u32, members: &mut [u64; 8])
     }
 }
 
-// The groups of a job, in one pass over it: from the last word to the first, so that the first on a limit prevails.
+// The groups of a job, in one pass over it: from the last word to the first, so that of two words on one limit the first counts.
 pub fn groups_of(job: &[u32]) -> Groups
     requires { ⌜ WellFormed (now job) ⌝ }
     ensures { λ r. ⌜ GroupTable (now (job .entry)) r ⌝ }
