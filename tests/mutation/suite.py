@@ -83,6 +83,7 @@ class Suite:
             self.tests += [Test(name, [tests[name], *skipped(slow)], crate), Test(name, [tests[name], *slow], crate)]
         self.tests += [Test("carried", [tests["carried"]], "theory")]
         self.tests += [Test("windows", [tests["windows"]], "theory")]
+        self.tests += [Test("groups", [tests["groups"]], "trial")]
         self.tests += [Test("waits", [tests["waits"]], "finder")]
         self.tests += [Test("planread", [tests["planread"]], "reader"), Test("bench", [bench["planreader-bench"]], "planreader")]
 

@@ -6,12 +6,15 @@ use planreader_tests::checker::program::{file_of, planread, reading_text};
 use planreader_tests::checker::readings::build::readings;
 use planreader_tests::checker::readings::literal::Triple;
 use planreader_tests::host;
-use planreader_tests::words::{action, condition, fact, formula, head, initially, kind, law, member, node, start};
+use planreader_tests::words::{
+    action, condition, fact, formula, group, group_member, head, initially, kind, law, member, node, shift_window,
+    start,
+};
 use std::fs;
 use std::path::{Path, PathBuf};
 
 /// Each with the folder that lists its job.
-const FOLDERS: [(&str, &str); 7] = [
+const FOLDERS: [(&str, &str); 9] = [
     ("door", "door"),
     ("too-soon", "door"),
     ("no-pause", "door"),
@@ -19,6 +22,8 @@ const FOLDERS: [(&str, &str); 7] = [
     ("in-pause", "curtain"),
     ("shift", "shift"),
     ("after-shift", "shift"),
+    ("grippers", "grippers"),
+    ("third-door", "grippers"),
 ];
 
 fn root() -> PathBuf {
@@ -125,8 +130,8 @@ fn shift() -> Vec<u32> {
         (4, &[(0, 2), (2, 3)]),
         (1, &[(0, 3), (3, 0)]),
     ]);
-    let window = |action: u32, from: u32, to: u32| 12 << 28 | action << 12 | from << 6 | to;
-    let windows = [window(1, 0, 6), window(1, 9, 15), window(3, 0, 6), window(3, 9, 15)];
+    let windows =
+        [(1, 0, 6), (1, 9, 15), (3, 0, 6), (3, 9, 15)].map(|(action, from, to)| shift_window(action, from, to));
     let bending = [act(0), act(1), node(7, 0, 1, 0, 3), act(2), act(3), node(7, 3, 4, 0, 3)];
     [&[head(4, 5, 14)], &facts[..], &actions, &windows, &bending, &[act(4), sequence(5, 6), sequence(2, 7)]].concat()
 }
@@ -136,13 +141,37 @@ fn shift_starts(bend: usize) -> Vec<u32> {
     vec![start(0, 0), start(bend, 1), start(bend + 5, 2), start(9, 3), start(13, 4)]
 }
 
+/// The job with two grippers, likewise: the group is of the three actions that fold a door.
+fn grippers() -> Vec<u32> {
+    let facts = [0, 1, 2, 3, 4].map(|fluent| initially(fluent, false));
+    let actions = actions(&[
+        (4, &[(1, 0), (2, 0)]),
+        (3, &[(1, 1), (2, 1)]),
+        (3, &[(1, 2), (2, 2)]),
+        (2, &[(2, 3)]),
+        (1, &[(0, 0), (0, 1), (0, 2), (0, 3), (2, 4)]),
+    ]);
+    let groups = [group(0, 2), group_member(0, 0), group_member(0, 1), group_member(0, 2)];
+    let set = [node(8, 0, 0, 0, 0), member(0), member(1), member(2), member(3)];
+    let nodes = [&[act(0), act(1), act(2), act(3)], &set[..], &[act(4), node(7, 4, 5, 0, 1)]].concat();
+    [&[head(5, 5, 7)], &facts[..], &actions, &groups, &nodes].concat()
+}
+
+/// Its starts, with door C, action 2, at a moment.
+fn grippers_starts(door: usize) -> Vec<u32> {
+    let mut starts = vec![start(0, 0), start(0, 1), start(2, 3), start(door, 2), start(6, 4)];
+    starts.sort();
+    starts
+}
+
 /// The job that an example is about.
 fn job(folder: &str) -> Vec<u32> {
     let (_, listing) = FOLDERS.into_iter().find(|&(name, _)| name == folder).expect("an example");
     match listing {
         "door" => door(),
         "curtain" => curtain(),
-        _ => shift(),
+        "shift" => shift(),
+        _ => grippers(),
     }
 }
 
@@ -178,8 +207,15 @@ fn the_shift_s_words_say_what_is_meant() {
 }
 
 #[test]
+fn the_grippers_words_say_what_is_meant() {
+    assert_eq!(listed("grippers", "job.txt"), grippers());
+    assert_eq!(plan("grippers").0, grippers_starts(3));
+    assert_eq!(plan("third-door").0, grippers_starts(2));
+}
+
+#[test]
 fn the_facts_are_those_of_the_rules() {
-    for folder in ["door", "no-pause", "curtain", "in-pause", "shift"] {
+    for folder in ["door", "no-pause", "curtain", "in-pause", "shift", "grippers"] {
         let (starts, facts) = plan(folder);
         assert_eq!(calls::fill(&job(folder), &starts, 4_096).1, facts, "{folder}");
     }
@@ -198,7 +234,7 @@ fn the_program_and_the_checker_print_what_is_expected() {
 /// So that every run prints the same words.
 #[test]
 fn the_only_reading_is_the_listed_one() {
-    for folder in ["door", "curtain", "shift"] {
+    for folder in ["door", "curtain", "shift", "grippers"] {
         let (starts, facts) = plan(folder);
         let Outcome::Read { world, decision } = calls::find(&job(folder), &starts, &facts, 4_096) else {
             panic!("{folder} has a reading");
@@ -230,5 +266,14 @@ fn a_flange_may_begin_where_its_readme_says() {
             let outside = host::check(&shift(), &[start(moment, action)], &[]).number == 15;
             assert_eq!(!outside, moments.contains(&moment), "action {action} at {moment}");
         }
+    }
+}
+
+/// By the table in the README of the example: doors A and B have the grippers until 4 and 3.
+#[test]
+fn the_third_door_begins_when_a_gripper_is_free() {
+    for moment in 0..=4 {
+        let refused = host::check(&grippers(), &grippers_starts(moment), &[]);
+        assert_eq!((refused.number == 16) && (refused.position == 2), moment < 3, "door C at {moment}");
     }
 }

@@ -185,9 +185,7 @@ mod tests {
     use crate::compare::group_case::Case;
     use crate::compare::group_rules::slips;
     use crate::compare::group_trial_rules::{start_by, TRIAL_SLIPS};
-    use crate::compare::plan::tests::right_fill;
     use crate::compare::planted;
-    use crate::compare::trial;
 
     #[test]
     fn the_checker_says_what_the_moments_say() {
@@ -228,9 +226,7 @@ mod tests {
     #[test]
     fn tiny_trials_tell_the_slips_in_the_count() {
         for slip in TRIAL_SLIPS.iter().filter(|slip| !slip.name.starts_with("16 ")) {
-            let start = start_by(*slip);
-            let of_trials = trial::Calls { start: &start, ..trial::right_calls(&right_fill) };
-            assert!(run_trials(2, 1, &Calls { of_trials, ..planted::right() }).differences > 0, "{}", slip.name);
+            assert!(run_trials(2, 1, &planted::starting(&start_by(*slip))).differences > 0, "{}", slip.name);
         }
     }
 }

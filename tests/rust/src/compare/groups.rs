@@ -141,9 +141,7 @@ mod tests {
     use crate::compare::group_case::answer_by;
     use crate::compare::group_rules::{slips, Rule, RIGHT};
     use crate::compare::group_trial_rules::{start_by, TRIAL_RIGHT, TRIAL_SLIPS};
-    use crate::compare::plan::tests::right_fill;
     use crate::compare::planted::{self, Unkept};
-    use crate::compare::trial;
 
     const SEED: u64 = 93;
 
@@ -186,22 +184,16 @@ mod tests {
         planted::each_unkept(UNKEPT, &|calls, name| assert!(differences(calls) > 0, "{name}"));
     }
 
-    fn of_trials(start: &trial::Start) -> Calls<'_> {
-        Calls { of_trials: trial::Calls { start, ..trial::right_calls(&right_fill) }, ..planted::right() }
-    }
-
     #[test]
     fn trials_with_a_slip_are_seen_and_the_right_rule_is_not() {
-        assert_eq!(differences(&of_trials(&start_by(TRIAL_RIGHT))), 0);
+        assert_eq!(differences(&planted::starting(&start_by(TRIAL_RIGHT))), 0);
         for slip in TRIAL_SLIPS {
-            assert!(differences(&of_trials(&start_by(slip))) > 0, "{}", slip.name);
+            assert!(differences(&planted::starting(&start_by(slip))) > 0, "{}", slip.name);
         }
     }
 
     #[test]
     fn a_position_in_a_trial_is_seen() {
-        let show = planted::show_with_position(16);
-        let of_trials = trial::Calls { show: &show, ..trial::right_calls(&right_fill) };
-        assert!(differences(&Calls { of_trials, ..planted::right() }) > 0);
+        assert!(differences(&planted::showing(&planted::show_with_position(16))) > 0);
     }
 }

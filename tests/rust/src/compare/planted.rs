@@ -16,7 +16,17 @@ pub fn right() -> Calls<'static> {
 
 /// The checker's calls, with another check.
 pub fn checking(check: &Check) -> Calls<'_> {
-    Calls { of_trials: trial::Calls { check, ..trial::right_calls(&right_fill) }, find: &right_find }
+    Calls { of_trials: trial::Calls { check, ..trial::right_calls(&right_fill) }, ..right() }
+}
+
+/// With another start of trials.
+pub fn starting(start: &trial::Start) -> Calls<'_> {
+    Calls { of_trials: trial::Calls { start, ..trial::right_calls(&right_fill) }, ..right() }
+}
+
+/// With another show of trials.
+pub fn showing(show: &trial::Show) -> Calls<'_> {
+    Calls { of_trials: trial::Calls { show, ..trial::right_calls(&right_fill) }, ..right() }
 }
 
 /// A check that refuses job and starts as it is told, and else goes by the facts.
@@ -65,18 +75,17 @@ pub fn each_unkept(unkept: Unkept, visit: &dyn Fn(&Calls, &str)) {
         let right = trial_start(job, trial, action);
         unkept.or_free(right, job, &mut |free| trial_start(free, trial, action))
     };
-    let of_trials = || trial::right_calls(&right_fill);
-    visit(&Calls { of_trials: trial::Calls { start: &start, ..of_trials() }, ..right() }, "start");
+    visit(&starting(&start), "start");
     let on = move |job: &[u32], trial: &mut [u32]| {
         let right = trial_on(job, trial);
         unkept.or_free(right, job, &mut |free| trial_on(free, trial))
     };
-    visit(&Calls { of_trials: trial::Calls { on: &on, ..of_trials() }, ..right() }, "on");
+    visit(&Calls { of_trials: trial::Calls { on: &on, ..trial::right_calls(&right_fill) }, ..right() }, "on");
     let show = move |job: &[u32], trial: &[u32], buffer: &mut [u32]| {
         let right = trial_show(job, trial, buffer);
         unkept.or_free(right, job, &mut |free| trial_show(free, trial, buffer))
     };
-    visit(&Calls { of_trials: trial::Calls { show: &show, ..of_trials() }, ..right() }, "show");
+    visit(&showing(&show), "show");
 }
 
 /// A show that keeps the position of a number.

@@ -115,9 +115,7 @@ mod tests {
     use crate::checker::answer::Answer;
     use crate::checker::trial::trial_start;
     use crate::compare::asker::without_kinds;
-    use crate::compare::plan::tests::right_fill;
     use crate::compare::planted::{self, Unkept};
-    use crate::compare::trial;
     use crate::compare::window_case::answer_by;
     use crate::compare::window_rules::{slips, Rule, RIGHT};
 
@@ -176,10 +174,7 @@ mod tests {
             }
             right => right,
         };
-        let of_trials = trial::Calls { start: &start, ..trial::right_calls(&right_fill) };
-        assert!(differences(&Calls { of_trials, ..planted::right() }) > 0);
-        let show = planted::show_with_position(15);
-        let of_trials = trial::Calls { show: &show, ..trial::right_calls(&right_fill) };
-        assert!(differences(&Calls { of_trials, ..planted::right() }) > 0);
+        assert!(differences(&planted::starting(&start)) > 0);
+        assert!(differences(&planted::showing(&planted::show_with_position(15))) > 0);
     }
 }

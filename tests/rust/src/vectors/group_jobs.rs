@@ -269,17 +269,3 @@ fn lengths() -> Vec<Vector> {
         vector("100,000 pairs", vec![PAIR; 100_000], 1, 0),
     ]
 }
-
-#[cfg(test)]
-mod tests {
-    use super::*;
-    use crate::checker::job::read_job;
-
-    #[test]
-    fn the_checker_gives_each_vector_s_answer() {
-        for vector in vectors() {
-            let given = read_job(&vector.job).map_or_else(|refusal| (refusal.number, refusal.position), |_| (0, 0));
-            assert_eq!(given, (vector.number, vector.position), "{}", vector.name);
-        }
-    }
-}

@@ -105,17 +105,3 @@ fn order() -> Vec<Vector> {
         vector("a window's 3 before the job end's", vec![head(2, 2, 3), ACTION, shift_window(0, 1, 0), ACT], 3, 2),
     ]
 }
-
-#[cfg(test)]
-mod tests {
-    use super::*;
-    use crate::checker::job::read_job;
-
-    #[test]
-    fn the_checker_gives_each_vector_s_answer() {
-        for vector in vectors() {
-            let given = read_job(&vector.job).map_or_else(|refusal| (refusal.number, refusal.position), |_| (0, 0));
-            assert_eq!(given, (vector.number, vector.position), "{}", vector.name);
-        }
-    }
-}

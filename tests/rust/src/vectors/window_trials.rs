@@ -3,16 +3,13 @@
 
 use crate::generate::trials::Call;
 use crate::vectors::trial::{trial, Outcome, Vector};
-use crate::vectors::windows::{job, starts_of, Shift, DROP, FOLD, LIFT, WAIT};
+use crate::vectors::windows::{job, starts_of, At, Shift, DROP, FOLD, LIFT, WAIT};
 use crate::words::*;
 
 pub fn vectors() -> Vec<Vector> {
     let groups = [edges(), order_of_new_start(), starts_of_trial(), order(), others()];
     groups.into_iter().flatten().collect()
 }
-
-/// A moment and an action.
-type At = (usize, usize);
 
 fn vector(name: &'static str, shifts: &[Shift], moment: u32, starts: &[At], call: Call, outcome: Outcome) -> Vector {
     Vector { name, job: job(shifts), trial: trial(moment, &starts_of(starts)), length: 4_098, call, outcome }
