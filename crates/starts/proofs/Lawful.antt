@@ -1,14 +1,13 @@
 -- No row fits exactly lawful starts. Assumes nothing.
 use mathlib.Core.Bool.{not}
 use mathlib.Core.List.{List}
-use mathlib.Core.Path.{_≡_, refl, ap}
+use mathlib.Core.Path.{refl, ap}
 use Prim.Native.Nat.{ℕ, _^_, _<_}
 use borrow.Author.Tests.{not-false, ltb-false, le-ltb}
 use lib.ListN.{length}
 use Rattle.words.specs.Lists.{Each}
 use Rattle.job.specs.Parts.{limitOf, inGroup}
 use Rattle.starts.specs.Rows.{endsLate, inHandAlready, clashes, outsideWindows, overLimit, groupExceeded, needsUnmet, startRows, startsRefusal}
-use Rattle.starts.specs.Code.Given.{StartsFormed}
 use Rattle.starts.specs.Lawful.{Lawful, LawfulExactly}
 use Rattle.words.proofs.AnyBelow.{some-none, none-below}
 use Rattle.words.proofs.Lists.{each-of, each-at, small-at, pairs-of, pairs-at}
@@ -42,14 +41,6 @@ module _ (job starts : List ℕ) where
       (and-row (λ i l. some-none _ 8 (λ g m. keeps-rows job (inGroup job g) (limitOf job g) starts (h .within g m) i l))
       (and-row (each-at (h .met))
       no-row))))))
-
--- where no row fits, row 6 fits none
-pub rows-formed : (job starts : List ℕ) → startsRefusal job starts .number ≡ 0 → StartsFormed job starts
-unfolding startsRefusal
-rows-formed job starts e = first (rows-none (startRows job starts) refl e)
-  where
-    first : NoneFits (length starts) (startRows job starts) → StartsFormed job starts
-    first (and-row row6 rest) = record { right = row6 }
 
 pub lawful : LawfulExactly
 unfolding startsRefusal

@@ -1,13 +1,13 @@
 -- Starts that row 6 does not fit: exactly those that are each a start of the job and ascend; their moments ascend too. Assumes nothing.
-use mathlib.Core.Bool.{true, false}
-use mathlib.Core.List.{List}
+use mathlib.Core.Bool.{Bool, true, false}
+use mathlib.Core.List.{List, _∷_}
 use mathlib.Core.Path.{_≡_, refl}
 use Prim.Native.Nat.{ℕ, zero, suc, _+_, _-_, _^_, _≤_, _<_}
 use native.Mathlib.Decide.{decLt}
 use native.Mathlib.Omega.{arith}
 use borrow.Author.Tests.{not-false, eqb-true, leb-true, ltb-true, lt-ltb, ne-eqb}
 use lib.Dec.{eqb}
-use lib.ListN.{length, getD}
+use lib.ListN.{length, getD, drop}
 use Rattle.words.specs.Fields.{kind, field, startMoment, startAction, startWord}
 use Rattle.words.specs.Lists.{Each, Pairs}
 use Rattle.words.proofs.Choices.{both-true}
@@ -20,7 +20,7 @@ use Rattle.history.proofs.Moments.{finish-tabled}
 use Rattle.answers.specs.declared.Refusal.{Refusal}
 use Rattle.answers.specs.Rows.{firstOf}
 use Rattle.answers.proofs.Rows.{or-none}
-use Rattle.starts.specs.Rows.{isStart, ascends, wrongWord, numbered, rowsRefusal}
+use Rattle.starts.specs.Rows.{isStart, ascends, wrongWord, startRows, numbered, rowsRefusal, startsRefusal}
 use Rattle.starts.specs.Code.Given.{timeRows, StartsFormed}
 use Rattle.starts.proofs.Rows.{row-clear}
 
@@ -72,13 +72,20 @@ words-formed {job} {starts} words order = record { right = λ i l. rw (each-at w
         let same : suc i - 1 ≡ i = omega arith in
         rw (ne-eqb (suc i) 0 (λ z. omega arith), same) (lt-ltb _ _ (pairs-at order (suc i) i (omega arith) l))
 
--- once row 6, or rows 6 to 9, give no number
+-- once row 6 gives no number, alone, before others, before rows 7 to 9, before all others
 pub row-passed : {job starts : List ℕ} {r : Refusal} → r ≡ firstOf (numbered 6 (wrongWord job starts)) (length starts) → r .number ≡ 0 → StartsFormed job starts
 row-passed {job} {starts} is e = record { right = row-clear 6 (wrongWord job starts) (length starts) (omega arith) (rw is at e) }
 
-pub times-passed : {job starts : List ℕ} {r : Refusal} → r ≡ rowsRefusal (timeRows job starts) (length starts) → r .number ≡ 0 → StartsFormed job starts
+rows-passed : {job starts : List ℕ} (rest : List (ℕ × (ℕ → Bool))) → rowsRefusal ((6, wrongWord job starts) ∷ rest) (length starts) .number ≡ 0 → StartsFormed job starts
 unfolding rowsRefusal
-times-passed is e = row-passed refl (or-none _ _ (rw is at e) .0)
+rows-passed rest e = row-passed refl (or-none _ _ e .0)
+
+pub times-passed : {job starts : List ℕ} {r : Refusal} → r ≡ rowsRefusal (timeRows job starts) (length starts) → r .number ≡ 0 → StartsFormed job starts
+times-passed {job} {starts} is e = rows-passed (drop 1 (timeRows job starts)) (rw is at e)
+
+pub starts-passed : (job starts : List ℕ) → startsRefusal job starts .number ≡ 0 → StartsFormed job starts
+unfolding startsRefusal
+starts-passed job starts e = rows-passed (drop 1 (startRows job starts)) e
 
 pub right-word : {job starts : List ℕ} → StartsFormed job starts → (i : ℕ) → i < length starts → Right job (getD starts i 0)
 right-word h i l = right-at _ _ i (h .right i l)

@@ -2,7 +2,7 @@
 -- that starts in hand alone do. Assumes nothing.
 use mathlib.Core.Bool.{Bool, true, false, _&&_}
 use mathlib.Core.List.{List, _∷_}
-use mathlib.Core.Path.{_≡_, refl, ap, sym, _∙_}
+use mathlib.Core.Path.{_≡_, refl, sym, _∙_}
 use Prim.Native.Nat.{ℕ, _<_, _≤_}
 use native.Mathlib.Omega.{arith}
 use borrow.Author.Tests.{le-leb, le-ltb, lt-ltb, ltb-false}
@@ -13,7 +13,8 @@ use Rattle.words.proofs.Choices.{both-true, same-test}
 use Rattle.words.proofs.Filter.{any-filter, each-filter, filter-agree}
 use Rattle.words.proofs.Scan.{any-agree}
 use Rattle.words.proofs.Lists.{each-map, each-with}
-use Rattle.job.specs.Parts.{actions, duration}
+use Rattle.job.specs.Parts.{actions, lastMoment, duration}
+use Rattle.job.specs.Code.WellFormed.{WellFormed}
 use Rattle.history.specs.Actions.{finish, inHand}
 use Rattle.history.specs.Held.{heldAt}
 use Rattle.history.specs.Code.Held.{unfinishedBy}
@@ -33,26 +34,30 @@ pub busy-read : (job : List ℕ) (u a s : ℕ) {x y z : ℕ} → x ≡ startActi
     → busy job u a s ≡ (eqb x a && (leb y u && ltb u z))
 busy-read job u a s p q r = rw (p, q, r)
 
-module _ {job durations effects : List ℕ} {s u a : ℕ} (given : Facing job durations effects s u a) where
+-- the word of a new start
+module _ {job : List ℕ} {u a : ℕ} (formed : WellFormed job) (present : u ≤ lastMoment job) (new : a < actions job) where
   at-u : startMoment (startWord u a) ≡ u
-  at-u =
-      word-moment u a (omega (arith, given .present, given .tables .formed .few-moments)) (omega (arith, given .new, given .tables .formed .few-actions))
+  at-u = word-moment u a (omega (arith, formed .few-moments)) (omega (arith, formed .few-actions))
 
   of-a : startAction (startWord u a) ≡ a
-  of-a =
-      word-action u a (omega (arith, given .present, given .tables .formed .few-moments)) (omega (arith, given .new, given .tables .formed .few-actions))
+  of-a = word-action u a (omega (arith, formed .few-moments)) (omega (arith, formed .few-actions))
 
-  lasts : startMoment (startWord u a) < finish job (startWord u a)
-  lasts = omega (arith, given .tables .formed .lasting a (given .new), ap (duration job) of-a)
+  lasts : 0 < duration job (startAction (startWord u a))
+  lasts = rw of-a (formed .lasting a new)
+
+module _ {job durations effects : List ℕ} {s u a : ℕ} (given : Facing job durations effects s u a) where
+  at-now : startMoment (startWord u a) ≡ u
+  at-now = at-u (given .tables .formed) (given .present) (given .new)
 
   together-new : together job s (startWord u a) ≡ ltb u (finish job s)
-  together-new = together-later job s (startWord u a) (rw at-u (given .past)) lasts (rw at-u (given .present)) ∙ rw at-u
+  together-new =
+      together-later job s (startWord u a) (rw at-now (given .past)) (omega (arith, lasts (given .tables .formed) (given .present) (given .new))) (rw at-now (given .present)) ∙ rw at-now
 
   pub clashing-over : finish job s ≤ u → clashing job s (startWord u a) ≡ false
   clashing-over l = rw (together-new, le-ltb u (finish job s) l)
 
   pub clashing-yet : u < finish job s → clashing job s (startWord u a) ≡ clash job (startAction s) a
-  clashing-yet l = rw (together-new, lt-ltb u (finish job s) l, of-a)
+  clashing-yet l = rw (together-new, lt-ltb u (finish job s) l, of-a (given .tables .formed) (given .present) (given .new))
 
 -- of all starts of a plan: only those in hand are of the same action in hand, or clash
 module _ {job durations effects starts : List ℕ} {u a : ℕ} (given : FacingAll job durations effects starts u a) where
@@ -103,19 +108,9 @@ module _ {job durations effects starts : List ℕ} {u a : ℕ} (given : FacingAl
   -- row 16 over them: the code has read `limits`, `members` and r
   pub held-full : {groups : Groups} → GroupTable job groups → {r : Bool} → r ≡ someFull (groups .limits) (groups .members) (filter (unfinishedBy durations u) starts) a
       → r ≡ overLimit job (startWord u a ∷ starts) (startWord u a)
-  held-full table er = er ∙ some-read table (startWord u a) lasts (λ group. one-in-front job group (startWord u a) starts) (held-in-hand ∙ rw at-u) (sym of-a)
-    where
-      u-small : u < 64
-      u-small = omega (arith, given .present, given .tables .formed .few-moments)
-
-      a-small : a < 64
-      a-small = omega (arith, given .new, given .tables .formed .few-actions)
-
-      at-u : startMoment (startWord u a) ≡ u
-      at-u = word-moment u a u-small a-small
-
-      of-a : startAction (startWord u a) ≡ a
-      of-a = word-action u a u-small a-small
-
-      lasts : 0 < duration job (startAction (startWord u a))
-      lasts = rw of-a (given .tables .formed .lasting a (given .new))
+  held-full table er =
+      let formed = given .tables .formed in
+      let at = at-u formed (given .present) (given .new) in
+      er
+      ∙ some-read table (startWord u a) (lasts formed (given .present) (given .new)) (λ group. one-in-front job group (startWord u a) starts)
+      (held-in-hand ∙ rw at) (sym (of-a formed (given .present) (given .new)))

@@ -1,18 +1,18 @@
 -- Rows 6 to 10, 15 and 16 of a new start, one after the other, and the room that an accepted one has. Assumes nothing.
 use mathlib.Core.Bool.{Bool, true, false, not}
-use mathlib.Core.List.{List, _∷_}
-use mathlib.Core.Path.{_≡_, ap, sym, _∙_}
+use mathlib.Core.List.{List, [], _∷_, _++_}
+use mathlib.Core.Path.{_≡_, refl, ap, sym, _∙_}
 use Prim.Native.Nat.{ℕ, _+_, _*_, _^_, _<_, _≤_}
 use native.Mathlib.Omega.{arith}
 use lib.Dec.{leb, ltb}
-use lib.ListN.{length, getD}
+use lib.ListN.{length, getD, take, drop}
 use Rattle.words.specs.Fields.{startWord}
 use Rattle.words.specs.Scan.{any}
 use Rattle.words.specs.Lists.{Each, Pairs}
 use Rattle.words.proofs.Lists.{each-of, each-at, small-at, pairs-of}
 use Rattle.words.proofs.Insert.{insert-length}
 use Rattle.answers.specs.declared.Refusal.{Refusal}
-use Rattle.answers.specs.Rows.{refusal, row, firstRefusal}
+use Rattle.answers.specs.Rows.{refusal, row, firstRefusal, firstRow}
 use Rattle.job.specs.Parts.{headWord, actions, lastMoment, duration, lawsOf}
 use Rattle.job.specs.Refusal.{jobRefusal}
 use Rattle.job.specs.Code.WellFormed.{WellFormed, Indexed}
@@ -21,12 +21,12 @@ use Rattle.starts.specs.Rows.{clashing, mayStart, overLimit, unmet, unmetAt, st
 use Rattle.starts.specs.Lawful.{Lawful}
 use Rattle.starts.specs.Code.Given.{StartsFormed, Recorded}
 use Rattle.starts.proofs.Needs.{needs-read}
-use Rattle.starts.proofs.StartsFormed.{right-word, words-ascend, few-words}
-use Rattle.starts.proofs.Lawful.{lawful, rows-formed}
+use Rattle.starts.proofs.StartsFormed.{starts-passed, right-word, words-ascend, few-words}
+use Rattle.starts.proofs.Lawful.{lawful}
 use Rattle.theory.specs.Answers.{planRefusal}
 use Rattle.theory.specs.declared.Plan.{Plan}
 use Rattle.theory.proofs.Passing.{job-clear, plan-formed, actions-indexed}
-use Rattle.moves.specs.Trials.{Trial, Start, busy, startRefusal}
+use Rattle.moves.specs.Trials.{Trial, Start, busy, newStartRows, startRefusal}
 use Rattle.moves.proofs.Passing.{Passing, lawful-few}
 use Rattle.moves.proofs.Played.{move-passes}
 use Rattle.trial.specs.Code.Given.{FacingAll, Present, heldRefusal, StartTested}
@@ -42,7 +42,7 @@ module _ {job starts : List ℕ} {u : ℕ} {plan : Plan} (given : Present job st
 
   pub present-words : StartsFormed job starts
   unfolding planRefusal
-  present-words = rows-formed job starts (or-none (jobRefusal job) (startsRefusal job starts) (given .passed .clear) .1)
+  present-words = starts-passed job starts (or-none (jobRefusal job) (startsRefusal job starts) (given .passed .clear) .1)
 
   pub present-order : Pairs (λ s s'. s < s') starts
   present-order = pairs-of starts (words-ascend present-words)
@@ -88,27 +88,18 @@ module _ {job starts : List ℕ} {u : ℕ} {plan : Plan} (given : Present job st
   pub tested : {a : ℕ} {r : Refusal} → Each (λ s. s < 2 ^ 32) starts → r ≡ startRefusal job (record { moment = u; starts = starts }) a → StartTested job starts u a r
   tested {a} small e = record { refusal = e; room = λ z. new-room a small (ap (λ (r : Refusal). r .number) (sym e) ∙ z) }
 
--- four rows, and then one more
-rows-last : (a b c d e : Refusal) → firstRefusal a (firstRefusal b (firstRefusal c (firstRefusal d e))) ≡ firstRefusal (firstRefusal a (firstRefusal b (firstRefusal c d))) e
-rows-last a b c d e =
-    ap (λ (r : Refusal). firstRefusal a (firstRefusal b r)) (or-assoc c d e)
-    ∙ ap (firstRefusal a) (or-assoc b (firstRefusal c d) e)
-    ∙ or-assoc a (firstRefusal b (firstRefusal c d)) e
+-- rows, and then one more
+last-row : (rs : List Refusal) (r : Refusal) → firstRow (rs ++ (r ∷ [])) ≡ firstRefusal (firstRow rs) r
+last-row [] r = refl
+last-row (a ∷ []) r = refl
+last-row (a ∷ b ∷ rs) r = ap (firstRefusal a) (last-row (b ∷ rs) r) ∙ or-assoc a (firstRow (b ∷ rs)) r
 
 -- which row fits, by the tests
 module _ (job starts : List ℕ) (u a : ℕ) where
   abbrev T : Trial
   T = record { moment = u; starts = starts }
 
-  -- rows 8, 9, 15 and 16; past the first two, of the answers that the code has read
-  abbrev held-rows : Refusal × Refusal × Refusal × Refusal
-  held-rows = (
-    row (any (busy job u a) starts) 8 0,
-    row (any (λ s. clashing job s (startWord u a)) starts) 9 0,
-    row (not (mayStart job u a)) 15 0,
-    row (overLimit job (startWord u a ∷ starts) (startWord u a)) 16 0,
-  )
-
+  -- past rows 8 and 9, of the answers that the code has read
   pub held-rest : any (busy job u a) starts ≡ false → any (λ s. clashing job s (startWord u a)) starts ≡ false
       → {outside over r : Refusal} {may full : Bool} → r ≡ firstRefusal outside over → outside ≡ row (not may) 15 0 → may ≡ mayStart job u a
       → over ≡ row full 16 0 → full ≡ overLimit job (startWord u a ∷ starts) (startWord u a) → r ≡ heldRefusal job starts u a
@@ -128,4 +119,4 @@ module _ (job starts : List ℕ) (u a : ℕ) where
       pub rows-rest : {held needs r : Refusal} {unmet : Bool} → r ≡ firstRefusal held needs → held ≡ heldRefusal job starts u a
           → needs ≡ row unmet 10 0 → unmet ≡ unmetAt job starts u a → r ≡ startRefusal job (record { moment = u; starts = starts }) a
       unfolding startRefusal
-      rows-rest e eh en eu = e ∙ rw (eh, en, eu, n6, n7) (sym (rows-last (held-rows .0) (held-rows .1) (held-rows .2) (held-rows .3) (row (unmetAt job starts u a) 10 0)))
+      rows-rest e eh en eu = e ∙ rw (eh, en, eu, n6, n7) (sym (last-row (take 4 (drop 2 (newStartRows job T a))) (row (unmetAt job starts u a) 10 0)))
