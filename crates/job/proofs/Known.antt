@@ -10,9 +10,10 @@ use borrow.Author.Tests.{eqb-true, eq-eqb, ne-eqb, not-true}
 use lib.Dec.{eqb}
 use lib.ListN.{length, getD}
 use Rattle.words.specs.Tests.{within}
-use Rattle.words.specs.Fields.{kind, field, fluentOf, roleOf}
+use Rattle.words.specs.Fields.{kind, fluentOf, roleOf}
 use Rattle.words.specs.Scan.{any}
 use Rattle.words.proofs.Choices.{within-true}
+use Rattle.words.proofs.Wide.{no-role}
 use Rattle.job.specs.Rules.{sameFluent}
 use Rattle.job.specs.Follow.{nothing, setNode}
 use Rattle.job.specs.Before.{before, since}
@@ -67,8 +68,8 @@ module _ (job : List ℕ) (ok : jobRefusal job .number ≡ 0) where
           by-cases (decLt 1 (kind (getD job i 0))) (λ two. ih (omega arith) j p (omega arith))
           (λ one. absurd (one-head i (omega arith) (omega arith) (omega arith)))
 
-  bare : (i : ℕ) → i < length job → kind (getD job i 0) ≡ 2 → field (getD job i 0) 27 7 ≡ 0
-  bare i l h = eqb-true (field (getD job i 0) 27 7) 0 (tests-passed _ _ _ (rule job ok 2 i l h) .0)
+  bare : (i : ℕ) → i < length job → kind (getD job i 0) ≡ 2 → roleOf (headWord job) (getD job i 0) / 2 ≡ 0
+  bare i l h = no-role (headWord job) (getD job i 0) (tests-passed _ _ _ (rule job ok 2 i l h) .0)
 
   -- the fluent of one of kind 2 is listed by no earlier one
   fresh : (i j : ℕ) → j < i → i < length job → kind (getD job i 0) ≡ 2 → kind (getD job j 0) ≡ 2
@@ -81,15 +82,12 @@ module _ (job : List ℕ) (ok : jobRefusal job .number ≡ 0) where
       later zero a b k = let z : j ≡ 0 = omega arith in omega (arith, k, rw z at hj)
       later (suc u) a b k = one-head (suc u) (omega arith) (omega arith) k
 
-      role : (w : ℕ) → field w 27 7 ≡ 0 → roleOf (headWord job) w / 2 ≡ 0
-      role w b = omega arith
-
       same : sameFluent (headWord job) (getD job i 0) (getD job j 0) ≡ true
       same =
           rw (
             eq-eqb (kind (getD job j 0)) (kind (getD job i 0)) (hj ∙ sym hi),
-            role (getD job j 0) (bare j (omega arith) hj),
-            role (getD job i 0) (bare i m hi),
+            bare j (omega arith) hj,
+            bare i m hi,
             eq-eqb (fluentOf (headWord job) (getD job j 0)) (fluentOf (headWord job) (getD job i 0)) e,
           )
 

@@ -9,7 +9,7 @@ use borrow.Author.Tests.{not-false, leb-true, ltb-true, eq-eqb, ne-eqb, le-leb, 
 use lib.Dec.{eqb, leb, ltb}
 use lib.ListN.{length, getD}
 use Rattle.words.specs.Tests.{implies, within}
-use Rattle.words.specs.Fields.{kind, form, actionNumber, durationOf, formulaX, formulaY, atomFluent, nodeX, nodeM, nodeN}
+use Rattle.words.specs.Fields.{kind, form, mostFluents, actionNumber, durationOf, formulaX, formulaY, atomFluent, nodeX, nodeM, nodeN}
 use Rattle.words.proofs.Choices.{both-true, implies-true, within-true, true-within, true-upto}
 use Rattle.answers.proofs.Rows.{row-none}
 use Rattle.job.specs.Rules.{formulaShape, formulaRange, nodeShape, nodeRange}
@@ -77,13 +77,13 @@ module _ (job : List ℕ) (ok : jobRefusal job .number ≡ 0) where
   unfolding before predecessor
   head = only-after 1 nothing refl (kind (getD job 0 0)) (follows (kind (getD job 0 0)) 0 (size .0) refl)
 
-  pub ranges : ((1 ≤ fluents job) × (fluents job ≤ 64)) × ((1 ≤ actions job) × (actions job ≤ 64)) × (lastMoment job ≤ 63)
+  pub ranges : ((1 ≤ fluents job) × (fluents job ≤ mostFluents (headWord job))) × ((1 ≤ actions job) × (actions job ≤ 64)) × (lastMoment job ≤ 63)
   ranges =
-      let f = within 1 64 (fluents job) in
+      let f = within 1 (mostFluents (headWord job)) (fluents job) in
       let a = within 1 64 (actions job) in
       let g = both-true (f && a) (leb (lastMoment job) 63) (tests-passed _ _ _ (rule 1 0 (size .0) head) .1) in
       let h = both-true f a (g .0) in
-      (within-true 1 64 (fluents job) (h .0), within-true 1 64 (actions job) (h .1), leb-true (lastMoment job) 63 (g .1))
+      (within-true 1 (mostFluents (headWord job)) (fluents job) (h .0), within-true 1 64 (actions job) (h .1), leb-true (lastMoment job) 63 (g .1))
 
   pub ends : EndClear job
   ends = end-clear job c

@@ -8,6 +8,7 @@ use native.Mathlib.Omega.{arith}
 use borrow.Author.Tests.{eqb-false, ltb-true}
 use lib.ListN.{getD}
 use Rattle.words.specs.Fields.{form}
+use Rattle.words.proofs.Wide.{fluents-most}
 use Rattle.words.proofs.Choices.{both-true}
 use Rattle.answers.proofs.Rows.{first-none}
 use Rattle.job.specs.Before.{named}
@@ -37,7 +38,8 @@ well-formed job ok =
       some = s .0;
       short = s .1;
       some-fluents = r .0 .0;
-      few-fluents = r .0 .1;
+      few-fluents = fluents-most (getD job 0 0);
+      fluents-by-head = r .0 .1;
       some-actions = r .1 .0;
       few-actions = r .1 .1;
       few-moments = r .2;

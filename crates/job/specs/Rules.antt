@@ -4,7 +4,7 @@ use mathlib.Core.Bool.{Bool, true, not, cond, _&&_, _||_}
 use Prim.Native.Nat.{ℕ, _+_, _/_}
 use lib.Dec.{leb, ltb, eqb}
 use Rattle.words.specs.Tests.{implies, within}
-use Rattle.words.specs.Fields.{spare, kind, form, headSpare, fluentsOf, actionsOf, lastOf, fluentOf, knownSpare, actionSpare, actionNumber, durationOf, roleOf, lawSpare, formulaX, formulaY, atomFluent, atomSpare, nodeX, nodeM, nodeN, memberSpare, memberNode, conditionFormula, conditionI, conditionJ, conditionM, conditionN, shiftWindowSpare, shiftWindowAction, shiftWindowFrom, shiftWindowTo, groupSpare, groupNumber, groupAction}
+use Rattle.words.specs.Fields.{spare, kind, form, headShape, mostFluents, fluentsOf, actionsOf, lastOf, fluentOf, knownSpare, actionSpare, actionNumber, durationOf, roleOf, lawSpare, formulaX, formulaY, atomFluent, atomSpare, nodeX, nodeM, nodeN, memberSpare, memberNode, conditionFormula, conditionI, conditionJ, conditionM, conditionN, shiftWindowSpare, shiftWindowAction, shiftWindowFrom, shiftWindowTo, groupSpare, groupNumber, groupAction}
 use Rattle.words.specs.Scan.{every}
 use Rattle.job.specs.Children.{nodeChildren}
 
@@ -19,8 +19,8 @@ limited most count shape range = wordRefusalOf shape (ltb count most && range) t
 -- kind 1, head
 abbrev pub headRefusal : ℕ → ℕ
 headRefusal w =
-    wordRefusalOf (headSpare w)
-    (within 1 64 (fluentsOf w) && within 1 64 (actionsOf w) && leb (lastOf w) 63)
+    wordRefusalOf (headShape w)
+    (within 1 (mostFluents w) (fluentsOf w) && within 1 64 (actionsOf w) && leb (lastOf w) 63)
     true
 
 -- kind 2, initially known: whether its fluent is listed already

@@ -42,8 +42,6 @@ pub const NOTHING: u32 = 17;
 // The limits of a job: its words, what its head may say, what it declares, and what a task set has.
 pub const MAX_WORDS: usize = 2048;
 
-pub const MAX_FLUENTS: usize = 64;
-
 pub const MAX_ACTIONS: usize = 64;
 
 pub const LAST_MOMENT: usize = 63;

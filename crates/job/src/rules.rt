@@ -23,7 +23,6 @@ use crate::LAST_MOMENT;
 use crate::LAW;
 use crate::MAX_ACTIONS;
 use crate::MAX_CONDITIONS;
-use crate::MAX_FLUENTS;
 use crate::MAX_FORMULAS;
 use crate::MAX_MEMBERS;
 use crate::MAX_NODES;
@@ -84,14 +83,15 @@ pub fn may_follow(k: u32, v: u32) -> bool
 pub fn head(w: u32) -> u32
     ensures { λ r. ⌜ r ≡ headRefusal w ⌝ }
 {
-    let spare = words::head_spare(w);
+    let shape = words::head_shape(w);
     let fluents = words::fluents_of(w);
+    let most = words::most_fluents(w);
     let actions = words::actions_of(w);
     let range = (1 <= fluents)
-        & (fluents <= MAX_FLUENTS)
+        & (fluents <= most)
         & ((1 <= actions) & (actions <= MAX_ACTIONS))
         & (words::last_of(w) <= LAST_MOMENT);
-    word_refusal_of(spare, range, true)
+    word_refusal_of(shape, range, true)
 }
 
 // The words that list a fluent: whether it is the job's.

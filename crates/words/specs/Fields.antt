@@ -11,7 +11,7 @@ field w hi lo = w / 2 ^ lo % 2 ^ (hi + 1 - lo)
 abbrev pub spare : ℕ → ℕ → ℕ → Bool
 spare w hi lo = eqb (field w hi lo) 0
 
--- every word: its kind; of kinds 5, 6 and 8 the form
+-- every word: its kind; of kinds 1, 5, 6 and 8 the form
 abbrev pub kind : ℕ → ℕ
 kind w = field w 31 28
 
@@ -31,12 +31,19 @@ unknown = 1
 abbrev pub holds : ℕ
 holds = 2
 
--- kind 1, head: fluents F, actions, last moment n, and the bits that it leaves spare
-abbrev pub headSpare : ℕ → Bool
-headSpare head = spare head 27 24
+-- kind 1, head: its form is 0, or 1 where it is wide, which moves the fields that name a fluent; how many fluents such a head may have;
+-- fluents F (in a wide head a field of 0 says 256), actions, last moment n
+abbrev pub headShape : ℕ → Bool
+headShape head = leb (form head) 1
+
+abbrev pub wide : ℕ → Bool
+wide head = eqb (form head) 1
+
+abbrev pub mostFluents : ℕ → ℕ
+mostFluents head = cond (wide head) 256 64
 
 abbrev pub fluentsOf : ℕ → ℕ
-fluentsOf head = field head 23 16
+fluentsOf head = cond (wide head && eqb (field head 23 16) 0) 256 (field head 23 16)
 
 abbrev pub actionsOf : ℕ → ℕ
 actionsOf head = field head 15 8
@@ -46,14 +53,14 @@ lastOf head = field head 7 0
 
 -- kind 2, initially known, and kind 4, law: the fluent
 abbrev pub fluentOf : ℕ → ℕ → ℕ
-fluentOf head w = field w 5 0
+fluentOf head w = cond (wide head) (field w 7 0) (field w 5 0)
 
 -- kind 2: the value, and the bits that it leaves spare
 abbrev pub knownValue : ℕ → ℕ → ℕ
-knownValue head w = cond (eqb (field w 6 6) 0) holds fails
+knownValue head w = cond (eqb (cond (wide head) (field w 8 8) (field w 6 6)) 0) holds fails
 
 abbrev pub knownSpare : ℕ → ℕ → Bool
-knownSpare head w = spare w 27 7
+knownSpare head w = cond (wide head) (spare w 27 9) (spare w 27 7)
 
 -- kind 3, action: its number, its duration, and the bits that it leaves spare
 abbrev pub actionSpare : ℕ → Bool
@@ -68,10 +75,10 @@ durationOf w = field w 5 0
 -- kind 4, law: the role (0 needs true, 1 needs false: AD's executability conditions; 2 makes true, 3 makes false: its effects), and the
 -- bits that it leaves spare
 abbrev pub roleOf : ℕ → ℕ → ℕ
-roleOf head w = field w 7 6
+roleOf head w = cond (wide head) (field w 9 8) (field w 7 6)
 
 abbrev pub lawSpare : ℕ → ℕ → Bool
-lawSpare head w = spare w 27 8
+lawSpare head w = cond (wide head) (spare w 27 10) (spare w 27 8)
 
 -- a role makes a value, and does not need one; the value that a making role makes
 abbrev pub makes : ℕ → Bool
@@ -88,10 +95,10 @@ abbrev pub formulaY : ℕ → ℕ
 formulaY w = field w 5 0
 
 abbrev pub atomFluent : ℕ → ℕ → ℕ
-atomFluent head w = field w 11 6
+atomFluent head w = cond (wide head) (field w 7 0) (field w 11 6)
 
 abbrev pub atomSpare : ℕ → ℕ → Bool
-atomSpare head w = spare w 23 12 && spare w 5 0
+atomSpare head w = cond (wide head) (spare w 23 8) (spare w 23 12 && spare w 5 0)
 
 -- kind 6, node: X, Y, M, N
 abbrev pub nodeX : ℕ → ℕ
@@ -147,9 +154,12 @@ startAction s = field s 5 0
 abbrev pub startWord : ℕ → ℕ → ℕ
 startWord u a = 9 * 2 ^ 28 + u * 2 ^ 6 + a
 
--- kind 10, fact: the word that fluent f has a value, other than open, at moment t
+-- kind 10, fact: the word that fluent f has a value, other than open, at moment t; how many words the facts of a plan may need
 abbrev pub factWord : ℕ → ℕ → ℕ → ℕ → ℕ
-factWord head t f value = 10 * 2 ^ 28 + t * 2 ^ 7 + f * 2 + cond (eqb value holds) 0 1
+factWord head t f value = 10 * 2 ^ 28 + cond (wide head) (t * 2 ^ 9) (t * 2 ^ 7) + f * 2 + cond (eqb value holds) 0 1
+
+abbrev pub factRoom : ℕ → ℕ
+factRoom head = cond (wide head) 16384 4096
 
 -- kind 11, a word of a reading: node p from b to e
 abbrev pub readingWord : ℕ → ℕ → ℕ → ℕ

@@ -1,9 +1,9 @@
 // The fields of the words, each read here alone, by the definitions of specs/Fields.antt; the kinds and the values by name.
-ghost use mathlib.Core.Bool.{cond};
+ghost use mathlib.Core.Bool.{Bool, cond};
 ghost use mathlib.Core.Path.{_≡_};
 ghost use Prim.Native.Nat.{_<_, _≤_};
 ghost use lib.ListN.{length, drop};
-ghost use Rattle.words.specs.Fields.{kind, ofKind, form, spare, headSpare, actionNumber, actionSpare, isSet, memberSpare, startSpare, fluentsOf, actionsOf, lastOf, fluentOf, knownSpare, lawSpare, knownValue, durationOf, roleOf, makes, madeValue, formulaX, formulaY, atomFluent, atomSpare, nodeX, nodeY, nodeM, nodeN, memberNode, conditionFormula, conditionI, conditionJ, conditionM, conditionN, startMoment, startAction, startWord, factWord, readingWord, shiftWindowSpare, shiftWindowAction, shiftWindowFrom, shiftWindowTo, groupSpare, groupNumber, groupLimit, groupAction};
+ghost use Rattle.words.specs.Fields.{kind, ofKind, form, spare, headShape, wide, mostFluents, factRoom, actionNumber, actionSpare, isSet, memberSpare, startSpare, fluentsOf, actionsOf, lastOf, fluentOf, knownSpare, lawSpare, knownValue, durationOf, roleOf, makes, madeValue, formulaX, formulaY, atomFluent, atomSpare, nodeX, nodeY, nodeM, nodeN, memberNode, conditionFormula, conditionI, conditionJ, conditionM, conditionN, startMoment, startAction, startWord, factWord, readingWord, shiftWindowSpare, shiftWindowAction, shiftWindowFrom, shiftWindowTo, groupSpare, groupNumber, groupLimit, groupAction};
 ghost use Rattle.words.specs.Scan.{takeWhile};
 
 pub mod buffers;
@@ -48,7 +48,7 @@ pub const OPEN: u8 = 1;
 pub const HOLDS: u8 = 2;
 
 // The sizes of tables: how many fluents, actions, moments and groups there can be.
-pub const FLUENTS: usize = 64;
+pub const FLUENTS: usize = 256;
 
 pub const ACTIONS: usize = 64;
 
@@ -114,17 +114,54 @@ pub fn spare_5_0(w: u32) -> bool
     (w >> 0) % 64 == 0
 }
 
-// Head: the bits that it leaves spare are zero; fluents, actions, last moment.
-pub fn head_spare(head: u32) -> bool
-    ensures { λ r. ⌜ r ≡ headSpare head ⌝ }
+// Head: whether its form is 0 or 1, and whether it is 1, a wide head.
+pub fn head_shape(head: u32) -> bool
+    ensures { λ r. ⌜ r ≡ headShape head ⌝ }
 {
-    (head >> 24) % 16 == 0
+    (head >> 24) % 16 <= 1
+}
+
+fn is_wide(head: u32) -> bool
+    ensures { λ r. ⌜ r ≡ wide head ⌝ }
+{
+    (head >> 24) % 16 == 1
+}
+
+// What a wide head has, or what the other has: of numbers, and of tests.
+fn by_head(head: u32, a: u32, b: u32) -> u32
+    ensures { λ r. ⌜ r ≡ cond (wide head) a b ⌝ }
+{
+    if is_wide(head) { a } else { b }
+}
+
+fn test_by_head(head: u32, a: bool, b: bool) -> bool
+    ensures { λ r. ⌜ r ≡ cond (wide head) a b ⌝ }
+{
+    if is_wide(head) { a } else { b }
+}
+
+// Head: how many fluents it may have, and how many words the facts of its plans may need; fluents, actions, last moment.
+pub fn most_fluents(head: u32) -> usize
+    ensures { λ r. ⌜ r ≡ mostFluents head ⌝ }
+{
+    by_head(head, 256, 64) as usize
+}
+
+pub fn fact_room(head: u32) -> usize
+    ensures { λ r. ⌜ r ≡ factRoom head ⌝ }
+{
+    by_head(head, 16384, 4096) as usize
 }
 
 pub fn fluents_of(head: u32) -> usize
-    ensures { λ r. ⌜ (r ≡ fluentsOf head) × (r < 256) ⌝ }
+    ensures { λ r. ⌜ (r ≡ fluentsOf head) × (r ≤ 256) ⌝ }
 {
-    ((head >> 16) % 256) as usize
+    let field = ((head >> 16) % 256) as usize;
+    if is_wide(head) & (field == 0) {
+        256
+    } else {
+        field
+    }
 }
 
 pub fn actions_of(head: u32) -> usize
@@ -141,27 +178,27 @@ pub fn last_of(head: u32) -> usize
 
 // Initially known word, and law: the fluent, and whether the bits that each leaves spare are zero.
 pub fn fluent_of(head: u32, w: u32) -> usize
-    ensures { λ r. ⌜ (r ≡ fluentOf head w) × (r < 64) ⌝ }
+    ensures { λ r. ⌜ (r ≡ fluentOf head w) × (r < 256) ⌝ }
 {
-    (w % 64) as usize
+    by_head(head, (w >> 0) % 256, (w >> 0) % 64) as usize
 }
 
 pub fn known_spare(head: u32, w: u32) -> bool
     ensures { λ r. ⌜ r ≡ knownSpare head w ⌝ }
 {
-    (w >> 7) % (1 << 21) == 0
+    test_by_head(head, (w >> 9) % (1 << 19) == 0, (w >> 7) % (1 << 21) == 0)
 }
 
 pub fn law_spare(head: u32, w: u32) -> bool
     ensures { λ r. ⌜ r ≡ lawSpare head w ⌝ }
 {
-    (w >> 8) % (1 << 20) == 0
+    test_by_head(head, (w >> 10) % (1 << 18) == 0, (w >> 8) % (1 << 20) == 0)
 }
 
 pub fn known_value(head: u32, w: u32) -> u8
     ensures { λ r. ⌜ r ≡ knownValue head w ⌝ }
 {
-    holds_or_fails((w >> 6) % 2 == 0)
+    holds_or_fails(by_head(head, (w >> 8) % 2, (w >> 6) % 2) == 0)
 }
 
 // Action: its number, its duration, and whether the bits that it leaves spare are zero.
@@ -187,7 +224,7 @@ pub fn duration_of(w: u32) -> usize
 pub fn role_of(head: u32, w: u32) -> u32
     ensures { λ r. ⌜ (r ≡ roleOf head w) × (r < 4) ⌝ }
 {
-    (w >> 6) % 4
+    by_head(head, (w >> 8) % 4, (w >> 6) % 4)
 }
 
 pub fn makes_value(role: u32) -> bool
@@ -210,15 +247,19 @@ fn holds_or_fails(t: bool) -> u8
 
 // Formula of form 1: the fluent, and whether the bits that it leaves spare are zero.
 pub fn atom_fluent(head: u32, w: u32) -> usize
-    ensures { λ r. ⌜ (r ≡ atomFluent head w) × (r < 64) ⌝ }
+    ensures { λ r. ⌜ (r ≡ atomFluent head w) × (r < 256) ⌝ }
 {
-    ((w >> 6) % 64) as usize
+    by_head(head, (w >> 0) % 256, (w >> 6) % 64) as usize
 }
 
 pub fn atom_spare(head: u32, w: u32) -> bool
     ensures { λ r. ⌜ r ≡ atomSpare head w ⌝ }
 {
-    ((w >> 12) % (1 << 12) == 0) & ((w >> 0) % 64 == 0)
+    test_by_head(
+        head,
+        (w >> 8) % (1 << 16) == 0,
+        ((w >> 12) % (1 << 12) == 0) & ((w >> 0) % 64 == 0),
+    )
 }
 
 // Formula of forms 2 to 4: X and Y.
@@ -339,10 +380,11 @@ pub fn start_word(u: usize, a: usize) -> u32
 
 // The fact word that fluent `f` has a value, other than open, at moment `t`.
 pub fn fact_word(head: u32, t: usize, f: usize, value: u8) -> u32
-    requires { ⌜ (t < 64) × (f < 64) ⌝ }
+    requires { ⌜ (t < 64) × (f < 256) ⌝ }
     ensures { λ r. ⌜ r ≡ factWord head t f value ⌝ }
 {
-    let base = (FACT << 28) + (t as u32) * 128 + (f as u32) * 2;
+    let moment = by_head(head, (t as u32) * 512, (t as u32) * 128);
+    let base = (FACT << 28) + moment + (f as u32) * 2;
     if value == HOLDS { base + 0 } else { base + 1 }
 }
 

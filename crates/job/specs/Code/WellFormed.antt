@@ -5,7 +5,7 @@ use mathlib.Core.Path.{_≡_}
 use mathlib.Core.Logic.{_⊎_}
 use Prim.Native.Nat.{ℕ, suc, _<_, _≤_}
 use lib.ListN.{length, getD, drop}
-use Rattle.words.specs.Fields.{kind, form, fluentOf, formulaX, formulaY, atomFluent, nodeX, nodeM, nodeN, memberNode, conditionFormula, conditionI, conditionJ, groupNumber}
+use Rattle.words.specs.Fields.{kind, form, mostFluents, fluentOf, formulaX, formulaY, atomFluent, nodeX, nodeM, nodeN, memberNode, conditionFormula, conditionI, conditionJ, groupNumber}
 use Rattle.words.specs.Scan.{count}
 use Rattle.job.specs.Children.{nodeChildren}
 use Rattle.job.specs.Before.{before, named}
@@ -52,7 +52,8 @@ pub record WellFormed (job : List ℕ) : Type 0 where
   pub some : 0 < length job
   pub short : length job ≤ 2048
   pub some-fluents : 0 < fluents job
-  pub few-fluents : fluents job ≤ 64
+  pub few-fluents : fluents job ≤ 256
+  pub fluents-by-head : fluents job ≤ mostFluents (headWord job)
   pub some-actions : 0 < actions job
   pub few-actions : actions job ≤ 64
   pub few-moments : lastMoment job ≤ 63
