@@ -7,7 +7,7 @@ use native.Mathlib.Omega.{arith}
 use lib.Dec.{eqb}
 use lib.ListN.{length, getD}
 use Rattle.words.specs.Scan.{concatBelow}
-use Rattle.words.specs.Fields.{unknown, holds}
+use Rattle.words.specs.Fields.{unknown, holds, wide, mostFluents}
 use Rattle.job.specs.Parts.{headWord, fluents, lastMoment}
 use Rattle.job.specs.Code.WellFormed.{WellFormed}
 use Rattle.history.specs.Values.{valueAt}
@@ -48,31 +48,39 @@ climbs-ascends (next h c) zero (suc j) l m = omega (arith, climbs-at c j (omega 
 climbs-ascends (next h c) (suc i) (suc j) l m = climbs-ascends c i j (omega arith) (omega arith)
 
 -- the least word on moment t and fluent f
-abbrev least : ℕ → ℕ → ℕ
-least t f = 10 * 2 ^ 28 + t * 2 ^ 7 + f * 2
+abbrev least : ℕ → ℕ → ℕ → ℕ
+least head t f = 10 * 2 ^ 28 + cond (wide head) (t * 2 ^ 9) (t * 2 ^ 7) + f * 2
 
-fact-climbs : (head t f value : ℕ) → Climbs (least t f) (factOf head t f value) (least t (suc f))
+-- the fluents of a moment leave room for those of the next
+next-moment : (head t : ℕ) {n : ℕ} → n ≤ mostFluents head → least head t n ≤ least head (suc t) 0
+next-moment head t {n} = cases (wide head)
+  where
+    cases : (b : Bool) → n ≤ cond b 256 64
+        → 10 * 2 ^ 28 + cond b (t * 2 ^ 9) (t * 2 ^ 7) + n * 2 ≤ 10 * 2 ^ 28 + cond b (suc t * 2 ^ 9) (suc t * 2 ^ 7) + 0 * 2
+    cases true l = omega arith
+    cases false l = omega arith
+
+fact-climbs : (head t f value : ℕ) → Climbs (least head t f) (factOf head t f value) (least head t (suc f))
 fact-climbs head t f value = cases (eqb value unknown) (eqb value holds)
   where
-    cases : (b c : Bool) → Climbs (least t f) (cond b [] ((least t f + cond c 0 1) ∷ [])) (least t (suc f))
-    cases true c = let h : least t f ≤ least t (suc f) = omega arith in done h
+    cases : (b c : Bool) → Climbs (least head t f) (cond b [] ((least head t f + cond c 0 1) ∷ [])) (least head t (suc f))
+    cases true c = let h : least head t f ≤ least head t (suc f) = omega arith in done h
     cases false c =
         let p : cond c 0 1 ≤ 1 = cond-all (λ n. n ≤ 1) c (omega arith) (omega arith) in
-        let low : least t f ≤ least t f + cond c 0 1 = omega arith in
-        let high : suc (least t f + cond c 0 1) ≤ least t (suc f) = omega arith in
+        let low : least head t f ≤ least head t f + cond c 0 1 = omega arith in
+        let high : suc (least head t f + cond c 0 1) ≤ least head t (suc f) = omega arith in
         next low (done high)
 
 module _ {job : List ℕ} (w : WellFormed job) (starts : List ℕ) where
-  moment-climbs : (t : ℕ) → Climbs (least t 0) (factsAt job starts t) (least (suc t) 0)
+  moment-climbs : (t : ℕ) → Climbs (least (headWord job) t 0) (factsAt job starts t) (least (headWord job) (suc t) 0)
   unfolding factsAt
   moment-climbs t =
-      let low : least t (fluents job) ≤ least (suc t) 0 = omega (arith, w .few-fluents) in
-      to-higher low
-      (climbs-gather (least t) (λ f. factOf (headWord job) t f (valueAt job starts t f)) (fluents job) (λ f l. fact-climbs (headWord job) t f (valueAt job starts t f)))
+      to-higher (next-moment (headWord job) t (w .fluents-by-head))
+      (climbs-gather (least (headWord job) t) (λ f. factOf (headWord job) t f (valueAt job starts t f)) (fluents job) (λ f l. fact-climbs (headWord job) t f (valueAt job starts t f)))
 
   pub upto-ascend : (t i j : ℕ) → i < j → j < length (factsUpto job starts t) → getD (factsUpto job starts t) i 0 < getD (factsUpto job starts t) j 0
   unfolding factsUpto
-  upto-ascend t = climbs-ascends (climbs-gather (λ u. least u 0) (factsAt job starts) (t + 1) (λ u l. moment-climbs u))
+  upto-ascend t = climbs-ascends (climbs-gather (λ u. least (headWord job) u 0) (factsAt job starts) (t + 1) (λ u l. moment-climbs u))
 
   pub facts-ascend : (i j : ℕ) → i < j → j < length (factsOf job starts) → getD (factsOf job starts) i 0 < getD (factsOf job starts) j 0
   unfolding factsOf

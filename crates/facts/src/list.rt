@@ -2,6 +2,8 @@
 ghost use mathlib.Core.List.{List};
 ghost use Prim.Native.Nat.{ℕ, _+_, _<_, _≤_};
 ghost use lib.ListN.{length};
+ghost use Rattle.words.specs.Fields.{factRoom};
+ghost use Rattle.job.specs.Parts.{headWord, fluents, lastMoment};
 ghost use Rattle.job.specs.Code.WellFormed.{WellFormed};
 ghost use Rattle.history.specs.Code.Tables.{HistoryUpto, History};
 ghost use Rattle.facts.specs.Facts.{factOf, factsUpto, factsOf};
@@ -14,7 +16,7 @@ use words::last_of;
 
 // Writes the fact of one value, where it is not open, to the buffer at position `at`, and answers the position after it.
 fn write_fact(head: u32, t: usize, f: usize, value: u8, buffer: &mut [u32], at: usize) -> usize
-    requires { ⌜ (t < 64) × (f < 64) × (at < length (now buffer)) ⌝ }
+    requires { ⌜ (t < 64) × (f < 256) × (at < length (now buffer)) ⌝ }
     ensures { λ r. ⌜ Written (now (buffer .entry)) at (factOf head t f value) r (now (buffer .exit)) ⌝ }
 {
     if value == OPEN {
@@ -26,14 +28,14 @@ fn write_fact(head: u32, t: usize, f: usize, value: u8, buffer: &mut [u32], at: 
 
 // The same for the facts at moment `t` of the first `n` fluents.
 fn write_facts(
-    history: &[u8; 4096],
+    history: &[u8; 16384],
     head: u32,
     t: usize,
     n: usize,
     buffer: &mut [u32],
     at: usize,
 ) -> usize
-    requires { ⌜ (t < 64) × (n ≤ 64) × (at + n ≤ length (now buffer)) ⌝ }
+    requires { ⌜ (t < 64) × (n ≤ 256) × (at + n ≤ length (now buffer)) ⌝ }
     ensures { λ r. ⌜ Written (now (buffer .entry)) at (rowFacts (now (history .entry)) head t n) r (now (buffer .exit)) ⌝ }
 {
     let mut end = at;
@@ -45,8 +47,17 @@ fn write_facts(
     end
 }
 
+// Writes the facts at moment `t` to the front of the row, and answers how many they are.
+pub fn facts_at(job: &[u32], history: &[u8; 16384], t: usize, row: &mut [u32]) -> usize
+    requires { ⌜ WellFormed (now job) × (t ≤ lastMoment (now job)) × (fluents (now job) ≤ length (now row)) ⌝ }
+    ensures { λ r. ⌜ Filled (now (row .entry)) (rowFacts (now (history .entry)) (headWord (now (job .entry))) t (fluents (now (job .entry)))) r (now (row .exit)) ⌝ }
+{
+    let head = job[0];
+    write_facts(history, head, t, fluents_of(head), row, 0)
+}
+
 // Writes the facts of the moments up to `last` to the front of the buffer, and answers how many they are.
-pub fn fill_upto(job: &[u32], history: &[u8; 4096], last: usize, buffer: &mut [u32]) -> usize
+pub fn fill_upto(job: &[u32], history: &[u8; 16384], last: usize, buffer: &mut [u32]) -> usize
     requires { ⌜ Fillable (now job) last (now buffer) ⌝ }
     ensures { λ r. ⌜ ((starts : List ℕ) → HistoryUpto (now (job .entry)) starts last (now (history .entry))
         → Filled (now (buffer .entry)) (factsUpto (now (job .entry)) starts last) r (now (buffer .exit))) ⌝ }
@@ -63,8 +74,8 @@ pub fn fill_upto(job: &[u32], history: &[u8; 4096], last: usize, buffer: &mut [u
 }
 
 // The same for all facts.
-pub fn fill_facts(job: &[u32], history: &[u8; 4096], buffer: &mut [u32]) -> usize
-    requires { ⌜ WellFormed (now job) × (4096 ≤ length (now buffer)) ⌝ }
+pub fn fill_facts(job: &[u32], history: &[u8; 16384], buffer: &mut [u32]) -> usize
+    requires { ⌜ WellFormed (now job) × (factRoom (headWord (now job)) ≤ length (now buffer)) ⌝ }
     ensures { λ r. ⌜ ((starts : List ℕ) → History (now (job .entry)) starts (now (history .entry))
         → Filled (now (buffer .entry)) (factsOf (now (job .entry)) starts) r (now (buffer .exit))) ⌝ }
 {

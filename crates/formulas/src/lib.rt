@@ -38,7 +38,7 @@ fn form_value(
     or: &[u8; 9],
     head: u32,
     w: u32,
-    history: &[u8; 4096],
+    history: &[u8; 16384],
     values: &[u8; 4096],
     t: usize,
 ) -> u8
@@ -65,7 +65,7 @@ fn fill_moment(
     job: &[u32],
     formulas: &[usize; 64],
     count: usize,
-    history: &[u8; 4096],
+    history: &[u8; 16384],
     t: usize,
     values: &mut [u8; 4096],
 )
@@ -89,7 +89,7 @@ pub fn formula_values(
     job: &[u32],
     formulas: &[usize; 64],
     count: usize,
-    history: &[u8; 4096],
+    history: &[u8; 16384],
 ) -> [u8; 4096]
     requires { ⌜ Connectives (now and) (now or) × Grounds (now job) (now formulas) count (now history) ⌝ }
     ensures { λ r. ⌜ ((starts : List ℕ) → History (now (job .entry)) starts (now (history .entry))
@@ -110,7 +110,7 @@ pub fn standard_values(
     job: &[u32],
     formulas: &[usize; 64],
     count: usize,
-    history: &[u8; 4096],
+    history: &[u8; 16384],
 ) -> [u8; 4096]
     requires { ⌜ Grounds (now job) (now formulas) count (now history) ⌝ }
     ensures { λ r. ⌜ ((starts : List ℕ) → History (now (job .entry)) starts (now (history .entry))

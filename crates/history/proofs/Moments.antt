@@ -19,8 +19,8 @@ use Rattle.history.proofs.Stores.{any-gives, overlaid-hit, overlaid-ope
 use Rattle.history.proofs.Held.{next-held}
 
 -- the values that an action makes, from its laws
-pub effect-row : (job : List ℕ) (a : ℕ) {row : List ℕ} → Overlaid 64 (makesFluent (headWord job)) (λ f. lawValue (headWord job)) (replicate 64 unknown) (lawsOf job a) row
-    → (f : ℕ) → f < 64 → getD row f 0 ≡ effect job a f
+pub effect-row : (job : List ℕ) (a : ℕ) {row : List ℕ} → Overlaid 256 (makesFluent (headWord job)) (λ f. lawValue (headWord job)) (replicate 256 unknown) (lawsOf job a) row
+    → (f : ℕ) → f < 256 → getD row f 0 ≡ effect job a f
 unfolding effect
 effect-row job a = overlaid-open
 

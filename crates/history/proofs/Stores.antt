@@ -86,34 +86,34 @@ module _ {row : List ℕ} {a : ℕ} {old : List ℕ} where
   pub row-none : RowStored row a 0 old old
   row-none = record { size = refl; here = λ f l. absurd (omega arith); earlier = λ i l. refl }
 
-  pub row-more : {n : ℕ} (cur : List ℕ) → a * 64 + n < length cur → RowStored row a n old cur
-      → RowStored row a (n + 1) old (set cur (a * 64 + n) (getD row n 0))
+  pub row-more : {n : ℕ} (cur : List ℕ) → a * 256 + n < length cur → RowStored row a n old cur
+      → RowStored row a (n + 1) old (set cur (a * 256 + n) (getD row n 0))
   row-more {n} cur r h =
       record {
-        size = length-set cur (a * 64 + n) (getD row n 0) ∙ h .size;
-        here = entries-more (λ f. a * 64 + f) (λ f x. x ≡ getD row f 0) cur n (getD row n 0) r (λ f l q. omega arith) (h .here) refl;
-        earlier = λ i l. rw (getD-set-other cur (a * 64 + n) i (getD row n 0) 0 (λ q. omega arith)) (h .earlier i l);
+        size = length-set cur (a * 256 + n) (getD row n 0) ∙ h .size;
+        here = entries-more (λ f. a * 256 + f) (λ f x. x ≡ getD row f 0) cur n (getD row n 0) r (λ f l q. omega arith) (h .here) refl;
+        earlier = λ i l. rw (getD-set-other cur (a * 256 + n) i (getD row n 0) 0 (λ q. omega arith)) (h .earlier i l);
       }
 
--- a table of rows of 64 on the way: the first n entries of each row before row a
+-- a table of rows of 256 on the way: the first n entries of each row before row a
 pub record Rows (value : ℕ → ℕ → ℕ) (n a : ℕ) (table : List ℕ) : Type 0 where
-  pub size : length table ≡ 4096
-  pub entry : (b f : ℕ) → b < a → f < n → getD table (b * 64 + f) 0 ≡ value b f
+  pub size : length table ≡ 16384
+  pub entry : (b f : ℕ) → b < a → f < n → getD table (b * 256 + f) 0 ≡ value b f
 
 module _ {value : ℕ → ℕ → ℕ} {n : ℕ} where
-  pub rows-none : {v : ℕ} → Rows value n 0 (replicate 4096 v)
-  rows-none {v} = record { size = length-replicate {A = ℕ} 4096 v; entry = λ b f l m. absurd (omega arith) }
+  pub rows-none : {v : ℕ} → Rows value n 0 (replicate 16384 v)
+  rows-none {v} = record { size = length-replicate {A = ℕ} 16384 v; entry = λ b f l m. absurd (omega arith) }
 
   -- one row more
-  pub rows-more : {a : ℕ} {row table new : List ℕ} → n ≤ 64 → Rows value n a table → RowStored row a 64 table new
+  pub rows-more : {a : ℕ} {row table new : List ℕ} → n ≤ 256 → Rows value n a table → RowStored row a 256 table new
       → ((f : ℕ) → f < n → getD row f 0 ≡ value a f) → Rows value n (a + 1) new
   rows-more {a} {row} {table} {new} few all stored this =
       record {
         size = stored .size ∙ all .size;
         entry =
             λ b f l m.
-            below-more (λ (k : ℕ). getD new (k * 64 + f) 0 ≡ value k f) a
-            (λ k h. stored .earlier (k * 64 + f) (omega arith) ∙ all .entry k f h m)
+            below-more (λ (k : ℕ). getD new (k * 256 + f) 0 ≡ value k f) a
+            (λ k h. stored .earlier (k * 256 + f) (omega arith) ∙ all .entry k f h m)
             (stored .here f (omega arith) ∙ this f m)
             b l;
       }

@@ -4,7 +4,8 @@ use mathlib.Core.List.{List, [], _∷_}
 use Prim.Native.Nat.{ℕ, zero, suc, _≤_}
 use native.Mathlib.Omega.{arith}
 use lib.Dec.{eqb}
-use Rattle.words.specs.Fields.{field, unknown, roleOf, knownValue}
+use Rattle.words.specs.Fields.{unknown, roleOf, knownValue}
+use Rattle.words.proofs.Wide.{known-most}
 use Rattle.words.specs.Scan.{any, findOr}
 use Rattle.words.proofs.Choices.{cond-all}
 use Rattle.job.specs.Parts.{headWord}
@@ -27,7 +28,7 @@ module _ (job : List ℕ) where
   unfolding initially
   initial-most f =
       gives-most (lists (headWord job) f) (knownValue (headWord job)) unknown
-      (λ w. cond-all (λ v. v ≤ 2) (eqb (field w 6 6) 0) (omega arith) (omega arith)) (omega arith) job
+      (known-most (headWord job)) (omega arith) job
 
   pub value-most : (starts : List ℕ) (t f : ℕ) → valueAt job starts t f ≤ 2
   unfolding valueAt nextValue

@@ -28,9 +28,9 @@ use words::known_value;
 use words::start_action;
 
 // Stores what the word `w` says that is initially known.
-fn store_known(head: u32, w: u32, state: &mut [u8; 64])
-    requires { ⌜ length (now state) ≡ 64 ⌝ }
-    ensures { λ _. ⌜ Overlaid 64 (lists head) (λ f. knownValue head) (now (state .entry)) (w ∷ []) (now (state .exit)) ⌝ }
+fn store_known(head: u32, w: u32, state: &mut [u8; 256])
+    requires { ⌜ length (now state) ≡ 256 ⌝ }
+    ensures { λ _. ⌜ Overlaid 256 (lists head) (λ f. knownValue head) (now (state .entry)) (w ∷ []) (now (state .exit)) ⌝ }
 {
     if kind_of(w) == KNOWN {
         state[fluent_of(head, w)] = known_value(head, w);
@@ -38,12 +38,12 @@ fn store_known(head: u32, w: u32, state: &mut [u8; 64])
 }
 
 // The state at moment 0: from the last word to the first, so that the first on a fluent prevails.
-fn initial_state(job: &[u32]) -> [u8; 64]
+fn initial_state(job: &[u32]) -> [u8; 256]
     requires { ⌜ WellFormed (now job) ⌝ }
     ensures { λ r. ⌜ StateAt (now (job .entry)) [] 0 r ⌝ }
 {
     let head = job[0];
-    let mut state = [OPEN; 64];
+    let mut state = [OPEN; 256];
     let mut i = job.len();
     while 0 < i {
         i -= 1;
@@ -66,8 +66,8 @@ fn changed(hiding: bool, value: u8, old: u8) -> u8
 }
 
 // The same for the first `n` fluents and action `a`.
-fn apply(effects: &[u8; 4096], a: usize, n: usize, hiding: bool, state: &mut [u8; 64])
-    requires { ⌜ (a < 64) × (n ≤ 64) × (n ≤ length (now state)) ⌝ }
+fn apply(effects: &[u8; 16384], a: usize, n: usize, hiding: bool, state: &mut [u8; 256])
+    requires { ⌜ (a < 64) × (n ≤ 256) × (n ≤ length (now state)) ⌝ }
     ensures { λ _. ⌜ Mapped n (changedBy (now (effects .entry)) a hiding) (now (state .entry)) (now (state .exit)) ⌝ }
 {
     let mut f = 0;
@@ -81,11 +81,11 @@ fn apply(effects: &[u8; 4096], a: usize, n: usize, hiding: bool, state: &mut [u8
 fn apply_start(
     job: &[u32],
     durations: &[usize; 64],
-    effects: &[u8; 4096],
+    effects: &[u8; 16384],
     s: u32,
     hiding: bool,
     t: usize,
-    state: &mut [u8; 64],
+    state: &mut [u8; 256],
 )
     requires { ⌜ Walkable (now job) (now durations) (now effects) (s ∷ []) × (fluents (now job) ≤ length (now state)) ⌝ }
     ensures { λ _. ⌜ AfterPass (now (job .entry)) hiding t (s ∷ []) (now (state .entry)) (now (state .exit)) ⌝ }
@@ -99,11 +99,11 @@ fn apply_start(
 fn apply_starts(
     job: &[u32],
     durations: &[usize; 64],
-    effects: &[u8; 4096],
+    effects: &[u8; 16384],
     starts: &[u32],
     hiding: bool,
     t: usize,
-    state: &mut [u8; 64],
+    state: &mut [u8; 256],
 )
     requires { ⌜ Walkable (now job) (now durations) (now effects) (now starts) × (fluents (now job) ≤ length (now state)) ⌝ }
     ensures { λ _. ⌜ AfterPass (now (job .entry)) hiding t (now (starts .entry)) (now (state .entry)) (now (state .exit)) ⌝ }
@@ -121,12 +121,12 @@ fn apply_starts(
 fn step(
     job: &[u32],
     durations: &[usize; 64],
-    effects: &[u8; 4096],
+    effects: &[u8; 16384],
     starting: &[u32],
     t: usize,
     held: &mut [u32],
     count: usize,
-    state: &mut [u8; 64],
+    state: &mut [u8; 256],
 ) -> usize
     requires { ⌜ Steppable (now job) (now durations) (now effects) (now starting) t (now held) count (now state) ⌝ }
     ensures { λ r. ⌜ ((S : List ℕ) → Named (now (job .entry)) S → Ascending S → now (starting .entry) ≡ startingAt S (t + 1) → Carried (now (job .entry)) S t (now (held .entry)) count (now (state .entry)) → Carried (now (job .entry)) S (t + 1) (now (held .exit)) r (now (state .exit))) ⌝ }
@@ -143,14 +143,14 @@ fn step(
 pub fn history(
     job: &[u32],
     durations: &[usize; 64],
-    effects: &[u8; 4096],
+    effects: &[u8; 16384],
     starts: &[u32],
     last: usize,
-) -> [u8; 4096]
+) -> [u8; 16384]
     requires { ⌜ Walkable (now job) (now durations) (now effects) (now starts) × Ascending (now starts) × (length (now starts) ≤ 4096) × (last < 64) ⌝ }
     ensures { λ r. ⌜ HistoryUpto (now (job .entry)) (now (starts .entry)) last r ⌝ }
 {
-    let mut table = [OPEN; 4096];
+    let mut table = [OPEN; 16384];
     let mut state = initial_state(job);
     store_row(&state, 0, &mut table);
     let mut held = [0u32; 4096];

@@ -56,9 +56,9 @@ pub fn laws_of<'a>(job: &'a [u32], places: &[usize; 64], a: usize) -> &'a [u32]
 }
 
 // Stores what the law `w` makes, over the values that later laws made.
-fn store_law(head: u32, w: u32, row: &mut [u8; 64])
-    requires { ⌜ length (now row) ≡ 64 ⌝ }
-    ensures { λ _. ⌜ Overlaid 64 (makesFluent head) (λ f. lawValue head) (now (row .entry)) (w ∷ []) (now (row .exit)) ⌝ }
+fn store_law(head: u32, w: u32, row: &mut [u8; 256])
+    requires { ⌜ length (now row) ≡ 256 ⌝ }
+    ensures { λ _. ⌜ Overlaid 256 (makesFluent head) (λ f. lawValue head) (now (row .entry)) (w ∷ []) (now (row .exit)) ⌝ }
 {
     let role = role_of(head, w);
     if makes_value(role) {
@@ -67,10 +67,10 @@ fn store_law(head: u32, w: u32, row: &mut [u8; 64])
 }
 
 // The values that an action with these laws makes of the fluents: from the last law to the first, so that the first prevails.
-fn effects_row(head: u32, laws: &[u32]) -> [u8; 64]
-    ensures { λ r. ⌜ Overlaid 64 (makesFluent head) (λ f. lawValue head) (replicate 64 unknown) (now (laws .entry)) r ⌝ }
+fn effects_row(head: u32, laws: &[u32]) -> [u8; 256]
+    ensures { λ r. ⌜ Overlaid 256 (makesFluent head) (λ f. lawValue head) (replicate 256 unknown) (now (laws .entry)) r ⌝ }
 {
-    let mut row = [OPEN; 64];
+    let mut row = [OPEN; 256];
     let mut i = laws.len();
     while 0 < i {
         i -= 1;
@@ -80,9 +80,9 @@ fn effects_row(head: u32, laws: &[u32]) -> [u8; 64]
 }
 
 // Stores row `a` of a table.
-pub(crate) fn store_row(row: &[u8; 64], a: usize, table: &mut [u8; 4096])
-    requires { ⌜ (a < 64) × (length (now table) ≡ 4096) ⌝ }
-    ensures { λ _. ⌜ RowStored (now (row .entry)) a 64 (now (table .entry)) (now (table .exit)) ⌝ }
+pub(crate) fn store_row(row: &[u8; 256], a: usize, table: &mut [u8; 16384])
+    requires { ⌜ (a < 64) × (length (now table) ≡ 16384) ⌝ }
+    ensures { λ _. ⌜ RowStored (now (row .entry)) a 256 (now (table .entry)) (now (table .exit)) ⌝ }
 {
     let mut f = 0;
     while f < FLUENTS {
@@ -91,13 +91,13 @@ pub(crate) fn store_row(row: &[u8; 64], a: usize, table: &mut [u8; 4096])
     }
 }
 
-pub fn effects(job: &[u32], places: &[usize; 64]) -> [u8; 4096]
+pub fn effects(job: &[u32], places: &[usize; 64]) -> [u8; 16384]
     requires { ⌜ WellFormed (now job) × Indexed (now job) 3 (now places) ⌝ }
     ensures { λ r. ⌜ Effects (now (job .entry)) r ⌝ }
 {
     let head = job[0];
     let n = actions_of(head);
-    let mut table = [OPEN; 4096];
+    let mut table = [OPEN; 16384];
     let mut a = 0;
     while a < n {
         let row = effects_row(head, laws_of(job, places, a));

@@ -16,7 +16,7 @@ use Rattle.starts.specs.Code.Given.{Paired, Compared}
 
 -- two actions are opposed on a fluent where their effects in the table are
 pub opposed-read : {job effects : List ℕ} {a b : ℕ} → Paired job effects a b → (f : ℕ) → f < fluents job
-    → let x = getD effects (a * 64 + f) 0 in let y = getD effects (b * 64 + f) 0 in
+    → let x = getD effects (a * 256 + f) 0 in let y = getD effects (b * 256 + f) 0 in
     opposed job a b f ≡ ((eqb x 2 && eqb y 0) || (eqb x 0 && eqb y 2))
 opposed-read {a} {b} given f l = rw (given .makes .entry a f (given .first) l, given .makes .entry b f (given .second) l)
 

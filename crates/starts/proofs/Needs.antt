@@ -37,17 +37,17 @@ module _ {job places history starts : List ℕ} (given : Recorded job places his
           rw (entry .0, same)
           (given .formed .law (p + i) (omega (arith, entry .2, length-drop p job)) (eqb-true (kind (getD job (p + i) 0)) 4 (rw same at (entry .1))))
 
-  pub needs-read : (t : ℕ) → t ≤ given .last → any (unmet (headWord job) (λ f. getD history (t * 64 + f) 0)) (lawsOf job a) ≡ unmetAt job starts t a
+  pub needs-read : (t : ℕ) → t ≤ given .last → any (unmet (headWord job) (λ f. getD history (t * 256 + f) 0)) (lawsOf job a) ≡ unmetAt job starts t a
   needs-read t m = any-agree _ _ (each-of (lawsOf job a) agree)
     where
       agree : (i : ℕ) → i < length (lawsOf job a)
-          → unmet (headWord job) (λ f. getD history (t * 64 + f) 0) (getD (lawsOf job a) i 0) ≡ unmet (headWord job) (valueAt job starts t) (getD (lawsOf job a) i 0)
+          → unmet (headWord job) (λ f. getD history (t * 256 + f) 0) (getD (lawsOf job a) i 0) ≡ unmet (headWord job) (valueAt job starts t) (getD (lawsOf job a) i 0)
       agree i l = rw (given .values .entry t (fluentOf (headWord job) (getD (lawsOf job a) i 0)) m (law-fluent i l))
 
 -- row 10 by what the code has read of word i: its action a with its laws, its moment u, and whether one of them is unmet then
 pub unmet-read : {job places history starts : List ℕ} → Recorded job places history starts → {i : ℕ} → i < length starts
     → {a : ℕ} → a ≡ startAction (getD starts i 0) → {laws : List ℕ} → laws ≡ lawsOf job a → {u : ℕ} → u ≡ startMoment (getD starts i 0)
-    → {r : Bool} → r ≡ any (unmet (headWord job) (λ f. getD history (u * 64 + f) 0)) laws → needsUnmet job starts i ≡ r
+    → {r : Bool} → r ≡ any (unmet (headWord job) (λ f. getD history (u * 256 + f) 0)) laws → needsUnmet job starts i ≡ r
 unfolding needsUnmet
 unmet-read given {i} l ea el eu er =
     let right = right-word (given .words) i l in

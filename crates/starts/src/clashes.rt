@@ -18,7 +18,7 @@ use history::finish_of;
 use words::*;
 
 // Whether two actions clash, without a way out of the loop, so that it can be done on many fluents at once; and the table of all pairs.
-pub fn has_clash(job: &[u32], effects: &[u8; 4096], a: usize, b: usize) -> bool
+pub fn has_clash(job: &[u32], effects: &[u8; 16384], a: usize, b: usize) -> bool
     requires { ⌜ Paired (now job) (now effects) a b ⌝ }
     ensures { λ r. ⌜ r ≡ clash (now (job .entry)) a b ⌝ }
 {
@@ -34,7 +34,7 @@ pub fn has_clash(job: &[u32], effects: &[u8; 4096], a: usize, b: usize) -> bool
     found
 }
 
-fn clash_entry(job: &[u32], effects: &[u8; 4096], k: usize) -> u8
+fn clash_entry(job: &[u32], effects: &[u8; 16384], k: usize) -> u8
     requires { ⌜ WellFormed (now job) × Effects (now job) (now effects) ⌝ }
     ensures { λ r. ⌜ (k / 64 < actions (now (job .entry)) → k % 64 < actions (now (job .entry)) → r ≡ indicator (clash (now (job .entry)) (k / 64) (k % 64))) ⌝ }
 {
@@ -50,7 +50,7 @@ fn clash_entry(job: &[u32], effects: &[u8; 4096], k: usize) -> u8
     if has_clash(job, effects, a, b) { 1 } else { 0 }
 }
 
-fn clash_table(job: &[u32], effects: &[u8; 4096]) -> [u8; 4096]
+fn clash_table(job: &[u32], effects: &[u8; 16384]) -> [u8; 4096]
     requires { ⌜ WellFormed (now job) × Effects (now job) (now effects) ⌝ }
     ensures { λ r. ⌜ Clashes (now (job .entry)) r ⌝ }
 {
@@ -83,7 +83,7 @@ fn clashes_after(job: &[u32], latest: &[usize; 64], table: &[u8; 4096], b: usize
 pub fn first_clash(
     job: &[u32],
     durations: &[usize; 64],
-    effects: &[u8; 4096],
+    effects: &[u8; 16384],
     starts: &[u32],
 ) -> Refusal
     requires { ⌜ Timed (now job) (now durations) (now starts) × Effects (now job) (now effects) ⌝ }

@@ -33,7 +33,7 @@ pub use unmet::has_unmet;
 pub fn check_times(
     job: &[u32],
     durations: &[usize; 64],
-    effects: &[u8; 4096],
+    effects: &[u8; 16384],
     starts: &[u32],
 ) -> Refusal
     requires { ⌜ Tabled (now job) (now durations) (now effects) ⌝ }

@@ -13,18 +13,18 @@ use history::laws_of;
 use words::*;
 
 // Whether the law `w` needs what the history does not say of moment `t`; whether one of an action's laws does.
-fn is_unmet(head: u32, history: &[u8; 4096], t: usize, w: u32) -> bool
+fn is_unmet(head: u32, history: &[u8; 16384], t: usize, w: u32) -> bool
     requires { ⌜ t < 64 ⌝ }
-    ensures { λ r. ⌜ r ≡ unmet head (λ f. getD (now (history .entry)) (t * 64 + f) 0) w ⌝ }
+    ensures { λ r. ⌜ r ≡ unmet head (λ f. getD (now (history .entry)) (t * 256 + f) 0) w ⌝ }
 {
     let role = role_of(head, w);
     let value = history[t * FLUENTS + fluent_of(head, w)];
     ((role == 0) & !(value == HOLDS)) | ((role == 1) & !(value == FAILS))
 }
 
-pub fn has_unmet(head: u32, history: &[u8; 4096], t: usize, laws: &[u32]) -> bool
+pub fn has_unmet(head: u32, history: &[u8; 16384], t: usize, laws: &[u32]) -> bool
     requires { ⌜ t < 64 ⌝ }
-    ensures { λ r. ⌜ r ≡ any (unmet head (λ f. getD (now (history .entry)) (t * 64 + f) 0)) (now (laws .entry)) ⌝ }
+    ensures { λ r. ⌜ r ≡ any (unmet head (λ f. getD (now (history .entry)) (t * 256 + f) 0)) (now (laws .entry)) ⌝ }
 {
     let mut i = 0;
     while i < laws.len() {
@@ -40,7 +40,7 @@ pub fn has_unmet(head: u32, history: &[u8; 4096], t: usize, laws: &[u32]) -> boo
 pub fn check_needs(
     job: &[u32],
     places: &[usize; 64],
-    history: &[u8; 4096],
+    history: &[u8; 16384],
     starts: &[u32],
 ) -> Refusal
     requires { ⌜ Recorded (now job) (now places) (now history) (now starts) ⌝ }

@@ -19,7 +19,7 @@ pub record Connectives (conj disj : List ℕ) : Type 0 where
 
 -- the fluents by a history, whose entries for the job are each one of the three values
 abbrev pub tabled : List ℕ → ℕ → ℕ → ℕ
-tabled history t f = getD history (t * 64 + f) 0
+tabled history t f = getD history (t * 256 + f) 0
 
 pub record Valued (job history : List ℕ) : Type 0 where
   pub most : (t f : ℕ) → t ≤ lastMoment job → f < fluents job → tabled history t f ≤ 2

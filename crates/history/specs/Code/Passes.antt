@@ -26,7 +26,7 @@ abbrev pub changed : Bool → ℕ → ℕ → ℕ
 changed hiding value old = cond (not (eqb value unknown)) (cond hiding unknown value) old
 
 abbrev pub changedBy : List ℕ → ℕ → Bool → ℕ → ℕ → ℕ
-changedBy effects a hiding f old = changed hiding (getD effects (a * 64 + f) 0) old
+changedBy effects a hiding f old = changed hiding (getD effects (a * 256 + f) 0) old
 
 -- a pass to moment t
 abbrev pub AfterPass : List ℕ → Bool → ℕ → List ℕ → List ℕ → List ℕ → Type 0

@@ -17,8 +17,8 @@ pub record Mapped (n : ℕ) (make : ℕ → ℕ → ℕ) (old new : List ℕ) : 
   pub value : (f : ℕ) → f < n → getD new f 0 ≡ make f (getD old f 0)
   pub rest : (f : ℕ) → n ≤ f → getD new f 0 ≡ getD old f 0
 
--- a table of rows of 64: the first n entries of row a are those of `row`, and those of the rows before it are as they were
+-- a table of rows of 256: the first n entries of row a are those of `row`, and those of the rows before it are as they were
 pub record RowStored (row : List ℕ) (a n : ℕ) (old new : List ℕ) : Type 0 where
   pub size : length new ≡ length old
-  pub here : (f : ℕ) → f < n → getD new (a * 64 + f) 0 ≡ getD row f 0
-  pub earlier : (i : ℕ) → i < a * 64 → getD new i 0 ≡ getD old i 0
+  pub here : (f : ℕ) → f < n → getD new (a * 256 + f) 0 ≡ getD row f 0
+  pub earlier : (i : ℕ) → i < a * 256 → getD new i 0 ≡ getD old i 0

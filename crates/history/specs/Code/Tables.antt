@@ -18,10 +18,10 @@ pub record Durations (job table : List ℕ) : Type 0 where
 abbrev pub tabledFinish : List ℕ → ℕ → ℕ
 tabledFinish table s = startMoment s + getD table (startAction s) 0
 
--- entry a * 64 + f has the value that action a makes of fluent f
+-- entry a * 256 + f has the value that action a makes of fluent f
 pub record Effects (job table : List ℕ) : Type 0 where
-  pub size : length table ≡ 4096
-  pub entry : (a f : ℕ) → a < actions job → f < fluents job → getD table (a * 64 + f) 0 ≡ effect job a f
+  pub size : length table ≡ 16384
+  pub entry : (a f : ℕ) → a < actions job → f < fluents job → getD table (a * 256 + f) 0 ≡ effect job a f
 
 -- the two tables of a job's actions
 pub record ActionTables (job lasts makes : List ℕ) : Type 0 where
@@ -43,10 +43,10 @@ pub record StateAt (job starts : List ℕ) (t : ℕ) (state : List ℕ) : Type 0
   pub room : fluents job ≤ length state
   pub value : (f : ℕ) → f < fluents job → getD state f 0 ≡ valueAt job starts t f
 
--- the history of a plan up to moment k: entry t * 64 + f has the value of fluent f at moment t; the whole history
+-- the history of a plan up to moment k: entry t * 256 + f has the value of fluent f at moment t; the whole history
 pub record HistoryUpto (job starts : List ℕ) (k : ℕ) (table : List ℕ) : Type 0 where
-  pub size : length table ≡ 4096
-  pub entry : (t f : ℕ) → t ≤ k → f < fluents job → getD table (t * 64 + f) 0 ≡ valueAt job starts t f
+  pub size : length table ≡ 16384
+  pub entry : (t f : ℕ) → t ≤ k → f < fluents job → getD table (t * 256 + f) 0 ≡ valueAt job starts t f
 
 abbrev pub History : List ℕ → List ℕ → List ℕ → Type 0
 History job starts table = HistoryUpto job starts (lastMoment job) table

@@ -1,9 +1,10 @@
 -- `facts::list::fill_upto` meets its contract. The invariant: the facts of the moments before `t` are written. Assumes nothing.
 use mathlib.Core.List.{List}
-use Prim.Native.Nat.{ℕ, _+_, _-_, _≤_}
+use Prim.Native.Nat.{ℕ, suc, _+_, _-_, _*_, _≤_}
+use native.Mathlib.Nat.{le-trans, mul-le-mul-right, suc-mul}
 use lib.ListN.{length, getD}
-use Rattle.facts.specs.Code.Written.{Written}
-use Rattle.facts.proofs.Lists.{rowsFacts, rows-none, rows-more, rows-most, rows-filled, written-none, written-more, written-size}
+use Rattle.facts.specs.Code.Written.{rowsFacts, Written}
+use Rattle.facts.proofs.Lists.{room-for, rows-none, rows-more, rows-most, rows-filled, written-none, written-more, written-size}
 use native.Mathlib.Omega.{arith}
 use borrow.Author.Needs.{needs}
 use Rattle.facts.proofs.list.fill_upto.Statement.{statement}
@@ -12,9 +13,9 @@ use Rattle.facts.proofs.list.fill_upto.Tie as tie
 record Turn (history : List ℕ) (head n last t : ℕ) (old : List ℕ) (at : ℕ) (buffer : List ℕ) : Type 0 where
   bound : t ≤ last + 1
   soon : last ≤ 63
-  few : n ≤ 64
-  room : 4096 ≤ length old
-  written : Written old 0 (rowsFacts history head n t) at buffer
+  few : n ≤ 256
+  room : suc last * n ≤ length old
+  written : Written old 0 (rowsFacts history head n 0 t) at buffer
 
 abbrev Inv-loop : tie.InvT-loop
 Inv-loop job history last buffer₀ head n at₀ t₀ buffer at t = Turn history head n last t buffer₀ at buffer
@@ -35,7 +36,7 @@ loop-holds c =
       bound = omega arith;
       soon = omega (arith, p .moment, p .well .few-moments);
       few = rw (c .fluents-of .ensures .0) (p .well .few-fluents);
-      room = p .room;
+      room = rw (c .fluents-of .ensures .0) (le-trans (room-for _ (p .well) _ (omega (arith, p .moment, p .well .few-moments))) (p .room));
       written = simp rows-none written-none;
     }
 
@@ -43,9 +44,11 @@ write-facts-requires : tie.Need-write-facts-requires Inv-loop μ-loop
 write-facts-requires c κs =
     let a = entry (c .before .before .before) .args in
     let turn = c .before .before .loop in
+    let n = c .before .before .before .fluents-of .result in
     let w = turn .inv .written in
-    let most = rows-most (a .history .now) (getD (a .job .now) 0 0) _ (turn .inv .few) (turn .t) in
-    (omega arith, turn .inv .few, omega (arith, turn .inv .room, w .next, written-size w, most))
+    let most = rows-most (a .history .now) (getD (a .job .now) 0 0) n 0 (turn .t) in
+    let step : suc (turn .t) ≤ suc (a .last) = omega arith in
+    (omega arith, turn .inv .few, omega (arith, turn .inv .room, w .next, written-size w, most, mul-le-mul-right n step, suc-mul (turn .t) n))
 
 loop-again : tie.Need-loop-again Inv-loop μ-loop
 loop-again c =

@@ -12,7 +12,7 @@ use Rattle.history.proofs.states.initial_state.Statement.{statement}
 use Rattle.history.proofs.states.initial_state.Tie as tie
 
 abbrev Inv-loop : tie.InvT-loop
-Inv-loop job head state₀ i₀ state i = (i ≤ length job) × Overlaid 64 (lists head) (λ f. knownValue head) (replicate 64 unknown) (drop i job) state
+Inv-loop job head state₀ i₀ state i = (i ≤ length job) × Overlaid 256 (lists head) (λ f. knownValue head) (replicate 256 unknown) (drop i job) state
 
 abbrev μ-loop : tie.MeasureT-loop
 μ-loop job head state₀ i₀ state i = i

@@ -19,13 +19,13 @@ returns c =
     let w = start .args .w in
     let old = start .args .state .now in
     rw (c .fluent-of .ensures .0, c .before .known-value .ensures)
-    (overlaid-store 64 (λ v. eqb (kind v) 2) (fluentOf head) (knownValue head) w old (eq-eqb (kind w) 2 (sym (c .before .before .before .kind-of .ensures .0) ∙ c .before .before .if1 .taken)) (omega (arith, start .pre)))
+    (overlaid-store 256 (λ v. eqb (kind v) 2) (fluentOf head) (knownValue head) w old (eq-eqb (kind w) 2 (sym (c .before .before .before .kind-of .ensures .0) ∙ c .before .before .if1 .taken)) (omega (arith, start .pre)))
 
 returns-2 : tie.Need-returns-2
 returns-2 c =
     let head = c .before .before .args .head in
     let w = c .before .before .args .w in
-    overlaid-skip 64 (λ v. eqb (kind v) 2) (λ f v. eqb (fluentOf head v) f) (λ f. knownValue head) w (ne-eqb (kind w) 2 (λ e. c .if1 .left (c .before .kind-of .ensures .0 ∙ e)))
+    overlaid-skip 256 (λ v. eqb (kind v) 2) (λ f v. eqb (fluentOf head v) f) (λ f. knownValue head) w (ne-eqb (kind w) 2 (λ e. c .if1 .left (c .before .kind-of .ensures .0 ∙ e)))
 
 pub store-known-spec : {M : Type 1} → statement M
 store-known-spec =

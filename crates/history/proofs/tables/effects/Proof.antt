@@ -12,7 +12,7 @@ use Rattle.history.proofs.tables.effects.Tie as tie
 record Turn (job : List ℕ) (n a : ℕ) (table : List ℕ) : Type 0 where
   bound : a ≤ n
   few : n ≤ 64
-  stored : Rows (effect job) 64 a table
+  stored : Rows (effect job) 256 a table
 
 abbrev Inv-loop : tie.InvT-loop
 Inv-loop job places head n table₀ a₀ table a = Turn job n a table

@@ -12,7 +12,7 @@ use Rattle.history.proofs.tables.effects_row.Statement.{statement}
 use Rattle.history.proofs.tables.effects_row.Tie as tie
 
 abbrev Inv-loop : tie.InvT-loop
-Inv-loop head laws row₀ i₀ row i = (i ≤ length laws) × Overlaid 64 (makesFluent head) (λ f. lawValue head) (replicate 64 unknown) (drop i laws) row
+Inv-loop head laws row₀ i₀ row i = (i ≤ length laws) × Overlaid 256 (makesFluent head) (λ f. lawValue head) (replicate 256 unknown) (drop i laws) row
 
 abbrev μ-loop : tie.MeasureT-loop
 μ-loop head laws row₀ i₀ row i = i

@@ -23,14 +23,14 @@ returns c =
     let w = start .args .w in
     let old = start .args .row .now in
     rw (c .fluent-of .ensures .0, c .before .made-value .ensures, role-of .role-of .ensures .0)
-    (overlaid-store 64 (λ v. makes (roleOf head v)) (fluentOf head) (lawValue head) w old
+    (overlaid-store 256 (λ v. makes (roleOf head v)) (fluentOf head) (lawValue head) w old
     (rw (role-of .role-of .ensures .0) at (sym (c .before .before .before .makes-value .ensures) ∙ c .before .before .if1 .taken)) (omega (arith, start .pre)))
 
 returns-2 : tie.Need-returns-2
 returns-2 c =
     let head = c .before .before .before .args .head in
     let w = c .before .before .before .args .w in
-    overlaid-skip 64 (λ v. makes (roleOf head v)) (λ f v. eqb (fluentOf head v) f) (λ f. lawValue head) w
+    overlaid-skip 256 (λ v. makes (roleOf head v)) (λ f v. eqb (fluentOf head v) f) (λ f. lawValue head) w
     (rw (c .before .before .role-of .ensures .0) at (sym (c .before .makes-value .ensures) ∙ c .if1 .left))
 
 pub store-law-spec : {M : Type 1} → statement M

@@ -9,10 +9,10 @@ use Rattle.history.proofs.tables.store_row.Statement.{statement}
 use Rattle.history.proofs.tables.store_row.Tie as tie
 
 abbrev Inv-loop : tie.InvT-loop
-Inv-loop row a table₀ f₀ table f = (f ≤ 64) × RowStored row a f table₀ table
+Inv-loop row a table₀ f₀ table f = (f ≤ 256) × RowStored row a f table₀ table
 
 abbrev μ-loop : tie.MeasureT-loop
-μ-loop row a table₀ f₀ table f = 64 - f
+μ-loop row a table₀ f₀ table f = 256 - f
 
 pub store-row-spec : {M : Type 1} → statement M
 store-row-spec =
@@ -20,4 +20,4 @@ store-row-spec =
     (tie.spec Inv-loop μ-loop (λ c. (omega arith, row-none)) (λ c. search needs) (λ c. search needs) (λ c. search needs) (λ c. search needs)
     (λ c. search needs) (λ c. search needs)
     (λ c. (omega arith, row-more _ (omega (arith, c .before .before .loop .inv .1 .size)) (c .before .before .loop .inv .1)))
-    (λ c. let e : c .before .loop .f ≡ 64 = omega arith in rw e at (c .before .loop .inv .1)))
+    (λ c. let e : c .before .loop .f ≡ 256 = omega arith in rw e at (c .before .loop .inv .1)))

@@ -24,7 +24,7 @@ entry c = c .before .before .before .before .before
 below : (c : tie.In-loop Inv-loop μ-loop) → c .before .loop .f < fluents (entry c .args .job .now)
 below c = omega (arith, c .before .before .fluents-of .ensures .0)
 
-rows : (c : tie.In-loop Inv-loop μ-loop) → (entry c .args .a < 64) × (entry c .args .b < 64) × (c .before .loop .f < 64)
+rows : (c : tie.In-loop Inv-loop μ-loop) → (entry c .args .a < 64) × (entry c .args .b < 64) × (c .before .loop .f < 256)
 rows c = let pre = entry c .pre in omega (arith, below c, pre .first, pre .second, pre .formed .few-actions, pre .formed .few-fluents)
 
 loop-holds : tie.Need-loop-holds Inv-loop μ-loop

@@ -10,7 +10,7 @@ use Rattle.starts.proofs.unmet.has_unmet.Statement.{statement}
 use Rattle.starts.proofs.unmet.has_unmet.Tie as tie
 
 abbrev Inv-loop : tie.InvT-loop
-Inv-loop head history t laws i₀ i = AnyFrom (unmet head (λ f. getD history (t * 64 + f) 0)) laws i
+Inv-loop head history t laws i₀ i = AnyFrom (unmet head (λ f. getD history (t * 256 + f) 0)) laws i
 
 abbrev μ-loop : tie.MeasureT-loop
 μ-loop head history t laws i₀ i = length laws - i
