@@ -3,14 +3,17 @@ use mathlib.Core.Bool.{Bool, true, false, cond}
 use mathlib.Core.List.{List, [], _∷_, _++_}
 use mathlib.Core.Path.{_≡_, refl, ap, sym, _∙_}
 use Prim.Native.Nat.{ℕ, _≤_}
+use native.Mathlib.Nat.{le-trans}
 use native.Mathlib.Omega.{arith}
 use borrow.Author.Tests.{eq-eqb, le-ltb}
 use lib.Dec.{eqb}
 use lib.ListN.{length, take, drop, length-append, length-take}
 use lib.Seq.{take-take, take-append-seam, length-take-le, length-front}
 use Rattle.words.specs.Lists.{firstWords}
+use Rattle.words.proofs.Wide.{room-least}
 use Rattle.words.proofs.Lists.{firstWords-take}
 use Rattle.answers.specs.declared.Answer.the-variants.{Accepted, Refused}
+use Rattle.job.specs.Parts.{headWord}
 use Rattle.job.specs.Refusal.{jobRefusal}
 use Rattle.job.proofs.WellFormed.{well-formed}
 use Rattle.moves.specs.Trials.{Trial, Move, fresh, moveRefusal, moved, after, played}
@@ -67,8 +70,9 @@ unfolding showAnswer
 show-accepts job good words room ms buffer l =
     let h = said job good words room ms in
     rw (
-      le-ltb buffer 4096 l,
+      le-ltb buffer 4096 (le-trans (room-least (headWord job)) l),
       eq-eqb (jobRefusal job .number) 0 good,
+      le-ltb buffer _ l,
       le-ltb (length (calledWords job words ms)) 4098 (omega (arith, h .size)),
       h .trial,
       eq-eqb _ 0 (played-passes job good ms),

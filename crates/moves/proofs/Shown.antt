@@ -2,9 +2,12 @@
 use mathlib.Core.List.{List, [], _∷_, _++_, append-assoc, append-nil}
 use mathlib.Core.Path.{_≡_, sym, _∙_}
 use Prim.Native.Nat.{ℕ, _+_, _<_}
+use native.Mathlib.Nat.{le-trans}
 use native.Mathlib.Omega.{arith}
 use borrow.Author.Tests.{eq-eqb, ne-eqb, le-ltb}
 use Rattle.words.specs.Fields.{startWord}
+use Rattle.words.proofs.Wide.{room-least}
+use Rattle.job.specs.Parts.{headWord}
 use Rattle.job.specs.Refusal.{jobRefusal}
 use Rattle.job.specs.Code.WellFormed.{WellFormed}
 use Rattle.job.proofs.WellFormed.{well-formed}
@@ -12,7 +15,7 @@ use Rattle.facts.specs.Facts.{factsAt}
 use Rattle.facts.proofs.Lists.{facts-split, facts-next, facts-before}
 use Rattle.starts.specs.Rows.{startsRefusal}
 use Rattle.starts.proofs.Lawful.{lawful}
-use Rattle.theory.specs.Answers.{planRefusal, fillRefusal, fillAnswer}
+use Rattle.theory.specs.Answers.{fillRefusal, fillAnswer}
 use Rattle.moves.specs.Trials.{Trial, Move, Start, On, ownRefusal, moveRefusal, moved, after, played}
 use Rattle.moves.specs.Calls.{shownFacts}
 use Rattle.moves.specs.Promises.{FillAccepts, ShownAreFilled, RefusedKeeps, Extended, ShownStay}
@@ -21,11 +24,11 @@ use Rattle.moves.proofs.Agree.{at-u, lasts}
 use Rattle.moves.proofs.Played.{named, after-all, played-passing, played-starts}
 
 pub fill-accepts : FillAccepts
-unfolding fillAnswer fillRefusal planRefusal
+unfolding fillAnswer fillRefusal
 fill-accepts job good ms room l =
     let h = played-passing job (well-formed job good) ms in
     let none : startsRefusal job (played job ms .starts) .number ≡ 0 = lawful job (played job ms .starts) (h .small) .1 (h .lawful) in
-    rw (le-ltb room 4096 l, eq-eqb (jobRefusal job .number) 0 good, eq-eqb _ 0 (rw (played-starts job ms) at none))
+    rw (le-ltb room 4096 (le-trans (room-least (headWord job)) l), eq-eqb (jobRefusal job .number) 0 good, le-ltb room _ l, eq-eqb _ 0 (rw (played-starts job ms) at none))
 
 pub shown-are-filled : ShownAreFilled
 shown-are-filled job good ms =

@@ -11,7 +11,7 @@ use Rattle.answers.specs.Rows.{row, firstRow}
 use Rattle.answers.specs.Packed.{answerOf}
 use Rattle.job.specs.Refusal.{jobRefusal}
 use Rattle.facts.specs.Facts.{factsUpto}
-use Rattle.theory.specs.Answers.{bufferRefusal}
+use Rattle.theory.specs.Answers.{bufferRefusal, factRoomRefusal}
 use Rattle.moves.specs.Trials.{Trial, Move, fresh, trialRefusal, moveRefusal, after}
 
 -- a trial's words: its moment, the number of its starts, the starts; the trial that the first 4,098 words say, where those that are not
@@ -39,7 +39,9 @@ shownFacts job T = factsUpto job (T .starts) (T .moment)
 
 unfoldable pub showAnswer : ℕ → List ℕ → List ℕ → Answer
 showAnswer room job words =
-    answerOf (firstRow (bufferRefusal room ∷ jobRefusal job ∷ roomRefusal (length words) ∷ trialRefusal job (trialIn words) ∷ []))
+    answerOf
+    (firstRow
+    (bufferRefusal room ∷ jobRefusal job ∷ factRoomRefusal room job ∷ roomRefusal (length words) ∷ trialRefusal job (trialIn words) ∷ []))
     (length (shownFacts job (trialIn words)))
     0
 

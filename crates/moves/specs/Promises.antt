@@ -4,9 +4,10 @@ use mathlib.Core.Logic.{_↔_}
 use mathlib.Core.Path.{_≡_}
 use Prim.Native.Nat.{ℕ, _^_, _≤_, _<_}
 use lib.ListN.{length}
-use Rattle.words.specs.Fields.{startWord}
+use Rattle.words.specs.Fields.{factRoom, startWord}
 use Rattle.words.specs.Lists.{Each, insert, sorted}
 use Rattle.answers.specs.declared.Answer.the-variants.{Accepted}
+use Rattle.job.specs.Parts.{headWord}
 use Rattle.job.specs.Refusal.{jobRefusal}
 use Rattle.facts.specs.Facts.{factsAfter, factsOf}
 use Rattle.theory.specs.Answers.{planRefusal, fillAnswer}
@@ -23,7 +24,7 @@ PlayedStarts = (job : List ℕ) (ms : List Move) → played job ms .starts ≡ s
 
 abbrev pub FillAccepts : Type 0
 FillAccepts =
-    (job : List ℕ) → jobRefusal job .number ≡ 0 → (ms : List Move) (room : ℕ) → 4096 ≤ room
+    (job : List ℕ) → jobRefusal job .number ≡ 0 → (ms : List Move) (room : ℕ) → factRoom (headWord job) ≤ room
     → fillAnswer room job (sorted (accepted job ms)) ≡ Accepted (length (factsOf job (sorted (accepted job ms)))) 0
 
 -- the facts shown are those of the filler's list for the accepted starts up to the present moment: what follows them there is of later
@@ -73,5 +74,5 @@ CalledSay =
 
 abbrev pub ShowAccepts : Type 0
 ShowAccepts =
-    (job : List ℕ) → jobRefusal job .number ≡ 0 → (words : List ℕ) → 4098 ≤ length words → (ms : List Move) (room : ℕ) → 4096 ≤ room
+    (job : List ℕ) → jobRefusal job .number ≡ 0 → (words : List ℕ) → 4098 ≤ length words → (ms : List Move) (room : ℕ) → factRoom (headWord job) ≤ room
     → showAnswer room job (calledWords job words ms) ≡ Accepted (length (shownFacts job (played job ms))) 0

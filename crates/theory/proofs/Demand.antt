@@ -15,7 +15,7 @@ use Rattle.answers.proofs.Rows.{or-none, or-passed}
 use Rattle.facts.specs.Facts.{factsOf}
 use Rattle.theory.specs.Answers.{bufferRefusal, planRefusal, factsRefusal, fillRefusal, checkAnswer, fillAnswer, written}
 use Rattle.theory.specs.Demand.{PassesExactly, FilledPasses}
-use Rattle.theory.proofs.Laws.{check-rows, equal-passes, passes-equal}
+use Rattle.theory.proofs.Laws.{fill-rows, room-plan, check-rows, equal-passes, passes-equal}
 
 pub passes-exactly : PassesExactly
 passes-exactly job starts facts = (
@@ -39,8 +39,7 @@ module _ (room : ℕ) (job starts : List ℕ) {l c : ℕ} (accepted : fillAnswer
   filled-length = parts .1
 
   plan-passes : planRefusal job starts .number ≡ 0
-  unfolding fillRefusal planRefusal
-  plan-passes = or-none (bufferRefusal room) (planRefusal job starts) (parts .0) .1
+  plan-passes = room-plan room job starts (or-none (bufferRefusal room) _ (rw fill-rows at (parts .0)) .1) .0
 
   -- the first l words of the buffer are that list
   filled-words : (buffer : List ℕ) → take l (written (fillAnswer room job starts) (factsOf job starts) buffer) ≡ factsOf job starts

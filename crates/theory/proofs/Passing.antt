@@ -1,6 +1,6 @@
 -- What a job has that rows 1 to 5 pass, with its index of all its words, and a plan that the rows on starts pass. Assumes nothing.
 use mathlib.Core.List.{List}
-use mathlib.Core.Path.{_≡_, _∙_}
+use mathlib.Core.Path.{_≡_, refl, _∙_}
 use Prim.Native.Nat.{ℕ, _≤_}
 use native.Mathlib.Omega.{arith}
 use borrow.Author.Tests.{eq-eqb}
@@ -9,7 +9,8 @@ use Rattle.job.specs.declared.Checked.{Checked}
 use Rattle.job.specs.declared.Index.{Index}
 use Rattle.job.specs.Refusal.{jobRefusal}
 use Rattle.job.specs.Code.Index.{placesUpto, indexUpto, checkedOf}
-use Rattle.job.specs.Parts.{total, nodeCount}
+use Rattle.words.specs.Fields.{factRoom}
+use Rattle.job.specs.Parts.{headWord, total, nodeCount}
 use Rattle.job.specs.Code.Parts.{formulaCount}
 use Rattle.job.specs.Code.WellFormed.{WellFormed, Indexed}
 use Rattle.job.proofs.WellFormed.{well-formed}
@@ -18,14 +19,22 @@ use Rattle.facts.specs.Facts.{factsOf}
 use Rattle.facts.proofs.Lists.{facts-fit}
 use Rattle.starts.specs.Rows.{startsRefusal}
 use Rattle.answers.specs.declared.Refusal.{Refusal}
-use Rattle.theory.specs.Answers.{planRefusal}
-use Rattle.theory.specs.Code.Judged.{withRefusal, PassedUpto}
+use Rattle.theory.specs.Answers.{factRoomRefusal, planRefusal}
+use Rattle.theory.specs.Code.Judged.{roomCheckedOf, JobChecked, withRefusal, PassedUpto}
 use Rattle.theory.specs.declared.Plan.{Plan}
 use Rattle.job.proofs.WordPositions.{placed, positions-count}
 
 pub checked-refusal : (job : List ℕ) (r : Checked) → r ≡ checkedOf job → r .refusal ≡ jobRefusal job
 unfolding checkedOf
 checked-refusal job r is = rw is
+
+-- the rows of a job leave this, and so do they with row 12 after them
+pub job-checked : (job : List ℕ) (r : Checked) → r ≡ checkedOf job → JobChecked job r
+unfolding checkedOf
+job-checked job r is = rw is (record { good = λ e. e; index = refl })
+
+pub room-checked : (room : ℕ) (job : List ℕ) (r : Checked) → r ≡ roomCheckedOf room job → JobChecked job r
+room-checked room job r is = rw is (record { good = λ e. or-none (jobRefusal job) (factRoomRefusal room job) e .0; index = refl })
 
 -- a plan that passes the rows of its job and its starts: the job is well formed
 pub job-clear : (job starts : List ℕ) → planRefusal job starts .number ≡ 0 → jobRefusal job .number ≡ 0
@@ -48,8 +57,8 @@ passed-still h is = rw is (record {
   history = h .history;
 })
 
--- it has at most 4,096 facts
-pub few-facts : (job starts : List ℕ) → planRefusal job starts .number ≡ 0 → length (factsOf job starts) ≤ 4096
+-- it has no more facts than its head lets it have
+pub few-facts : (job starts : List ℕ) → planRefusal job starts .number ≡ 0 → length (factsOf job starts) ≤ factRoom (headWord job)
 few-facts job starts clear = facts-fit job starts (plan-formed job starts clear)
 
 module _ (job : List ℕ) {index : Index} (clear : jobRefusal job .number ≡ 0) (is : index ≡ checkedOf job .index) where

@@ -13,11 +13,15 @@ use Rattle.job.proofs.Fits.{job-fits}
 use Rattle.facts.specs.Facts.{factsOf}
 use Rattle.starts.specs.Rows.{startsRefusal}
 use Rattle.starts.proofs.RefusalFits.{starts-fit}
-use Rattle.theory.proofs.Laws.{check-rows}
+use Rattle.theory.proofs.Laws.{fill-rows, room-plan, check-rows}
 use Rattle.theory.proofs.Passing.{few-facts}
-use Rattle.theory.specs.Answers.{bufferRefusal, planRefusal, factsRefusal, checkRefusal, fillRefusal, checkAnswer, fillAnswer}
+use Rattle.theory.specs.Code.Judged.{roomCheckedOf}
+use Rattle.words.specs.Fields.{factRoom}
+use Rattle.words.proofs.Wide.{room-most}
+use Rattle.job.specs.Parts.{headWord}
+use Rattle.theory.specs.Answers.{bufferRefusal, factRoomRefusal, planRefusal, factsRefusal, checkRefusal, fillRefusal, checkAnswer, fillAnswer}
 
-differ-fits : (given wanted : List ℕ) (i : ℕ) → i + length wanted ≤ 4096 → Fitting (factsRefusal given wanted i)
+differ-fits : (given wanted : List ℕ) (i : ℕ) → i + length wanted ≤ 16384 → Fitting (factsRefusal given wanted i)
 unfolding factsRefusal
 differ-fits [] [] i l = passed-fits
 differ-fits [] (b ∷ wanted) i l = refusal-fits (omega arith) (omega arith)
@@ -35,11 +39,14 @@ module _ (job starts : List ℕ) (words : (i : ℕ) → getD starts i 0 < 2 ^ 32
       answer-fits (checkRefusal job starts facts) 0 0
       (rw (check-rows job starts facts)
       (next-fits (planRefusal job starts) (factsRefusal facts (factsOf job starts) 0) plan-fits
-      (λ e. differ-fits facts (factsOf job starts) 0 (omega (arith, few-facts job starts e)))))
+      (λ e. differ-fits facts (factsOf job starts) 0 (omega (arith, few-facts job starts e, room-most (headWord job))))))
       (λ e. (omega arith, omega arith))
 
   pub fill-range : (room : ℕ) → InRange (fillAnswer room job starts)
-  unfolding fillAnswer fillRefusal planRefusal
+  unfolding fillAnswer
   fill-range room =
-      answer-fits _ _ 0 (or-fits (bufferRefusal room) (planRefusal job starts) (row-fits (ltb room 4096) 12 0 (omega arith) (omega arith)) plan-fits)
-      (λ e. (omega (arith, few-facts job starts (or-none (bufferRefusal room) (planRefusal job starts) e .1)), omega arith))
+      let short = row-fits (ltb room 4096) 12 0 (omega arith) (omega arith) in
+      let rows = or-fits (jobRefusal job) (factRoomRefusal room job) (job-fits job) (row-fits (ltb room (factRoom (headWord job))) 12 0 (omega arith) (omega arith)) in
+      answer-fits (fillRefusal room job starts) (length (factsOf job starts)) 0
+      (rw fill-rows (or-fits (bufferRefusal room) _ short (or-fits (roomCheckedOf room job .refusal) (startsRefusal job starts) rows (starts-fit job starts words))))
+      (λ e. let clear = room-plan room job starts (or-none (bufferRefusal room) _ (rw fill-rows at e) .1) .0 in (omega (arith, few-facts job starts clear, room-most (headWord job)), omega arith))

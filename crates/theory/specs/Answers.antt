@@ -10,13 +10,19 @@ use Rattle.answers.specs.declared.Answer.{Answer}
 use Rattle.answers.specs.declared.Answer.the-variants.{Accepted, Refused}
 use Rattle.answers.specs.Rows.{refusal, passed, row, firstRow}
 use Rattle.answers.specs.Packed.{answerOf}
+use Rattle.words.specs.Fields.{factRoom}
+use Rattle.job.specs.Parts.{headWord}
 use Rattle.job.specs.Refusal.{jobRefusal}
 use Rattle.facts.specs.Facts.{factsOf}
 use Rattle.starts.specs.Rows.{startsRefusal}
 
--- row 12: the lent buffer is shorter than 4,096 words
+-- row 12: the lent buffer is shorter than 4,096 words; the same again, after the job's rows, where facts are written: it is shorter than the
+-- facts of a plan may be that has a head like the job's
 abbrev pub bufferRefusal : ℕ → Refusal
 bufferRefusal room = row (ltb room 4096) 12 0
+
+abbrev pub factRoomRefusal : ℕ → List ℕ → Refusal
+factRoomRefusal room job = row (ltb room (factRoom (headWord job))) 12 0
 
 -- row 11, on what is left of the two lists at position i: there they differ, or one of them ends
 unfoldable pub factsRefusal : List ℕ → List ℕ → ℕ → Refusal
@@ -25,7 +31,7 @@ factsRefusal [] (b ∷ ys) i = refusal 11 i
 factsRefusal (a ∷ xs) [] i = refusal 11 i
 factsRefusal (a ∷ xs) (b ∷ ys) i = cond (eqb a b) (factsRefusal xs ys (suc i)) (refusal 11 i)
 
--- the rows of a plan: those of its job, then those of its starts; check adds row 11, and fill begins with row 12
+-- the rows of a plan: those of its job, then those of its starts; check adds row 11, and fill has row 12 before each of the two
 abbrev pub planRows : List ℕ → List ℕ → List Refusal
 planRows job starts = jobRefusal job ∷ startsRefusal job starts ∷ []
 
@@ -33,7 +39,7 @@ abbrev pub checkRows : List ℕ → List ℕ → List ℕ → List Refusal
 checkRows job starts facts = planRows job starts ++ (factsRefusal facts (factsOf job starts) 0 ∷ [])
 
 abbrev pub fillRows : ℕ → List ℕ → List ℕ → List Refusal
-fillRows room job starts = bufferRefusal room ∷ planRows job starts
+fillRows room job starts = bufferRefusal room ∷ jobRefusal job ∷ factRoomRefusal room job ∷ startsRefusal job starts ∷ []
 
 unfoldable pub planRefusal : List ℕ → List ℕ → Refusal
 planRefusal job starts = firstRow (planRows job starts)

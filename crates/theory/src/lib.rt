@@ -1,9 +1,17 @@
 // The theory layer's calls, on any lists of words: check and fill.
+ghost use mathlib.Core.List.{List};
 ghost use mathlib.Core.Path.{_≡_};
-ghost use lib.ListN.{length};
+ghost use Prim.Native.Nat.{ℕ, _≤_};
+ghost use lib.ListN.{length, drop};
+ghost use Rattle.answers.specs.Rows.{firstRefusal};
+ghost use Rattle.job.specs.Parts.{headWord};
+ghost use Rattle.job.specs.Code.WellFormed.{WellFormed};
+ghost use Rattle.history.specs.Code.Tables.{History};
 ghost use Rattle.facts.specs.Facts.{factsOf};
+ghost use Rattle.starts.specs.Rows.{startsRefusal};
 ghost use Rattle.theory.specs.Answers.{bufferRefusal, planRefusal, factsRefusal, checkRefusal, checkAnswer, fillAnswer, written};
-ghost use Rattle.theory.specs.Code.Judged.{withRefusal, Judgeable, JudgedUpto, Judged};
+ghost use Rattle.theory.specs.Code.Judged.{roomCheckedOf, JobChecked, withRefusal, Judgeable, JudgedUpto, Judged};
+ghost use Rattle.theory.specs.Code.Compared.{partRefusal};
 use answers::Answer;
 use answers::Refusal;
 use answers::answer_of;
@@ -11,9 +19,11 @@ use answers::first_refusal;
 use answers::none;
 use answers::refuse;
 use answers::row_of;
+use facts::facts_at;
 use facts::fill_facts;
 use history::durations;
 use history::effects;
+use job::Checked;
 use job::Index;
 use job::check_job;
 use starts::Groups;
@@ -24,6 +34,8 @@ use starts::groups_of;
 use starts::outside_windows;
 use starts::over_limit;
 use starts::shifts_of;
+use words::FLUENTS;
+use words::fact_room;
 use words::last_of;
 
 pub mod arrays;
@@ -37,10 +49,10 @@ pub struct Plan {
     pub refusal: Refusal,
     pub index: Index,
     pub durations: [usize; 64],
-    pub effects: [u8; 4096],
+    pub effects: [u8; 16384],
     pub shifts: Shifts,
     pub groups: Groups,
-    pub history: [u8; 4096],
+    pub history: [u8; 16384],
 }
 
 // A refused plan: nothing is promised of its tables.
@@ -48,7 +60,7 @@ pub fn refused(refusal: Refusal, index: Index) -> Plan
     ensures { λ r. ⌜ r .refusal ≡ refusal ⌝ }
 {
     let durations = [0usize; 64];
-    let effects = [0u8; 4096];
+    let effects = [0u8; 16384];
     let shifts = Shifts {
         windowed: 0,
         inside: [0u64; 64],
@@ -57,7 +69,7 @@ pub fn refused(refusal: Refusal, index: Index) -> Plan
         limits: [0usize; 8],
         members: [0u64; 8],
     };
-    let history = [0u8; 4096];
+    let history = [0u8; 16384];
     Plan {
         refusal,
         index,
@@ -121,11 +133,31 @@ pub fn judge_starts(job: &[u32], index: Index, starts: &[u32], last: usize) -> P
     }
 }
 
-// The rows of the job, then those of the starts.
-pub fn judge(job: &[u32], starts: &[u32]) -> Plan
-    ensures { λ r. ⌜ Judged (planRefusal (now (job .entry)) (now (starts .entry))) (now (job .entry)) (now (starts .entry)) r ⌝ }
+fn head_of(job: &[u32]) -> u32
+    ensures { λ r. ⌜ r ≡ headWord (now (job .entry)) ⌝ }
+{
+    if job.len() == 0 {
+        return 0;
+    }
+    job[0]
+}
+
+// The rows of the job, then row 12 again: whether there is room for the facts of its plans.
+pub fn check_room(job: &[u32], room: usize) -> Checked
+    ensures { λ r. ⌜ r ≡ roomCheckedOf room (now (job .entry)) ⌝ }
 {
     let checked = check_job(job);
+    let index = checked.index;
+    let short = row_of(room < fact_room(head_of(job)), 12, 0);
+    let refusal = first_refusal(checked.refusal, short);
+    Checked { refusal, index }
+}
+
+// The rows of the starts, after those that gave `checked`.
+pub fn judge(job: &[u32], checked: Checked, starts: &[u32]) -> Plan
+    requires { ⌜ JobChecked (now job) checked ⌝ }
+    ensures { λ r. ⌜ Judged (firstRefusal (checked .refusal) (startsRefusal (now (job .entry)) (now (starts .entry)))) (now (job .entry)) (now (starts .entry)) r ⌝ }
+{
     let refusal = checked.refusal;
     let index = checked.index;
     if refusal.number != 0 {
@@ -134,22 +166,46 @@ pub fn judge(job: &[u32], starts: &[u32]) -> Plan
     judge_starts(job, index, starts, last_of(job[0]))
 }
 
-// Row 11: the first difference of two lists.
-pub fn compare_facts(given: &[u32], wanted: &[u32]) -> Refusal
-    ensures { λ r. ⌜ r ≡ factsRefusal (now (given .entry)) (now (wanted .entry)) 0 ⌝ }
+// Row 11 on the part of the list that is wanted at position `at`.
+fn compare_part(given: &[u32], at: usize, part: &[u32]) -> Refusal
+    requires { ⌜ at ≤ length (now given) ⌝ }
+    ensures { λ r. ⌜ r ≡ partRefusal (drop at (now (given .entry))) (now (part .entry)) at ⌝ }
 {
     let mut i = 0;
-    while i < given.len() {
-        if wanted.len() <= i {
-            return refuse(11, i);
+    let mut j = at;
+    while i < part.len() {
+        if given.len() <= j {
+            return refuse(11, j);
         }
-        if given[i] != wanted[i] {
-            return refuse(11, i);
+        if given[j] != part[i] {
+            return refuse(11, j);
         }
         i += 1;
+        j += 1;
     }
-    if i < wanted.len() {
-        return refuse(11, i);
+    none()
+}
+
+// Row 11: the first difference from the facts of a plan, which are made for one moment at a time.
+fn compare_facts(job: &[u32], history: &[u8; 16384], given: &[u32]) -> Refusal
+    requires { ⌜ WellFormed (now job) ⌝ }
+    ensures { λ r. ⌜ ((starts : List ℕ) → History (now (job .entry)) starts (now (history .entry)) → r ≡ factsRefusal (now (given .entry)) (factsOf (now (job .entry)) starts) 0) ⌝ }
+{
+    let last = last_of(job[0]);
+    let mut row = [0u32; FLUENTS];
+    let mut at = 0;
+    let mut t = 0;
+    while t <= last {
+        let n = facts_at(job, history, t, &mut row);
+        let part = compare_part(given, at, &row[..n]);
+        if part.number != 0 {
+            return part;
+        }
+        at += n;
+        t += 1;
+    }
+    if at < given.len() {
+        return refuse(11, at);
     }
     none()
 }
@@ -158,15 +214,13 @@ pub fn compare_facts(given: &[u32], wanted: &[u32]) -> Refusal
 pub fn judge_facts(job: &[u32], starts: &[u32], facts: &[u32]) -> Plan
     ensures { λ r. ⌜ Judged (checkRefusal (now (job .entry)) (now (starts .entry)) (now (facts .entry))) (now (job .entry)) (now (starts .entry)) r ⌝ }
 {
-    let plan = judge(job, starts);
+    let plan = judge(job, check_job(job), starts);
     let rows = plan.refusal;
     if rows.number != 0 {
         return plan;
     }
     let history = plan.history;
-    let mut wanted = [0u32; 4096];
-    let n = fill_facts(job, &history, &mut wanted);
-    with_refusal(plan, compare_facts(facts, &wanted[..n]))
+    with_refusal(plan, compare_facts(job, &history, facts))
 }
 
 pub fn check_plan(job: &[u32], starts: &[u32], facts: &[u32]) -> Answer
@@ -176,7 +230,7 @@ pub fn check_plan(job: &[u32], starts: &[u32], facts: &[u32]) -> Answer
     answer_of(plan.refusal, 0, 0)
 }
 
-// The words that a lent buffer has at least: as many as there can be facts, and more than a reading has.
+// The words that a lent buffer has at least: more than a reading has, and as many as there can be facts, if the head is not wide.
 pub const BUFFER_WORDS: usize = 4096;
 
 // Row 12, of fill and of find.
@@ -186,7 +240,7 @@ pub fn buffer_refusal(room: usize) -> Refusal
     row_of(room < BUFFER_WORDS, 12, 0)
 }
 
-// Row 12, then those of the job and the starts; then the facts are written to the front of the buffer.
+// Row 12, those of the job, row 12 again, those of the starts; then the facts are written to the front of the buffer.
 pub fn fill_plan(job: &[u32], starts: &[u32], buffer: &mut [u32]) -> Answer
     ensures { λ r. ⌜ r ≡ fillAnswer (length (now (buffer .entry))) (now (job .entry)) (now (starts .entry)) ⌝ }
     ensures { λ r. ⌜ now (buffer .exit) ≡ written r (factsOf (now (job .entry)) (now (starts .entry))) (now (buffer .entry)) ⌝ }
@@ -195,7 +249,7 @@ pub fn fill_plan(job: &[u32], starts: &[u32], buffer: &mut [u32]) -> Answer
     if short.number != 0 {
         return answer_of(short, 0, 0);
     }
-    let plan = judge(job, starts);
+    let plan = judge(job, check_room(job, buffer.len()), starts);
     let refused = plan.refusal;
     if refused.number != 0 {
         return answer_of(refused, 0, 0);

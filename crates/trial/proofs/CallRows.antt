@@ -1,7 +1,7 @@
 -- The rows of the four calls, and what they leave in the lent words. Assumes nothing.
 use mathlib.Core.Bool.{Bool, true, false, cond}
-use mathlib.Core.List.{List, [], _∷_}
-use mathlib.Core.Path.{_≡_, refl, ap, _∙_}
+use mathlib.Core.List.{List}
+use mathlib.Core.Path.{_≡_, refl, ap, sym, _∙_}
 use Prim.Native.Nat.{ℕ, _≤_, _<_}
 use native.Mathlib.Omega.{arith}
 use borrow.Author.Tests.{lt-ltb, le-ltb, ne-eqb}
@@ -9,11 +9,15 @@ use lib.Dec.{eqb}
 use lib.ListN.{length}
 use Rattle.answers.specs.declared.Refusal.{Refusal}
 use Rattle.answers.specs.declared.Answer.{Answer}
-use Rattle.answers.specs.Rows.{refusal, passed, firstRow, firstRefusal}
+use Rattle.answers.specs.Rows.{refusal, passed, firstRefusal}
 use Rattle.answers.specs.Packed.{answerOf}
-use Rattle.answers.proofs.Rows.{or-none, answer-refused}
+use Rattle.answers.proofs.Rows.{or-none, or-assoc, answer-refused}
+use Rattle.job.specs.declared.Checked.{Checked}
+use Rattle.job.specs.Code.Index.{checkedOf}
 use Rattle.job.specs.Refusal.{jobRefusal}
-use Rattle.theory.specs.Answers.{bufferRefusal, written}
+use Rattle.theory.specs.Answers.{bufferRefusal, factRoomRefusal, written}
+use Rattle.theory.specs.Code.Judged.{roomCheckedOf}
+use Rattle.theory.proofs.Passing.{checked-refusal}
 use Rattle.moves.specs.Trials as trials
 use Rattle.moves.specs.Trials.{Move, fresh, moveRefusal, after}
 use Rattle.moves.specs.Calls.{trialIn, beginAnswer, moveAnswer, shownFacts, showAnswer, handedBack}
@@ -29,9 +33,14 @@ answer-last r l c = cases (eqb (r .number) 0) refl
     cases true e = rw e
     cases false e = refl
 
--- words too few for a trial are refused, whatever they are
-never-short : (job : List ℕ) → firstRow (jobRefusal job ∷ refusal 14 0 ∷ []) .number ≡ 0 → ⊥
-never-short job z = let p = or-none (jobRefusal job) (refusal 14 0) z in let q : _≡_ {A = ℕ} 14 0 = p .1 in omega arith
+-- words too few for a trial are refused, whatever rows come before
+never-short : (rows : Refusal) → firstRefusal rows (refusal 14 0) .number ≡ 0 → ⊥
+never-short rows z = let p = or-none rows (refusal 14 0) z in let q : _≡_ {A = ℕ} 14 0 = p .1 in omega arith
+
+-- those of the job
+pub after-job : (job : List ℕ) (checked : Checked) → checked ≡ checkedOf job → {r : Refusal} → r ≡ firstRefusal (checked .refusal) (refusal 14 0)
+    → r ≡ firstRefusal (jobRefusal job) (refusal 14 0)
+after-job job checked is e = e ∙ ap (λ (r : Refusal). firstRefusal r (refusal 14 0)) (checked-refusal job checked is)
 
 -- the job's row a second time says nothing new
 same-first : (a b : Refusal) → firstRefusal a b ≡ firstRefusal a (firstRefusal a b)
@@ -43,9 +52,9 @@ same-first a b = cases (eqb (a .number) 0)
 
 module _ (job words : List ℕ) {r : Answer} where
   -- few words: the job's refusal or 14, and nothing is written
-  module _ (short : length words < 4098) (is : r ≡ answerOf (firstRow (jobRefusal job ∷ refusal 14 0 ∷ [])) 0 0) where
+  module _ (short : length words < 4098) (is : r ≡ answerOf (firstRefusal (jobRefusal job) (refusal 14 0)) 0 0) where
     short-left : (T : trials.Trial) → words ≡ handedBack r T words
-    short-left T = rw (is, ne-eqb _ 0 (never-short job))
+    short-left T = rw (is, ne-eqb _ 0 (never-short (jobRefusal job)))
 
     pub short-begin : (r ≡ beginAnswer (length words) job) × (words ≡ handedBack r fresh words)
     unfolding beginAnswer
@@ -76,13 +85,16 @@ module _ (job words : List ℕ) {r : Answer} where
 -- showing
 module _ (job words buffer : List ℕ) {r : Answer} where
   pub short-show : length words < 4098
-      → r ≡ answerOf (firstRefusal (bufferRefusal (length buffer)) (firstRow (jobRefusal job ∷ refusal 14 0 ∷ []))) 0 0
+      → r ≡ answerOf (firstRefusal (bufferRefusal (length buffer)) (firstRefusal (roomCheckedOf (length buffer) job .refusal) (refusal 14 0))) 0 0
       → (r ≡ showAnswer (length buffer) job words) × (buffer ≡ written r (shownFacts job (trialIn words)) buffer)
   unfolding showAnswer
   short-show short is =
       let first = bufferRefusal (length buffer) in
-      let never : firstRefusal first (firstRow (jobRefusal job ∷ refusal 14 0 ∷ [])) .number ≡ 0 → ⊥ = λ z. never-short job (or-none first _ z .1) in (
-        is ∙ answer-refused _ 0 0 (length (shownFacts job (trialIn words))) 0 never ∙ rw (lt-ltb (length words) 4098 short),
+      let rows = roomCheckedOf (length buffer) job .refusal in
+      let never : firstRefusal first (firstRefusal rows (refusal 14 0)) .number ≡ 0 → ⊥ = λ z. never-short rows (or-none first _ z .1) in (
+        is ∙ answer-refused _ 0 0 (length (shownFacts job (trialIn words))) 0 never
+            ∙ ap (λ (x : Refusal). answerOf (firstRefusal first x) (length (shownFacts job (trialIn words))) 0) (sym (or-assoc (jobRefusal job) (factRoomRefusal (length buffer) job) (refusal 14 0)))
+            ∙ rw (lt-ltb (length words) 4098 short),
         rw (is, ne-eqb _ 0 never),
       )
 

@@ -1,7 +1,7 @@
 -- The rows of the job and of the trial, one after the other, by the struct. Assumes nothing.
 use mathlib.Core.Bool.{true, false}
-use mathlib.Core.List.{List, [], _∷_}
-use mathlib.Core.Path.{_≡_}
+use mathlib.Core.List.{List}
+use mathlib.Core.Path.{_≡_, ap, _∙_}
 use Prim.Native.Nat.{ℕ, _≤_, _<_}
 use native.Mathlib.Omega.{arith}
 use borrow.Author.Tests.{le-ltb, lt-ltb, eq-eqb}
@@ -11,7 +11,8 @@ use Rattle.words.specs.Fields.{startMoment}
 use Rattle.words.specs.Scan.{any}
 use Rattle.words.proofs.Lists.{each-at, firstWords-length, firstWords-take}
 use Rattle.answers.specs.declared.Refusal.{Refusal}
-use Rattle.answers.specs.Rows.{refusal, refusalAt, firstRow}
+use Rattle.answers.specs.Rows.{refusal, refusalAt, firstRefusal}
+use Rattle.job.specs.declared.Checked.{Checked}
 use Rattle.job.specs.declared.Index.{Index}
 use Rattle.job.specs.Code.Index.{checkedOf}
 use Rattle.job.specs.Parts.{lastMoment}
@@ -20,11 +21,17 @@ use Rattle.job.proofs.WellFormed.{well-formed}
 use Rattle.theory.specs.Answers.{planRefusal}
 use Rattle.theory.specs.declared.Plan.{Plan}
 use Rattle.theory.specs.Code.Judged.{PassedUpto, Judgeable}
+use Rattle.theory.proofs.Passing.{checked-refusal}
 use Rattle.moves.specs.Trials.{outside, trialRefusal}
 use Rattle.moves.proofs.Passing.{InBounds, in-bounds}
 use Rattle.trial.specs.declared.Trial.{Trial}
 use Rattle.trial.specs.Stepped.{trialOf}
-use Rattle.trial.specs.Code.Given.{Present, Sized}
+use Rattle.trial.specs.Code.Given.{Present, Sized, TrialJudged}
+
+-- with the rows of the job before those of the trial
+pub trial-rows : (job : List ℕ) (t : Trial) (checked : Checked) → checked ≡ checkedOf job → {plan : Plan} → TrialJudged (checked .refusal) job t plan
+    → plan .refusal ≡ firstRefusal (jobRefusal job) (trialRefusal job (trialOf t))
+trial-rows job t checked is h = h .refusal ∙ ap (λ (r : Refusal). firstRefusal r (trialRefusal job (trialOf t))) (checked-refusal job checked is)
 
 -- the struct's starts, of which there are as many as it says
 pub starts-taken : (t : Trial) → length (t .starts) ≡ 4096 → t .length ≤ 4096 → trialOf t .starts ≡ take (t .length) (t .starts)
@@ -61,18 +68,18 @@ module _ (job : List ℕ) (t : Trial) where
   inside-few size e = rw (firstWords-length (t .length) (t .starts)) at (in-bounds job (trialOf t) e .few)
 
   module _ (good : jobRefusal job .number ≡ 0) where
-    pub row-14 : outside job (trialOf t) ≡ true → refusal 14 0 ≡ firstRow (jobRefusal job ∷ trialRefusal job (trialOf t) ∷ [])
+    pub row-14 : (rows : Refusal) → rows .number ≡ 0 → outside job (trialOf t) ≡ true → refusal 14 0 ≡ firstRefusal rows (trialRefusal job (trialOf t))
     unfolding trialRefusal
-    row-14 e = rw (eq-eqb (jobRefusal job .number) 0 good, e)
+    row-14 rows n e = rw (eq-eqb (rows .number) 0 n, e)
 
     module _ (size : length (t .starts) ≡ 4096) (within : outside job (trialOf t) ≡ false) where
       -- the number of the rows on the starts, at position 0
-      pub start-rows : {r : Refusal} → r ≡ planRefusal job (take (t .length) (t .starts))
-          → refusalAt 0 (r .number) ≡ firstRow (jobRefusal job ∷ trialRefusal job (trialOf t) ∷ [])
+      pub start-rows : {r : Refusal} (rows : Refusal) → rows .number ≡ 0 → r ≡ planRefusal job (take (t .length) (t .starts))
+          → refusalAt 0 (r .number) ≡ firstRefusal rows (trialRefusal job (trialOf t))
       unfolding trialRefusal planRefusal
-      start-rows {r} e =
+      start-rows {r} rows n e =
           rw (
-            eq-eqb (jobRefusal job .number) 0 good,
+            eq-eqb (rows .number) 0 n,
             within,
             starts-taken t size (inside-few size within),
             e,

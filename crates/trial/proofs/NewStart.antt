@@ -64,7 +64,7 @@ module _ {job starts : List ℕ} {u : ℕ} {plan : Plan} (given : Present job st
 
   -- the needs of an action by the history
   pub present-unmet : {a : ℕ} → a < actions job → {laws : List ℕ} → laws ≡ lawsOf job a
-      → {r : Bool} → r ≡ any (unmet (headWord job) (λ f. getD (plan .history) (u * 64 + f) 0)) laws → r ≡ unmetAt job starts u a
+      → {r : Bool} → r ≡ any (unmet (headWord job) (λ f. getD (plan .history) (u * 256 + f) 0)) laws → r ≡ unmetAt job starts u a
   present-unmet {a} k el er =
       let recorded : Recorded job (plan .index .actions .position) (plan .history) starts =
       record {

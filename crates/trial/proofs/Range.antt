@@ -5,20 +5,21 @@ use Prim.Native.Nat.{ℕ, _+_}
 use native.Mathlib.Omega.{arith}
 use lib.Dec.{leb, ltb}
 use lib.ListN.{length}
-use Rattle.words.specs.Fields.{startWord}
+use Rattle.words.specs.Fields.{factRoom, startWord}
 use Rattle.words.specs.Scan.{any}
+use Rattle.words.proofs.Wide.{room-most}
 use Rattle.answers.specs.Rows.{row, refusalAt}
 use Rattle.answers.specs.Code.Packed.{InRange}
 use Rattle.answers.proofs.Rows.{or-none}
 use Rattle.answers.proofs.Range.{Fitting, or-fits, row-fits, at-fits, answer-fits}
-use Rattle.job.specs.Parts.{actions, lastMoment, duration}
+use Rattle.job.specs.Parts.{headWord, actions, lastMoment, duration}
 use Rattle.job.specs.Refusal.{jobRefusal}
 use Rattle.job.proofs.Fits.{job-fits}
 use Rattle.job.proofs.WellFormed.{well-formed}
 use Rattle.starts.specs.Rows.{clashing, mayStart, overLimit, unmetAt, startsRefusal}
 use Rattle.starts.proofs.RefusalFits.{starts-number}
-use Rattle.facts.proofs.Lists.{facts-few}
-use Rattle.theory.specs.Answers.{bufferRefusal}
+use Rattle.facts.proofs.Lists.{upto-fit}
+use Rattle.theory.specs.Answers.{bufferRefusal, factRoomRefusal}
 use Rattle.moves.specs.Trials.{Trial, Move, Start, On, outside, busy, trialRefusal, startRefusal, onRefusal, ownRefusal, moveRefusal}
 use Rattle.moves.specs.Calls.{trialIn, roomRefusal, beginAnswer, moveAnswer, showAnswer}
 use Rattle.moves.proofs.Passing.{bounds}
@@ -64,11 +65,13 @@ show-range room job words =
     answer-fits _ _ 0
     (or-fits (bufferRefusal room) _ (row-fits (ltb room 4096) 12 0 (omega arith) (omega arith))
     (or-fits (jobRefusal job) _ (job-fits job)
-    (or-fits (roomRefusal (length words)) (trialRefusal job (trialIn words)) (room-fits (length words)) (trial-fits job (trialIn words)))))
+    (or-fits (factRoomRefusal room job) _ (row-fits (ltb room (factRoom (headWord job))) 12 0 (omega arith) (omega arith))
+    (or-fits (roomRefusal (length words)) (trialRefusal job (trialIn words)) (room-fits (length words)) (trial-fits job (trialIn words))))))
     (λ e.
     let late = or-none (bufferRefusal room) _ e .1 in
     let jobs = or-none (jobRefusal job) _ late in
     let formed = well-formed job (jobs .0) in
-    let trial = or-none (roomRefusal (length words)) (trialRefusal job (trialIn words)) (jobs .1) .1 in
-    let few = facts-few job (trialIn words .starts) formed (trialIn words .moment) in
-    (omega (arith, few, bounds job (trialIn words) trial .present, formed .few-moments), omega arith))
+    let later = or-none (factRoomRefusal room job) _ (jobs .1) .1 in
+    let trial = or-none (roomRefusal (length words)) (trialRefusal job (trialIn words)) later .1 in
+    let few = upto-fit job (trialIn words .starts) formed (trialIn words .moment) (omega (arith, bounds job (trialIn words) trial .present, formed .few-moments)) in
+    (omega (arith, few, room-most (headWord job)), omega arith))

@@ -8,7 +8,7 @@ use Rattle.answers.specs.declared.Answer.{Answer}
 use Rattle.answers.specs.Rows.{firstRow}
 use Rattle.answers.specs.Packed.{answerOf}
 use Rattle.job.specs.Refusal.{jobRefusal}
-use Rattle.theory.specs.Answers.{bufferRefusal}
+use Rattle.theory.specs.Answers.{bufferRefusal, factRoomRefusal}
 use Rattle.moves.specs.Trials as trials
 use Rattle.moves.specs.Trials.{Move, trialRefusal, moveRefusal, after}
 use Rattle.moves.specs.Calls.{shownFacts}
@@ -27,4 +27,5 @@ pub record Stepped (job : List ℕ) (before : Trial) (m : Move) (r : Moved) : Ty
 
 -- showing: as fill answers, with the facts shown
 unfoldable pub showAnswerOf : ℕ → List ℕ → trials.Trial → Answer
-showAnswerOf room job T = answerOf (firstRow (bufferRefusal room ∷ jobRefusal job ∷ trialRefusal job T ∷ [])) (length (shownFacts job T)) 0
+showAnswerOf room job T =
+    answerOf (firstRow (bufferRefusal room ∷ jobRefusal job ∷ factRoomRefusal room job ∷ trialRefusal job T ∷ [])) (length (shownFacts job T)) 0

@@ -1,12 +1,11 @@
 // The four calls on the words of a trial, as the host in C lends them: the moment, the number of starts, the starts. The words are taken
 // apart into a trial, a method is called, and the trial's words are put back where it accepts.
 ghost use mathlib.Core.Path.{_≡_};
-ghost use mathlib.Core.List.{[], _∷_, _++_};
+ghost use mathlib.Core.List.{_++_};
 ghost use Prim.Native.Nat.{_≤_};
 ghost use lib.ListN.{length, drop};
-ghost use Rattle.answers.specs.Rows.{refusal, firstRow};
+ghost use Rattle.answers.specs.Rows.{refusal, firstRefusal};
 ghost use Rattle.answers.specs.Packed.{answerOf};
-ghost use Rattle.job.specs.Refusal.{jobRefusal};
 ghost use Rattle.theory.specs.Answers.{written};
 ghost use Rattle.moves.specs.Trials.{Start, On, fresh, after};
 ghost use Rattle.moves.specs.Calls.{trialWords, trialIn, beginAnswer, moveAnswer, shownFacts, showAnswer, handedBack};
@@ -19,8 +18,10 @@ use answers::Refusal;
 use answers::answer_of;
 use answers::first_refusal;
 use answers::refuse;
+use job::Checked;
 use job::check_job;
 use theory::buffer_refusal;
+use theory::check_room;
 use words::copy_words;
 
 // The words that a trial takes: the moment, the number, and room for the starts.
@@ -67,11 +68,10 @@ fn put_back(moved: Moved, words: &mut [u32]) -> Answer
     answer_of(refusal, 0, 0)
 }
 
-// Words that are too few for a trial: the job's refusal, or 14.
-fn short_refusal(job: &[u32]) -> Refusal
-    ensures { λ r. ⌜ r ≡ firstRow (jobRefusal (now (job .entry)) ∷ refusal 14 0 ∷ []) ⌝ }
+// Words that are too few for a trial: the refusal of the rows before, or 14.
+fn short_refusal(checked: Checked) -> Refusal
+    ensures { λ r. ⌜ r ≡ firstRefusal (checked .refusal) (refusal 14 0) ⌝ }
 {
-    let checked = check_job(job);
     first_refusal(checked.refusal, refuse(14, 0))
 }
 
@@ -80,7 +80,7 @@ pub fn begin_words(job: &[u32], words: &mut [u32]) -> Answer
     ensures { λ r. ⌜ (r ≡ beginAnswer (length (now (words .entry))) (now (job .entry))) × (now (words .exit) ≡ handedBack r fresh (now (words .entry))) ⌝ }
 {
     if words.len() < TRIAL_WORDS {
-        return answer_of(short_refusal(job), 0, 0);
+        return answer_of(short_refusal(check_job(job)), 0, 0);
     }
     put_back(Trial::begin(job), words)
 }
@@ -90,7 +90,7 @@ pub fn start_words(job: &[u32], words: &mut [u32], action: u32) -> Answer
     ensures { λ r. ⌜ (r ≡ moveAnswer (now (job .entry)) (now (words .entry)) (Start action)) × (now (words .exit) ≡ handedBack r (after (now (job .entry)) (trialIn (now (words .entry))) (Start action)) (now (words .entry))) ⌝ }
 {
     if words.len() < TRIAL_WORDS {
-        return answer_of(short_refusal(job), 0, 0);
+        return answer_of(short_refusal(check_job(job)), 0, 0);
     }
     put_back(taken(words).start(job, action), words)
 }
@@ -100,7 +100,7 @@ pub fn on_words(job: &[u32], words: &mut [u32]) -> Answer
     ensures { λ r. ⌜ (r ≡ moveAnswer (now (job .entry)) (now (words .entry)) On) × (now (words .exit) ≡ handedBack r (after (now (job .entry)) (trialIn (now (words .entry))) On) (now (words .entry))) ⌝ }
 {
     if words.len() < TRIAL_WORDS {
-        return answer_of(short_refusal(job), 0, 0);
+        return answer_of(short_refusal(check_job(job)), 0, 0);
     }
     put_back(taken(words).on(job), words)
 }
@@ -111,7 +111,8 @@ pub fn show_words(job: &[u32], words: &[u32], buffer: &mut [u32]) -> Answer
 {
     if words.len() < TRIAL_WORDS {
         let short = buffer_refusal(buffer.len());
-        return answer_of(first_refusal(short, short_refusal(job)), 0, 0);
+        let late = short_refusal(check_room(job, buffer.len()));
+        return answer_of(first_refusal(short, late), 0, 0);
     }
     taken(words).show(job, buffer)
 }

@@ -6,6 +6,7 @@ ghost use Rattle.words.specs.Lists.{Pairs};
 ghost use Rattle.answers.specs.Rows.{refusalAt};
 ghost use Rattle.job.specs.Refusal.{jobRefusal};
 ghost use Rattle.theory.specs.Answers.{written};
+ghost use Rattle.theory.specs.Code.Judged.{JobChecked};
 ghost use Rattle.moves.specs.Trials.{Start, On, fresh};
 ghost use Rattle.moves.specs.Calls.{shownFacts};
 ghost use Rattle.trial.specs.Stepped.{trialOf, Stepped, showAnswerOf};
@@ -19,9 +20,11 @@ use answers::none;
 use answers::refuse;
 use answers::row_of;
 use facts::fill_upto;
+use job::Checked;
 use job::check_job;
 use theory::Plan;
 use theory::buffer_refusal;
+use theory::check_room;
 use theory::judge_starts;
 use theory::refused;
 use theory::with_refusal;
@@ -93,11 +96,11 @@ impl Trial {
         some_later(&starts[..length], moment)
     }
 
-    // The rows of the job, then those of the trial itself.
-    fn judged(self, job: &[u32]) -> Plan
-        ensures { λ r. ⌜ TrialJudged (now (job .entry)) self r ⌝ }
+    // The rows of the trial itself, after those that gave `checked`.
+    fn judged(self, job: &[u32], checked: Checked) -> Plan
+        requires { ⌜ JobChecked (now job) checked ⌝ }
+        ensures { λ r. ⌜ TrialJudged (checked .refusal) (now (job .entry)) self r ⌝ }
     {
-        let checked = check_job(job);
         let refusal = checked.refusal;
         let index = checked.index;
         if refusal.number != 0 {
@@ -135,7 +138,7 @@ impl Trial {
         ensures { λ r. ⌜ Stepped (now (job .entry)) self (Start action) r ⌝ }
         ensures { λ r. ⌜ Storable r ⌝ }
     {
-        let plan = self.judged(job);
+        let plan = self.judged(job, check_job(job));
         let early = plan.refusal;
         if early.number != 0 {
             return Moved {
@@ -166,7 +169,7 @@ impl Trial {
         ensures { λ r. ⌜ Stepped (now (job .entry)) self On r ⌝ }
         ensures { λ r. ⌜ Storable r ⌝ }
     {
-        let plan = self.judged(job);
+        let plan = self.judged(job, check_job(job));
         let early = plan.refusal;
         if early.number != 0 {
             return Moved {
@@ -201,7 +204,7 @@ impl Trial {
         if short.number != 0 {
             return answer_of(short, 0, 0);
         }
-        let plan = self.judged(job);
+        let plan = self.judged(job, check_room(job, buffer.len()));
         let refused = plan.refusal;
         if refused.number != 0 {
             return answer_of(refused, 0, 0);

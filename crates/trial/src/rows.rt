@@ -68,7 +68,7 @@ fn some_busy(job: &[u32], durations: &[usize; 64], starts: &[u32], u: usize, a: 
 fn clashes_with(
     job: &[u32],
     durations: &[usize; 64],
-    effects: &[u8; 4096],
+    effects: &[u8; 16384],
     s: u32,
     u: usize,
     a: usize,
@@ -86,7 +86,7 @@ fn clashes_with(
 fn some_clash(
     job: &[u32],
     durations: &[usize; 64],
-    effects: &[u8; 4096],
+    effects: &[u8; 16384],
     starts: &[u32],
     u: usize,
     a: usize,

@@ -1,10 +1,12 @@
 -- Between functions: what the rows on a job and its starts show: their refusal, and of a plan that they pass what the later steps use.
-use mathlib.Core.List.{List}
+use mathlib.Core.List.{List, [], _∷_}
 use mathlib.Core.Path.{_≡_}
 use Prim.Native.Nat.{ℕ, _≤_, _<_}
 use lib.ListN.{length, getD}
 use Rattle.words.specs.Fields.{startMoment}
 use Rattle.answers.specs.declared.Refusal.{Refusal}
+use Rattle.answers.specs.Rows.{firstRow}
+use Rattle.job.specs.declared.Checked.{Checked}
 use Rattle.job.specs.declared.Index.{Index}
 use Rattle.job.specs.Parts.{lastMoment}
 use Rattle.job.specs.Refusal.{jobRefusal}
@@ -12,8 +14,18 @@ use Rattle.job.specs.Code.Index.{checkedOf}
 use Rattle.history.specs.Code.Tables.{Durations, Effects, HistoryUpto}
 use Rattle.starts.specs.Code.ShiftSets.{ShiftTable}
 use Rattle.starts.specs.Code.GroupTable.{GroupTable}
-use Rattle.theory.specs.Answers.{planRefusal}
+use Rattle.theory.specs.Answers.{factRoomRefusal, planRefusal}
 use Rattle.theory.specs.declared.Plan.{Plan}
+
+-- the rows of a job with row 12 after them, and the index of its words
+abbrev pub roomCheckedOf : ℕ → List ℕ → Checked
+roomCheckedOf room job =
+    record { refusal = firstRow (jobRefusal job ∷ factRoomRefusal room job ∷ []); index = checkedOf job .index }
+
+-- what rows of a job, and perhaps others after them, leave: the index of its words; and where none of them fits, no row of the job does
+pub record JobChecked (job : List ℕ) (r : Checked) : Type 0 where
+  pub good : r .refusal .number ≡ 0 → jobRefusal job .number ≡ 0
+  pub index : r .index ≡ checkedOf job .index
 
 -- the same plan with another refusal
 abbrev pub withRefusal : Plan → Refusal → Plan

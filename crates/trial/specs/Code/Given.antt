@@ -1,7 +1,7 @@
 -- Between functions: what the rows of a new start ask and give; a trial that was judged, that has a start more,
 -- that can be stored.
 use mathlib.Core.Bool.{Bool}
-use mathlib.Core.List.{List, [], _∷_}
+use mathlib.Core.List.{List}
 use mathlib.Core.Path.{_≡_}
 use Prim.Native.Nat.{ℕ, _≤_, _<_}
 use lib.ListN.{length, take, drop}
@@ -9,9 +9,8 @@ use Rattle.words.specs.Fields.{startMoment, startAction}
 use Rattle.words.specs.Lists.{Each, insert}
 use Rattle.job.specs.Parts.{actions, lastMoment}
 use Rattle.answers.specs.declared.Refusal.{Refusal}
-use Rattle.answers.specs.Rows.{firstRow}
+use Rattle.answers.specs.Rows.{firstRefusal, firstRow}
 use Rattle.starts.specs.Code.Given.{Tabled}
-use Rattle.job.specs.Refusal.{jobRefusal}
 use Rattle.moves.specs.Trials.{outside, newStartRows, startRefusal, trialRefusal}
 use Rattle.trial.specs.declared.Trial.{Trial}
 use Rattle.trial.specs.declared.Moved.{Moved}
@@ -62,9 +61,9 @@ pub record Measured (job : List ℕ) (t : Trial) (r : Bool) : Type 0 where
   pub bounds : r ≡ outside job (trialOf t)
   pub size : length (t .starts) ≡ 4096
 
--- the refusal of the job's rows and the trial's, and of a trial that they pass its plan
-pub record TrialJudged (job : List ℕ) (t : Trial) (plan : Plan) : Type 0 where
-  pub refusal : plan .refusal ≡ firstRow (jobRefusal job ∷ trialRefusal job (trialOf t) ∷ [])
+-- the refusal of the rows before the trial's and of the trial's, and of a trial that they pass its plan
+pub record TrialJudged (rows : Refusal) (job : List ℕ) (t : Trial) (plan : Plan) : Type 0 where
+  pub refusal : plan .refusal ≡ firstRefusal rows (trialRefusal job (trialOf t))
   pub passed : plan .refusal .number ≡ 0 → Present job (take (t .length) (t .starts)) (t .moment) plan
   pub sized : plan .refusal .number ≡ 0 → Sized t
 

@@ -7,16 +7,24 @@ use lib.Seq.{length-take-le}
 use Prim.Native.Nat.{_≤_}
 use lib.ListN.{length}
 use Rattle.answers.specs.declared.Refusal.{Refusal}
-use Rattle.moves.specs.Trials.{Start, moveRefusal}
+use Rattle.answers.specs.Rows.{firstRefusal}
+use Rattle.job.specs.Refusal.{jobRefusal}
+use Rattle.theory.proofs.Passing.{job-checked}
+use Rattle.moves.specs.Trials.{Start, trialRefusal, moveRefusal}
 use Rattle.trial.specs.Stepped.{trialOf}
 use Rattle.trial.specs.Code.Given.{Sized}
+use Rattle.trial.proofs.Judging.{trial-rows}
 use Rattle.trial.proofs.NewStart.{present-formed, present-order}
 use Rattle.trial.proofs.Moves.{early-refused, own-next, stepped-refused, stepped-moved, own-start, named-start, moved-start}
 use Rattle.trial.proofs.Trial.start.Statement.{statement}
 use Rattle.trial.proofs.Trial.start.Tie as tie
 
 abbrev entry : tie.After-judged → tie.Start
-entry c = c .before .before
+entry c = c .before .before .before
+
+rows-are : (c : tie.After-judged)
+    → let a = entry c .args in c .judged .result .refusal ≡ firstRefusal (jobRefusal (a .job .now)) (trialRefusal (a .job .now) (trialOf (a .self)))
+rows-are c = let a = entry c .args in trial-rows (a .job .now) (a .self) _ (c .before .check-job .ensures) (c .judged .ensures)
 
 abbrev first : tie.Else1 → tie.After-judged
 first c = c .before .before .before
@@ -38,7 +46,7 @@ returns c =
     let j = c .before .before .before in
     let a = entry j .args in
     let never = c .if1 .taken in
-    let is = early-refused (a .job .now) (a .self) (Start (a .action)) (j .judged .ensures .refusal) never in
+    let is = early-refused (a .job .now) (a .self) (Start (a .action)) (rows-are j) never in
     (stepped-refused (a .job .now) (a .self) (Start (a .action)) is never, λ z. absurd (never z))
 
 own : (c : tie.After-start-refusal)
@@ -48,7 +56,7 @@ own c =
     let j = first p in
     let a = entry j .args in
     own-start (a .job .now) (a .self) (sized p) (a .action) (c .start-refusal .ensures .refusal)
-    ∙ own-next (a .job .now) (a .self) (Start (a .action)) (j .judged .ensures .refusal) (p .if1 .left)
+    ∙ own-next (a .job .now) (a .self) (Start (a .action)) (rows-are j) (p .if1 .left)
 
 returns-2 : tie.Need-returns-2
 returns-2 c =
@@ -85,5 +93,5 @@ returns-3 c =
 pub start-spec : {M : Type 1} → statement M
 start-spec =
     tie.close
-    (tie.spec (λ c κs. search needs) returns (λ c. few (c .before)) (λ c. sym (length-take-le _ _ (few (c .before .before))))
+    (tie.spec (λ c κs. search needs) (λ c κs. job-checked _ _ (c .check-job .ensures)) returns (λ c. few (c .before)) (λ c. sym (length-take-le _ _ (few (c .before .before))))
     (λ c κs. let p = c .before .before in first p .judged .ensures .passed (p .if1 .left)) returns-2 start-word-requires with-word-requires returns-3)

@@ -3,13 +3,14 @@ use mathlib.Core.Path.{ap, _∙_}
 use borrow.Author.Needs.{needs}
 use Rattle.answers.specs.declared.Refusal.{Refusal}
 use Rattle.answers.specs.Packed.{answerOf}
-use Rattle.trial.proofs.CallRows.{short-begin, begun}
+use Rattle.trial.proofs.CallRows.{after-job, short-begin, begun}
 use Rattle.trial.proofs.calls.begin_words.Statement.{statement}
 use Rattle.trial.proofs.calls.begin_words.Tie as tie
 
 returns : tie.Need-returns
 returns c =
-    short-begin _ _ (c .before .before .if1 .taken) (c .answer-of .ensures ∙ ap (λ (r : Refusal). answerOf r 0 0) (c .before .short-refusal .ensures))
+    short-begin _ _ (c .before .before .before .if1 .taken)
+    (c .answer-of .ensures ∙ ap (λ (r : Refusal). answerOf r 0 0) (after-job _ _ (c .before .before .check-job .ensures) (c .before .short-refusal .ensures)))
 
 returns-2 : tie.Need-returns-2
 returns-2 c =
@@ -20,5 +21,5 @@ returns-2 c =
 pub begin-words-spec : {M : Type 1} → statement M
 begin-words-spec =
     tie.close
-    (tie.spec (λ c κs. search needs) (λ c κs. search needs) returns (λ c κs. search needs)
+    (tie.spec (λ c κs. search needs) (λ c κs. search needs) (λ c κs. search needs) returns (λ c κs. search needs)
     (λ c κs. (c .before .begin .ensures .1, c .before .before .if1 .left)) (λ c. search needs) returns-2)
