@@ -20,7 +20,7 @@ use Rattle.facts.proofs.Lists.{facts-fit}
 use Rattle.starts.specs.Rows.{startsRefusal}
 use Rattle.answers.specs.declared.Refusal.{Refusal}
 use Rattle.theory.specs.Answers.{factRoomRefusal, planRefusal}
-use Rattle.theory.specs.Code.Judged.{roomCheckedOf, JobChecked, withRefusal, PassedUpto}
+use Rattle.theory.specs.Code.Judged.{roomCheckedOf, JobChecked, PassedUpto}
 use Rattle.theory.specs.declared.Plan.{Plan}
 use Rattle.job.proofs.WordPositions.{placed, positions-count}
 
@@ -45,9 +45,19 @@ pub plan-formed : (job starts : List ℕ) → planRefusal job starts .number ≡
 plan-formed job starts clear = well-formed job (job-clear job starts clear)
 
 -- it has passed them whatever refusal stands beside its tables
-pub passed-still : {job starts : List ℕ} {k : ℕ} {plan plan' : Plan} {r : Refusal} → PassedUpto job starts k plan → plan' ≡ withRefusal plan r
-    → PassedUpto job starts k plan'
-passed-still h is = rw is (record {
+abbrev withRefusal : Plan → Refusal → Plan
+withRefusal plan r = record {
+  refusal = r;
+  index = plan .index;
+  durations = plan .durations;
+  effects = plan .effects;
+  shifts = plan .shifts;
+  groups = plan .groups;
+  history = plan .history;
+}
+
+pub passed-still : {job starts : List ℕ} {k : ℕ} {plan : Plan} (r : Refusal) → PassedUpto job starts k plan → PassedUpto job starts k (withRefusal plan r)
+passed-still r h = record {
   clear = h .clear;
   index = h .index;
   durations = h .durations;
@@ -55,7 +65,7 @@ passed-still h is = rw is (record {
   shifts = h .shifts;
   groups = h .groups;
   history = h .history;
-})
+}
 
 -- it has no more facts than its head lets it have
 pub few-facts : (job starts : List ℕ) → planRefusal job starts .number ≡ 0 → length (factsOf job starts) ≤ factRoom (headWord job)

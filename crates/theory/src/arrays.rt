@@ -19,9 +19,8 @@ pub fn arrays_of(job: &[u32], starts: &[u32], plan: Plan) -> Arrays
     let sources = formulas.position;
     let places = nodes.position;
     let durations = plan.durations;
-    let history = plan.history;
     let last = last_of(job[0]);
-    let values = standard_values(job, &sources, formulas.total, &history);
+    let values = standard_values(job, &sources, formulas.total, &plan.history);
     let moments = start_moments(starts);
     Arrays {
         count: nodes.total,

@@ -10,7 +10,7 @@ ghost use Rattle.history.specs.Code.Tables.{History};
 ghost use Rattle.facts.specs.Facts.{factsOf};
 ghost use Rattle.starts.specs.Rows.{startsRefusal};
 ghost use Rattle.theory.specs.Answers.{bufferRefusal, planRefusal, factsRefusal, checkRefusal, checkAnswer, fillAnswer, written};
-ghost use Rattle.theory.specs.Code.Judged.{roomCheckedOf, JobChecked, withRefusal, Judgeable, JudgedUpto, Judged};
+ghost use Rattle.theory.specs.Code.Judged.{roomCheckedOf, JobChecked, Judgeable, JudgedUpto, Judged};
 ghost use Rattle.theory.specs.Code.Compared.{partRefusal};
 use answers::Answer;
 use answers::Refusal;
@@ -70,27 +70,6 @@ pub fn refused(refusal: Refusal, index: Index) -> Plan
         members: [0u64; 8],
     };
     let history = [0u8; 16384];
-    Plan {
-        refusal,
-        index,
-        durations,
-        effects,
-        shifts,
-        groups,
-        history,
-    }
-}
-
-// The same plan with another refusal.
-pub fn with_refusal(plan: Plan, refusal: Refusal) -> Plan
-    ensures { λ r. ⌜ r ≡ withRefusal plan refusal ⌝ }
-{
-    let index = plan.index;
-    let durations = plan.durations;
-    let effects = plan.effects;
-    let shifts = plan.shifts;
-    let groups = plan.groups;
-    let history = plan.history;
     Plan {
         refusal,
         index,
@@ -214,13 +193,14 @@ fn compare_facts(job: &[u32], history: &[u8; 16384], given: &[u32]) -> Refusal
 pub fn judge_facts(job: &[u32], starts: &[u32], facts: &[u32]) -> Plan
     ensures { λ r. ⌜ Judged (checkRefusal (now (job .entry)) (now (starts .entry)) (now (facts .entry))) (now (job .entry)) (now (starts .entry)) r ⌝ }
 {
-    let plan = judge(job, check_job(job), starts);
+    let mut plan = judge(job, check_job(job), starts);
     let rows = plan.refusal;
     if rows.number != 0 {
         return plan;
     }
-    let history = plan.history;
-    with_refusal(plan, compare_facts(job, &history, facts))
+    let differ = compare_facts(job, &plan.history, facts);
+    plan.refusal = differ;
+    plan
 }
 
 pub fn check_plan(job: &[u32], starts: &[u32], facts: &[u32]) -> Answer
@@ -254,7 +234,6 @@ pub fn fill_plan(job: &[u32], starts: &[u32], buffer: &mut [u32]) -> Answer
     if refused.number != 0 {
         return answer_of(refused, 0, 0);
     }
-    let history = plan.history;
-    let n = fill_facts(job, &history, buffer);
+    let n = fill_facts(job, &plan.history, buffer);
     answer_of(refused, n, 0)
 }

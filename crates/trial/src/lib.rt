@@ -27,7 +27,6 @@ use theory::buffer_refusal;
 use theory::check_room;
 use theory::judge_starts;
 use theory::refused;
-use theory::with_refusal;
 use words::insert_word;
 use words::last_of;
 use words::start_word;
@@ -112,8 +111,10 @@ impl Trial {
         let moment = self.moment;
         let length = self.length;
         let starts = self.starts;
-        let plan = judge_starts(job, index, &starts[..length], moment);
-        with_refusal(plan, at_zero(plan.refusal))
+        let mut plan = judge_starts(job, index, &starts[..length], moment);
+        let refusal = at_zero(plan.refusal);
+        plan.refusal = refusal;
+        plan
     }
 
     // The trial with one more start, at its place.
@@ -209,8 +210,7 @@ impl Trial {
         if refused.number != 0 {
             return answer_of(refused, 0, 0);
         }
-        let history = plan.history;
-        let n = fill_upto(job, &history, self.moment, buffer);
+        let n = fill_upto(job, &plan.history, self.moment, buffer);
         answer_of(refused, n, 0)
     }
 }

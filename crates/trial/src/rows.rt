@@ -110,14 +110,13 @@ fn held_refusal(job: &[u32], plan: Plan, starts: &[u32], u: usize, a: usize) -> 
     ensures { λ r. ⌜ r ≡ heldRefusal (now (job .entry)) (now (starts .entry)) u a ⌝ }
 {
     let durations = plan.durations;
-    let effects = plan.effects;
     let mut held = [0u32; 4096];
     copy_words(starts, 0, &mut held);
     let count = keep_unfinished(&durations, u, &mut held, starts.len());
     if some_busy(job, &durations, &held[..count], u, a) {
         return refuse(8, 0);
     }
-    if some_clash(job, &durations, &effects, &held[..count], u, a) {
+    if some_clash(job, &durations, &plan.effects, &held[..count], u, a) {
         return refuse(9, 0);
     }
     let shifts = plan.shifts;
@@ -147,8 +146,7 @@ pub fn start_refusal(job: &[u32], plan: Plan, starts: &[u32], u: usize, a: usize
     let index = plan.index;
     let actions = index.actions;
     let places = actions.position;
-    let history = plan.history;
     let laws = laws_of(job, &places, a);
-    let unmet = row_of(has_unmet(head, &history, u, laws), 10, 0);
+    let unmet = row_of(has_unmet(head, &plan.history, u, laws), 10, 0);
     first_refusal(held, unmet)
 }

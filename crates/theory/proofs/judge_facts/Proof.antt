@@ -6,7 +6,6 @@ use Rattle.answers.specs.Rows.{firstRefusal}
 use Rattle.starts.specs.Rows.{startsRefusal}
 use Rattle.theory.specs.Answers.{planRefusal}
 use Rattle.theory.specs.Code.Judged.{Passed}
-use Rattle.theory.specs.declared.Plan.{Plan}
 use Rattle.answers.proofs.Rows.{or-refused, or-passed}
 use Rattle.theory.proofs.Laws.{check-rows}
 use Rattle.theory.proofs.Passing.{checked-refusal, job-checked, plan-formed, passed-still}
@@ -45,15 +44,15 @@ returns c =
 
 returns-2 : tie.Need-returns-2
 returns-2 c =
-    let e = c .before .before .before .before in
+    let e = c .before .before .before in
     let s = entry (judged e) in
     record {
-      refusal = ap (λ (r : Plan). r .refusal) (c .with-refusal .ensures) ∙ c .before .compare-facts .ensures _ (passing e .history) ∙ or-passed _ _ (clear e) ∙ sym (check-rows (s .args .job .now) (s .args .starts .now) (s .args .facts .now));
-      passed = λ z. passed-still (passing e) (c .with-refusal .ensures);
+      refusal = c .compare-facts .ensures _ (passing e .history) ∙ or-passed _ _ (clear e) ∙ sym (check-rows (s .args .job .now) (s .args .starts .now) (s .args .facts .now));
+      passed = λ z. passed-still (c .compare-facts .result) (passing e);
     }
 
 pub judge-facts-spec : {M : Type 1} → statement M
 judge-facts-spec =
     tie.close
     (tie.spec (λ c κs. search needs) (λ c κs. job-checked _ _ (c .check-job .ensures)) returns (λ c κs. plan-formed _ _ (clear (c .before .before)))
-    (λ c κs. search needs) returns-2)
+    returns-2)

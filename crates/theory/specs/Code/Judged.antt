@@ -27,18 +27,6 @@ pub record JobChecked (job : List ℕ) (r : Checked) : Type 0 where
   pub good : r .refusal .number ≡ 0 → jobRefusal job .number ≡ 0
   pub index : r .index ≡ checkedOf job .index
 
--- the same plan with another refusal
-abbrev pub withRefusal : Plan → Refusal → Plan
-withRefusal plan r = record {
-  refusal = r;
-  index = plan .index;
-  durations = plan .durations;
-  effects = plan .effects;
-  shifts = plan .shifts;
-  groups = plan .groups;
-  history = plan .history;
-}
-
 -- of a plan that passes the rows of its job and its starts: the index of its job's words, the durations, effects and shift windows of its
 -- actions, its groups, its history up to moment k; the same with the whole history
 pub record PassedUpto (job starts : List ℕ) (k : ℕ) (plan : Plan) : Type 0 where

@@ -8,17 +8,17 @@ use Rattle.theory.proofs.arrays.arrays_of.Tie as tie
 
 -- the function's entry, from where the plan's parts are taken, and from the last moment
 abbrev taken : tie.After-shared-slice-known3 → tie.Start
-taken c = c .before .before .before .before .before .before .before .before .before .before
+taken c = c .before .before .before .before .before .before .before .before .before
 
 abbrev entry : tie.After-last-of → tie.Start
 entry c = taken (c .before)
 
 abbrev at-last : tie.After-start-moments → tie.After-last-of
-at-last c = c .before .before .before .before
+at-last c = c .before .before .before .before .before
 
 standard-values-requires : tie.Need-standard-values-requires
 standard-values-requires c κs =
-    let p = entry (c .before .before) .pre in
+    let p = entry (c .before .before .before) .pre in
     let clear = job-clear _ _ (p .clear) in
     grounds (plan-formed _ _ (p .clear)) (formulas-indexed _ clear (p .index)) (formulas-counted _ clear (p .index)) (p .history)
 

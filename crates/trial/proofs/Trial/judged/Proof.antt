@@ -12,7 +12,6 @@ use Rattle.answers.proofs.Rows.{or-refused, at-number}
 use Rattle.job.specs.Refusal.{jobRefusal}
 use Rattle.job.proofs.WellFormed.{well-formed}
 use Rattle.theory.specs.Answers.{planRefusal}
-use Rattle.theory.specs.declared.Plan.{Plan}
 use Rattle.theory.proofs.Passing.{passed-still}
 use Rattle.moves.specs.Trials.{outside, trialRefusal}
 use Rattle.trial.specs.Stepped.{trialOf}
@@ -77,21 +76,19 @@ judge-starts-requires c κs =
 
 returns-3 : tie.Need-returns-3
 returns-3 c =
-    let z = c .before in
-    let j = judging z in
+    let j = judging c in
     let b = j .before .before .before in
     let o = b .before in
     let s = entry (passed o) in
     let size = o .is-outside .ensures .size in
     let rows = j .judge-starts .ensures .refusal in
-    let is : c .with-refusal .result .refusal ≡ z .at-zero .result = ap (λ (r : Plan). r .refusal) (c .with-refusal .ensures) in
-    let clear : c .with-refusal .result .refusal .number ≡ 0 → planRefusal (s .args .job .now) (take (s .args .self .length) (s .args .self .starts)) .number ≡ 0 = λ n.
-    sym (ap (λ (r : Refusal). r .number) rows) ∙ sym (at-number 0 (j .judge-starts .result .refusal .number)) ∙ sym (ap (λ (r : Refusal). r .number) (is ∙ z .at-zero .ensures)) ∙ n in
+    let clear : c .at-zero .result .number ≡ 0 → planRefusal (s .args .job .now) (take (s .args .self .length) (s .args .self .starts)) .number ≡ 0 = λ n.
+    sym (ap (λ (r : Refusal). r .number) rows) ∙ sym (at-number 0 (j .judge-starts .result .refusal .number)) ∙ sym (ap (λ (r : Refusal). r .number) (c .at-zero .ensures)) ∙ n in
     record {
-      refusal = is ∙ z .at-zero .ensures ∙ start-rows (s .args .job .now) (s .args .self) (good (passed o)) size (in-bounds b) (s .args .checked .refusal) (passed o .if1 .left) rows;
+      refusal = c .at-zero .ensures ∙ start-rows (s .args .job .now) (s .args .self) (good (passed o)) size (in-bounds b) (s .args .checked .refusal) (passed o .if1 .left) rows;
       passed = λ n.
           judged-present (s .args .job .now) (s .args .self) (good (passed o)) size (in-bounds b)
-          (passed-still (j .judge-starts .ensures .passed (clear n)) (c .with-refusal .ensures));
+          (passed-still (c .at-zero .result) (j .judge-starts .ensures .passed (clear n)));
       sized = λ n. judged-sized (s .args .job .now) (s .args .self) (good (passed o)) size (in-bounds b);
     }
 
@@ -100,4 +97,4 @@ judged-spec =
     tie.close
     (tie.spec (λ c κs. search needs) returns (λ c κs. well-formed _ (good c) .some) (λ c κs. search needs)
     (λ c κs. search needs) returns-2 (λ c. few (c .before)) (λ c. sym (length-take-le _ _ (few (c .before .before)))) judge-starts-requires
-    (λ c κs. search needs) (λ c κs. search needs) returns-3)
+    (λ c κs. search needs) returns-3)

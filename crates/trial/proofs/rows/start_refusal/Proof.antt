@@ -32,12 +32,12 @@ returns c =
     let f = c .before .before in
     tested (entry f .pre) (small f) (c .refuse .ensures ∙ row-6 _ _ _ _ (le-leb _ _ (rw (f .actions-of .ensures .0) at (c .before .if1 .taken))))
 
--- the action is the job's, and its duration is read from the table
+-- the action is the job's, and its duration is read from the table of the plan, `t2`, of which parts are lent
 below : (c : tie.After-last-of) → entry (first c) .args .a < actions (entry (first c) .args .job .now)
 below c = rw (first c .actions-of .ensures .0) at (c .before .before .if1 .left)
 
 lasts : (c : tie.After-last-of)
-    → let args = entry (first c) .args in getD (args .plan .durations) (args .a) 0 ≡ duration (args .job .now) (args .a)
+    → let args = entry (first c) .args in getD (args .t2 .durations) (args .a) 0 ≡ duration (args .job .now) (args .a)
 lasts c = entry (first c) .pre .passed .durations .entry _ (below c)
 
 not-6 : (c : tie.After-last-of) → leb (actions (entry (first c) .args .job .now)) (entry (first c) .args .a) ≡ false
@@ -66,7 +66,7 @@ held-refusal-requires c κs =
 
 -- the refusal by the other starts, from where the places of actions are taken
 abbrev held : tie.After-places2 → tie.After-held-refusal
-held c = c .before .before .before .before .before
+held c = c .before .before .before .before
 
 laws-of-requires : tie.Need-laws-of-requires
 laws-of-requires c κs =
@@ -76,13 +76,13 @@ laws-of-requires c κs =
 
 has-unmet-requires : tie.Need-has-unmet-requires
 has-unmet-requires c κs =
-    let g = entry (first (second (held (c .before .before)))) .pre in
+    let g = entry (first (second (held (c .before .before .before)))) .pre in
     omega (arith, g .present, present-formed g .few-moments)
 
 returns-3 : tie.Need-returns-3
 returns-3 c =
     let needs = c .before .before in
-    let laws = needs .before .before in
+    let laws = needs .before .before .before in
     let h = held (laws .before) in
     let l = second h in
     let f = first l in
