@@ -256,7 +256,7 @@ fn the_cabinet_s_words_say_what_is_meant() {
 fn the_facts_are_those_of_the_rules() {
     for folder in ["door", "no-pause", "curtain", "in-pause", "shift", "grippers", "cabinet"] {
         let (starts, facts) = plan(folder);
-        assert_eq!(calls::fill(&job(folder), &starts, 16_384).1, facts, "{folder}");
+        assert_eq!(calls::fill(&job(folder), &starts, 4_096).1, facts, "{folder}");
     }
 }
 
