@@ -1,4 +1,4 @@
-/* What the examples share: files of words, and the meaning of a refusal. */
+/* What the examples share: files of words, what differs in wide jobs, and the meaning of a refusal. */
 #ifndef COMMON_H
 #define COMMON_H
 
@@ -43,6 +43,34 @@ static inline int read_lists(const char *program, char **paths, struct list *fir
         return 0;
     }
     return 1;
+}
+
+/* The words of a job, and the facts of its plans, have the fields that its head says. For a job that passes. */
+static inline int is_wide(const struct list *job) { return planreader_head_is_wide(job->words[0]); }
+
+static inline unsigned count_fluents(const struct list *job)
+{
+    return is_wide(job) ? planreader_wide_head_fluents(job->words[0]) : planreader_head_fluents(job->words[0]);
+}
+
+static inline unsigned role_of(const struct list *job, uint32_t law)
+{
+    return is_wide(job) ? planreader_wide_law_role(law) : planreader_law_role(law);
+}
+
+static inline unsigned fluent_of_law(const struct list *job, uint32_t law)
+{
+    return is_wide(job) ? planreader_wide_law_fluent(law) : planreader_law_fluent(law);
+}
+
+static inline unsigned moment_of_fact(const struct list *job, uint32_t fact)
+{
+    return is_wide(job) ? planreader_wide_fact_moment(fact) : planreader_fact_moment(fact);
+}
+
+static inline unsigned fluent_of_fact(const struct list *job, uint32_t fact)
+{
+    return is_wide(job) ? planreader_wide_fact_fluent(fact) : planreader_fact_fluent(fact);
 }
 
 static int has_node(const struct list *job)

@@ -27,8 +27,8 @@ static unsigned end_of(const struct list *job, uint32_t start)
 static unsigned made(const struct list *job, uint32_t start, unsigned fluent)
 {
     for (size_t i = next_law(job, action_at(job, planreader_start_action(start))); i != 0; i = next_law(job, i)) {
-        unsigned role = planreader_law_role(job->words[i]);
-        if (role >= PLANREADER_MAKES_TRUE && planreader_law_fluent(job->words[i]) == fluent) return role;
+        unsigned role = role_of(job, job->words[i]);
+        if (role >= PLANREADER_MAKES_TRUE && fluent_of_law(job, job->words[i]) == fluent) return role;
     }
     return 0;
 }
@@ -58,7 +58,7 @@ static void explain_overlap(FILE *to, const struct list *job, const struct list 
         if (number == PLANREADER_START_IN_HAND && planreader_start_action(earlier) == planreader_start_action(start))
             fprintf(to, "  start %u, moment %u, of the same action is in hand until %u\n", i, planreader_start_moment(earlier),
                     end_of(job, earlier));
-        for (unsigned fluent = 0; number == PLANREADER_START_CLASHES && fluent < 64; fluent++)
+        for (unsigned fluent = 0; number == PLANREADER_START_CLASHES && fluent < count_fluents(job); fluent++)
             if (made(job, start, fluent) + made(job, earlier, fluent) == PLANREADER_MAKES_TRUE + PLANREADER_MAKES_FALSE)
                 fprintf(to, "  start %u, moment %u, action %u, is in hand until %u: one makes fluent %u true, the other false\n", i,
                         planreader_start_moment(earlier), planreader_start_action(earlier), end_of(job, earlier), fluent);
@@ -66,10 +66,10 @@ static void explain_overlap(FILE *to, const struct list *job, const struct list 
 }
 
 /* The value of a fluent at a moment, by a list of facts. */
-static const char *value_at(const uint32_t *facts, size_t length, unsigned moment, unsigned fluent)
+static const char *value_at(const struct list *job, const uint32_t *facts, size_t length, unsigned moment, unsigned fluent)
 {
     for (size_t i = 0; i < length; i++)
-        if (planreader_fact_moment(facts[i]) == moment && planreader_fact_fluent(facts[i]) == fluent)
+        if (moment_of_fact(job, facts[i]) == moment && fluent_of_fact(job, facts[i]) == fluent)
             return planreader_fact_is_true(facts[i]) ? "true" : "false";
     return "open";
 }
@@ -89,13 +89,13 @@ static void explain_hidden(FILE *to, const struct list *job, const struct list *
  * of the same moment or later hides and makes nothing by then. */
 static void explain_needs(FILE *to, const struct list *job, const struct list *starts, unsigned position)
 {
-    static uint32_t facts[PLANREADER_BUFFER_WORDS];
+    static uint32_t facts[PLANREADER_WIDE_BUFFER_WORDS];
     unsigned action = planreader_start_action(starts->words[position]), moment = planreader_start_moment(starts->words[position]);
-    unsigned known = planreader_length(fill(job->words, job->length, starts->words, position, facts, PLANREADER_BUFFER_WORDS));
+    unsigned known = planreader_length(fill(job->words, job->length, starts->words, position, facts, PLANREADER_WIDE_BUFFER_WORDS));
     for (size_t i = next_law(job, action_at(job, action)); i != 0; i = next_law(job, i)) {
-        unsigned role = planreader_law_role(job->words[i]), fluent = planreader_law_fluent(job->words[i]);
+        unsigned role = role_of(job, job->words[i]), fluent = fluent_of_law(job, job->words[i]);
         if (role >= PLANREADER_MAKES_TRUE) continue;
-        const char *needed = role == PLANREADER_NEEDS_TRUE ? "true" : "false", *value = value_at(facts, known, moment, fluent);
+        const char *needed = role == PLANREADER_NEEDS_TRUE ? "true" : "false", *value = value_at(job, facts, known, moment, fluent);
         fprintf(to, "  action %u needs fluent %u %s; at %u it is %s", action, fluent, needed, moment, value);
         if (value[0] == 'o') explain_hidden(to, job, starts, position, moment, fluent);
         fprintf(to, "%s\n", value[0] == needed[0] ? "" : ": not met");

@@ -8,7 +8,7 @@
 
 /* Static: the calls ask for initialised words, and this also keeps the lists off the stack. */
 static struct list job, plan;
-static uint32_t facts[PLANREADER_BUFFER_WORDS], reading[PLANREADER_BUFFER_WORDS];
+static uint32_t facts[PLANREADER_WIDE_BUFFER_WORDS], reading[PLANREADER_BUFFER_WORDS];
 
 /* How many of the plan's words are starts: the leading ones of kind 9. The others are facts. */
 static size_t count_starts(void)
@@ -67,7 +67,7 @@ int main(int argc, char **argv)
     }
     if (!read_lists("host", argv + 1, &job, &plan)) return 2;
     size_t starts = count_starts();
-    uint64_t filled = fill(job.words, job.length, plan.words, starts, facts, PLANREADER_BUFFER_WORDS);
+    uint64_t filled = fill(job.words, job.length, plan.words, starts, facts, PLANREADER_WIDE_BUFFER_WORDS); /* so many serve every job */
     if (refused("fill", filled)) return 1;
     printf("fill: %u facts\n", planreader_length(filled));
 

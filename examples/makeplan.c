@@ -4,12 +4,12 @@
  *     cc -std=c11 -Iinclude examples/makeplan.c lib/libplanreader.a -o makeplan
  *     ./makeplan examples/door/job.w32 examples/door/starts.w32 plan.w32
  *
- * Exit status: 0 if the plan was written, 1 for a refusal, 2 for files that can't be used. A refusal writes no file, and leaves one of that
- * name as it was. */
+ * Exit status: 0 if the plan was written, 1 for a refusal, 2 for files that can't be used, or a plan that is too long for one. Then no file is
+ * written, and one of that name stays as it was. */
 #include "explain.h"
 
 static struct list job, starts;
-static uint32_t facts[PLANREADER_BUFFER_WORDS];
+static uint32_t facts[PLANREADER_WIDE_BUFFER_WORDS]; /* so many serve every job */
 
 /* Says a refusal: the file concerned, the number and position, what it means, and more of what stands there. */
 static void say_refusal(const char *job_path, const char *starts_path, uint64_t answer)
@@ -57,13 +57,19 @@ int main(int argc, char **argv)
         say_not_written(argv[3]);
         return 2;
     }
-    uint64_t filled = fill(job.words, job.length, starts.words, starts.length, facts, PLANREADER_BUFFER_WORDS);
+    uint64_t filled = fill(job.words, job.length, starts.words, starts.length, facts, PLANREADER_WIDE_BUFFER_WORDS);
     if (planreader_number(filled) != PLANREADER_ACCEPTED) {
         say_refusal(argv[1], argv[2], filled);
         say_not_written(argv[3]);
         return 1;
     }
-    /* At most 4,032 lawful starts and 4,096 facts: the file is never above the 32 KiB that planread takes. */
+    /* At most 4,032 lawful starts and 4,096 facts are never above the 32 KiB that planread takes, but a wide job may have 16,384 facts. */
+    if (starts.length + planreader_length(filled) > FILE_WORDS) {
+        fprintf(stderr, "makeplan: %zu starts and %u facts are more than the %u words of a plan file\n", starts.length,
+                planreader_length(filled), FILE_WORDS);
+        say_not_written(argv[3]);
+        return 2;
+    }
     if (!write_plan(argv[3], planreader_length(filled))) {
         fprintf(stderr, "makeplan: %s can't be written\n", argv[3]);
         return 2;

@@ -17,7 +17,7 @@
 /* Static: the calls ask for initialised words, and this also keeps the lists off the stack. */
 static struct list job;
 static planreader_trial trial;
-static uint32_t facts[PLANREADER_BUFFER_WORDS];
+static uint32_t facts[PLANREADER_WIDE_BUFFER_WORDS]; /* so many serve every job */
 static int refusals;
 
 /* Whether the answer is a refusal; if so, says it. Only one of the job has a position. */
@@ -72,14 +72,14 @@ static void say_fluents(unsigned length, const char *value)
 {
     unsigned said = 0;
     printf("  %s:", value);
-    for (unsigned fluent = 0; fluent < planreader_head_fluents(job.words[0]); fluent++)
-        if (strcmp(value_at(facts, length, planreader_trial_moment(trial), fluent), value) == 0) said += printf(" %u", fluent) > 0;
+    for (unsigned fluent = 0; fluent < count_fluents(&job); fluent++)
+        if (strcmp(value_at(&job, facts, length, planreader_trial_moment(trial), fluent), value) == 0) said += printf(" %u", fluent) > 0;
     printf("%s\n", said ? "" : " none");
 }
 
 static void do_show(void)
 {
-    uint64_t answer = trial_show(job.words, job.length, trial, PLANREADER_TRIAL_WORDS, facts, PLANREADER_BUFFER_WORDS);
+    uint64_t answer = trial_show(job.words, job.length, trial, PLANREADER_TRIAL_WORDS, facts, PLANREADER_WIDE_BUFFER_WORDS);
     if (refused("show", answer)) return;
     printf("show: moment %u of %u\n", planreader_trial_moment(trial), last_moment());
     say_fluents(planreader_length(answer), "true");

@@ -46,7 +46,20 @@
  *
  * A host that has a function of its own with one of these names defines PLANREADER_PREFIXED before this header and links
  * libplanreader-prefixed.a, the same code: the calls are then planreader_check, planreader_fill, planreader_find, planreader_trial_begin
- * and so on, and the short names are free. */
+ * and so on, and the short names are free.
+ *
+ * A job whose head has 1 in bits 27..24 is wide: it has up to 256 fluents, and other fields in the words that name one. Its laws, its words of
+ * what is initially known and its formulas of form 1 are made and read by the planreader_wide_ functions, and so are the facts of its plans;
+ * all other words are those of other jobs. fill and trial_show need a buffer of PLANREADER_WIDE_BUFFER_WORDS words for it, which serves every
+ * job; find does not. A host that is given jobs looks at their heads:
+ *
+ *     static uint32_t known[PLANREADER_WIDE_BUFFER_WORDS];
+ *     uint64_t filled = fill(job, job_len, starts, starts_len, known, PLANREADER_WIDE_BUFFER_WORDS);
+ *     int wide = planreader_number(filled) == 0 && planreader_head_is_wide(job[0]);
+ *     for (unsigned i = 0; i < planreader_length(filled); i++)
+ *         printf("at %u fluent %u is %s\n", wide ? planreader_wide_fact_moment(known[i]) : planreader_fact_moment(known[i]),
+ *                wide ? planreader_wide_fact_fluent(known[i]) : planreader_fact_fluent(known[i]),
+ *                planreader_fact_is_true(known[i]) ? "true" : "false"); */
 #ifndef PLANREADER_H
 #define PLANREADER_H
 
@@ -60,9 +73,11 @@ extern "C" {
 #define PLANREADER_VERSION "0.1.0"
 
 #define PLANREADER_BUFFER_WORDS 4096u /* a shorter buffer is refusal 12 */
+#define PLANREADER_WIDE_BUFFER_WORDS 16384u /* a shorter buffer is refusal 12 of fill and trial_show for a wide job */
 #define PLANREADER_JOB_WORDS 2048u /* a longer job is refusal 1 */
 #define PLANREADER_TRIAL_WORDS 4098u /* a shorter list is no trial: refusal 14 */
-#define PLANREADER_STACK 196608u /* bytes: what the tests measured, rounded up */
+/* Bytes: what the tests measured, rounded up. Tables of 64 actions, or of 64 moments, by 256 fluents are among it. docs/HOST.md names it too. */
+#define PLANREADER_STACK 262144u
 
 #ifdef PLANREADER_PREFIXED
 #define PLANREADER_CALL(name) planreader_##name
@@ -75,14 +90,16 @@ uint64_t PLANREADER_CALL(check)(const uint32_t *job, size_t job_len, const uint3
                                 const uint32_t *facts, size_t facts_len);
 
 /* From lawful starts, writes the list of known facts to the buffer's first planreader_length words; with it the plan passes.
- * Refusals 12, 1 to 9, 15, 16 and 10. A refusal changes no word of the buffer, and a success none after the list. */
+ * Refusals 12, 1 to 5, 12 again, 6 to 9, 15, 16 and 10: 12 before all others for a buffer of fewer than PLANREADER_BUFFER_WORDS, and after
+ * those of the job for one of fewer than PLANREADER_WIDE_BUFFER_WORDS, if the job is wide. A refusal changes no word of the buffer, and a
+ * success none after the list. */
 uint64_t PLANREADER_CALL(fill)(const uint32_t *job, size_t job_len, const uint32_t *starts, size_t starts_len,
                                uint32_t *buffer, size_t buffer_len);
 
-/* Reads the job's procedure against the plan from moment 0 to the last. Refusal 12, and those of check; then 13, no list of words is a
- * reading of the root, with the true count; or a reading's words in the buffer's first planreader_length words, with the true count: the
- * number of (node, begin, end) triples that have a reading. A refusal, 13 too, changes no word of the buffer, and a success none after the
- * reading. */
+/* Reads the job's procedure against the plan from moment 0 to the last. Refusal 12, for a buffer of fewer than PLANREADER_BUFFER_WORDS,
+ * also where the job is wide, and those of check; then 13, no list of words is a reading of the root, with the true count; or a reading's
+ * words in the buffer's first planreader_length words, with the true count: the number of (node, begin, end) triples that have a reading. A
+ * refusal, 13 too, changes no word of the buffer, and a success none after the reading. */
 uint64_t PLANREADER_CALL(find)(const uint32_t *job, size_t job_len, const uint32_t *starts, size_t starts_len,
                                const uint32_t *facts, size_t facts_len, uint32_t *buffer, size_t buffer_len);
 
@@ -106,8 +123,9 @@ uint64_t PLANREADER_CALL(trial_start)(const uint32_t *job, size_t job_len, uint3
 uint64_t PLANREADER_CALL(trial_on)(const uint32_t *job, size_t job_len, uint32_t *trial, size_t trial_len);
 
 /* Writes the facts of moments 0 to the trial's, both included, to the buffer's first planreader_length words: those that fill writes for
- * the trial's starts, up to that moment. Refusal 12, before all others; then 1 to 5 with the job's position, and 14, or 6 to 9, 15, 16 and 10,
- * for the trial, with position 0. A refusal changes no word of the buffer, and a success none after the facts. */
+ * the trial's starts, up to that moment. Refusal 12, before all others; then 1 to 5 with the job's position; 12 again for a wide job, both as
+ * for fill; and 14, or 6 to 9, 15, 16 and 10, for the trial, with position 0. A refusal changes no word of the buffer, and a success none after
+ * the facts. */
 uint64_t PLANREADER_CALL(trial_show)(const uint32_t *job, size_t job_len, const uint32_t *trial, size_t trial_len,
                                      uint32_t *buffer, size_t buffer_len);
 
@@ -144,7 +162,9 @@ enum planreader_refusal {
     PLANREADER_START_CLASHES = 9,
     PLANREADER_START_NEEDS = 10,
     PLANREADER_FACTS_DIFFER = 11, /* the first difference; if one list begins the other, the shorter length */
-    PLANREADER_BUFFER_SHORT = 12, /* position 0 */
+    /* Position 0. From find, and from fill and trial_show where the buffer has fewer than PLANREADER_BUFFER_WORDS: lend so many. From fill and
+     * trial_show where it has so many: the job is wide, and well formed; lend PLANREADER_WIDE_BUFFER_WORDS. */
+    PLANREADER_BUFFER_SHORT = 12,
     PLANREADER_NO_READING = 13, /* position 0 */
     /* Of the trial calls alone, position 0: fewer than PLANREADER_TRIAL_WORDS words, more than 4,096 starts, a moment after the last, a start
      * whose moment (bits 11..6 of whatever word) is after the trial's; or trial_on at the last moment. */
@@ -241,17 +261,29 @@ enum planreader_condition_form {
 
 /* Makers of words. Give 0 for fields that a form does not use, and is_true 0 for false. A value that does not fit its field makes the
  * word 0, which no list may have: check refuses it, by 2 in a job, 6 among starts, 11 among facts. Whether another word is right where it
- * stands check says too. Mind the order: the parameters are those of the word's fields from the highest bit down, but is_true is the last. */
+ * stands check says too. Mind the order: the parameters are those of the word's fields from the highest bit down, but is_true is the last.
+ * A name with wide_ is for a job that begins with planreader_wide_head, and there in place of the name without it. */
 
 /* Number of fluents, number of actions, last moment. */
 static inline uint32_t planreader_head(unsigned fluents, unsigned actions, unsigned last)
 {
     return fluents < 256 && actions < 256 && last < 256 ? 1u << 28 | fluents << 16 | actions << 8 | last : 0;
 }
+/* The same, of a wide job: 1 to 256 fluents. 256 stands in the word as 0. */
+static inline uint32_t planreader_wide_head(unsigned fluents, unsigned actions, unsigned last)
+{
+    return fluents > 0 && fluents <= 256 && actions < 256 && last < 256
+               ? 1u << 28 | 1u << 24 | (fluents & 255) << 16 | actions << 8 | last
+               : 0;
+}
 /* The fluent, then whether it is true at moment 0. */
 static inline uint32_t planreader_known(unsigned fluent, int is_true)
 {
     return fluent < 64 ? 2u << 28 | (is_true ? 0u : 1u) << 6 | fluent : 0;
+}
+static inline uint32_t planreader_wide_known(unsigned fluent, int is_true)
+{
+    return fluent < 256 ? 2u << 28 | (is_true ? 0u : 1u) << 8 | fluent : 0;
 }
 /* The action's number, then how long it lasts. */
 static inline uint32_t planreader_action(unsigned number, unsigned duration)
@@ -262,6 +294,10 @@ static inline uint32_t planreader_action(unsigned number, unsigned duration)
 static inline uint32_t planreader_law(unsigned role, unsigned fluent)
 {
     return role < 4 && fluent < 64 ? 4u << 28 | role << 6 | fluent : 0;
+}
+static inline uint32_t planreader_wide_law(unsigned role, unsigned fluent)
+{
+    return role < 4 && fluent < 256 ? 4u << 28 | role << 8 | fluent : 0;
 }
 /* The action, then from and to: one window of those in which the action may be carried out. */
 static inline uint32_t planreader_shift_window(unsigned action, unsigned from, unsigned to)
@@ -278,7 +314,7 @@ static inline uint32_t planreader_group_member(unsigned group, unsigned action)
 {
     return group < 16 && action < 64 ? 14u << 28 | group << 24 | action : 0;
 }
-/* The form (PLANREADER_ALWAYS ..), X, Y. */
+/* The form (PLANREADER_ALWAYS ..), X, Y. For form 1 of a wide job see planreader_wide_fluent. */
 static inline uint32_t planreader_formula(unsigned form, unsigned x, unsigned y)
 {
     return form < 16 && x < 64 && y < 64 ? 5u << 28 | form << 24 | x << 6 | y : 0;
@@ -310,6 +346,10 @@ static inline uint32_t planreader_fact(unsigned moment, unsigned fluent, int is_
 {
     return moment < 64 && fluent < 64 ? 10u << 28 | moment << 7 | fluent << 1 | (is_true ? 0u : 1u) : 0;
 }
+static inline uint32_t planreader_wide_fact(unsigned moment, unsigned fluent, int is_true)
+{
+    return moment < 64 && fluent < 256 ? 10u << 28 | moment << 9 | fluent << 1 | (is_true ? 0u : 1u) : 0;
+}
 /* The node, its begin, its end. */
 static inline uint32_t planreader_reading(unsigned node, unsigned begin, unsigned end)
 {
@@ -325,9 +365,21 @@ static inline uint32_t planreader_makes(unsigned fluent, int is_true)
 {
     return planreader_law(is_true ? PLANREADER_MAKES_TRUE : PLANREADER_MAKES_FALSE, fluent);
 }
-/* Formulas: of a fluent; of lower formulas. */
+static inline uint32_t planreader_wide_needs(unsigned fluent, int is_true)
+{
+    return planreader_wide_law(is_true ? PLANREADER_NEEDS_TRUE : PLANREADER_NEEDS_FALSE, fluent);
+}
+static inline uint32_t planreader_wide_makes(unsigned fluent, int is_true)
+{
+    return planreader_wide_law(is_true ? PLANREADER_MAKES_TRUE : PLANREADER_MAKES_FALSE, fluent);
+}
+/* Formulas: of a fluent, which in a wide job stands in bits 7..0; of lower formulas. */
 static inline uint32_t planreader_always(void) { return planreader_formula(PLANREADER_ALWAYS, 0, 0); }
 static inline uint32_t planreader_fluent(unsigned fluent) { return planreader_formula(PLANREADER_FLUENT, fluent, 0); }
+static inline uint32_t planreader_wide_fluent(unsigned fluent)
+{
+    return fluent < 256 ? 5u << 28 | 1u << 24 | fluent : 0;
+}
 static inline uint32_t planreader_not(unsigned formula) { return planreader_formula(PLANREADER_NOT, formula, 0); }
 static inline uint32_t planreader_and(unsigned x, unsigned y) { return planreader_formula(PLANREADER_AND, x, y); }
 static inline uint32_t planreader_or(unsigned x, unsigned y) { return planreader_formula(PLANREADER_OR, x, y); }
@@ -354,18 +406,25 @@ static inline uint32_t planreader_end_window(unsigned first, unsigned second, un
 }
 static inline uint32_t planreader_task_set(void) { return planreader_node(PLANREADER_TASK_SET, 0, 0, 0, 0); }
 
-/* Readers of words: the field of a word of the kind in the name, whatever the others are. */
+/* Readers of words: the field of a word of the kind in the name, whatever the others are. Of a wide job, and of its plans, those with wide_ read
+ * what the names without it read of another; planreader_fact_is_true, and of a head its actions and last moment, are the same for both. */
 static inline unsigned planreader_kind(uint32_t word) { return word >> 28; }
 static inline unsigned planreader_form(uint32_t word) { return word >> 24 & 15; } /* kinds 5, 6 and 8 */
+static inline int planreader_head_is_wide(uint32_t word) { return (word >> 24 & 15) == 1; }
 static inline unsigned planreader_head_fluents(uint32_t word) { return word >> 16 & 255; }
+static inline unsigned planreader_wide_head_fluents(uint32_t word) { return ((word >> 16) + 255) % 256 + 1; } /* 1 to 256 */
 static inline unsigned planreader_head_actions(uint32_t word) { return word >> 8 & 255; }
 static inline unsigned planreader_head_last(uint32_t word) { return word & 255; }
 static inline unsigned planreader_known_fluent(uint32_t word) { return word & 63; }
 static inline int planreader_known_is_true(uint32_t word) { return (word >> 6 & 1) == 0; }
+static inline unsigned planreader_wide_known_fluent(uint32_t word) { return word & 255; }
+static inline int planreader_wide_known_is_true(uint32_t word) { return (word >> 8 & 1) == 0; }
 static inline unsigned planreader_action_number(uint32_t word) { return word >> 6 & 63; }
 static inline unsigned planreader_action_duration(uint32_t word) { return word & 63; }
 static inline unsigned planreader_law_role(uint32_t word) { return word >> 6 & 3; }
 static inline unsigned planreader_law_fluent(uint32_t word) { return word & 63; }
+static inline unsigned planreader_wide_law_role(uint32_t word) { return word >> 8 & 3; }
+static inline unsigned planreader_wide_law_fluent(uint32_t word) { return word & 255; }
 static inline unsigned planreader_shift_window_action(uint32_t word) { return word >> 12 & 63; }
 static inline unsigned planreader_shift_window_from(uint32_t word) { return word >> 6 & 63; }
 static inline unsigned planreader_shift_window_to(uint32_t word) { return word & 63; }
@@ -375,6 +434,7 @@ static inline unsigned planreader_group_member_group(uint32_t word) { return wor
 static inline unsigned planreader_group_member_action(uint32_t word) { return word & 63; }
 static inline unsigned planreader_formula_x(uint32_t word) { return word >> 6 & 63; }
 static inline unsigned planreader_formula_y(uint32_t word) { return word & 63; }
+static inline unsigned planreader_wide_formula_fluent(uint32_t word) { return word & 255; } /* of form 1 */
 static inline unsigned planreader_node_x(uint32_t word) { return word >> 18 & 63; }
 static inline unsigned planreader_node_y(uint32_t word) { return word >> 12 & 63; }
 static inline unsigned planreader_node_m(uint32_t word) { return word >> 6 & 63; }
@@ -390,6 +450,8 @@ static inline unsigned planreader_start_action(uint32_t word) { return word & 63
 static inline unsigned planreader_fact_moment(uint32_t word) { return word >> 7 & 63; }
 static inline unsigned planreader_fact_fluent(uint32_t word) { return word >> 1 & 63; }
 static inline int planreader_fact_is_true(uint32_t word) { return (word & 1) == 0; }
+static inline unsigned planreader_wide_fact_moment(uint32_t word) { return word >> 9 & 63; }
+static inline unsigned planreader_wide_fact_fluent(uint32_t word) { return word >> 1 & 255; }
 static inline unsigned planreader_reading_node(uint32_t word) { return word >> 12 & 63; }
 static inline unsigned planreader_reading_begin(uint32_t word) { return word >> 6 & 63; }
 static inline unsigned planreader_reading_end(uint32_t word) { return word & 63; }

@@ -1,6 +1,6 @@
 # Functions that write jobs and starts as listings, a word a line, for sh and bash: '. words.sh', with its folder in PATH.
 #
-#     Head FLUENTS ACTIONS LAST     Known FLUENT true|false                          the head, initially known
+#     Head FLUENTS ACTIONS LAST     WideHead FLUENTS ACTIONS LAST   Known FLUENT true|false
 #     Action NUMBER DURATION        Needs FLUENT true|false   Makes FLUENT true|false   ShiftWindow ACTION FROM TO
 #     Group GROUP LIMIT             GroupMember GROUP ACTION
 #     Always   Fluent FLUENT   Not FORMULA   And FORMULA FORMULA   Or FORMULA FORMULA
@@ -8,6 +8,8 @@
 #     StartWindow NODE NODE M N   EndWindow NODE NODE M N   TaskSet   Member NODE
 #     BeginAfterBegin I J M N   BeginAfterEnd I J M N   HoldsBefore FORMULA I M N   HoldsAfter FORMULA I M N   HoldsBetween FORMULA I J M N
 #     Start MOMENT ACTION
+#
+# After WideHead, for jobs of up to 256 fluents, Known, Needs, Makes and Fluent write the words of a wide job, until the next Head.
 #
 # After these values each takes a text, for the comment. A value that does not fit its field, is missing or is no number is said on standard
 # error; the function then returns 1, and writes in place of the word a line that w32 refuses. A misspelt name is none of these functions and
@@ -33,31 +35,44 @@ words_line() { # USE BASE FIELDS VALUE.. [TEXT]
     printf '%08x  # %s%s\n' "$words_word" "$words_said" "${1:+: $1}"
 }
 
-# Adds a value to the word, or says what is wrong with it. A number has no zero in front, which would make it octal.
+# Adds a value to the word, or says what is wrong with it. A number has no zero in front, which would make it octal. 256 is written as 0, in a
+# field of eight bits that can't say 0.
 words_add() { # LOWEST-BIT MOST VALUE
+    words_least=0
+    [ "$2" != 256 ] || words_least=1
     case $2/$3 in
     truth/true) words_value=0 ;;
     truth/false) words_value=1 ;;
     truth/*) words_fault="'$3' is neither true nor false" ;;
-    */ | */*[!0-9]* | */0?* | */???*) words_fault="'$3' is not a number from 0 to $2" ;;
+    */ | */*[!0-9]* | */0?* | */????*) words_fault="'$3' is not a number from $words_least to $2" ;;
     *) words_value=$3 ;;
     esac
     [ -z "$words_fault" ] || return 0
-    if [ "$2" != truth ] && [ "$3" -gt "$2" ]; then words_fault="'$3' is not a number from 0 to $2"; fi
-    words_word=$((words_word | words_value << $1))
+    if [ "$2" != truth ] && { [ "$3" -lt "$words_least" ] || [ "$3" -gt "$2" ]; }; then
+        words_fault="'$3' is not a number from $words_least to $2"
+    fi
+    words_word=$((words_word | words_value % 256 << $1))
 }
 
-Head() { words_line 'Head FLUENTS ACTIONS LAST' '1 << 28' '16:64 8:64 0:63' "$@"; }
-Known() { words_line 'Known FLUENT true|false' '2 << 28' '0:63 6:truth' "$@"; }
+# Where words that name a fluent have it, by the head before them: the highest fluent; the lowest bit of its value or role; its own lowest bit
+# in a formula.
+words_layout() { # MOST TRUTH FORMULA
+    words_most=$1 words_truth=$2 words_formula=$3
+}
+words_layout 63 6 6
+
+Head() { words_layout 63 6 6 && words_line 'Head FLUENTS ACTIONS LAST' '1 << 28' '16:64 8:64 0:63' "$@"; }
+WideHead() { words_layout 255 8 0 && words_line 'WideHead FLUENTS ACTIONS LAST' '1 << 28 | 1 << 24' '16:256 8:64 0:63' "$@"; }
+Known() { words_line 'Known FLUENT true|false' '2 << 28' "0:$words_most $words_truth:truth" "$@"; }
 Action() { words_line 'Action NUMBER DURATION' '3 << 28' '6:63 0:63' "$@"; }
-Needs() { words_line 'Needs FLUENT true|false' '4 << 28' '0:63 6:truth' "$@"; }
-Makes() { words_line 'Makes FLUENT true|false' '4 << 28 | 2 << 6' '0:63 6:truth' "$@"; }
+Needs() { words_line 'Needs FLUENT true|false' '4 << 28' "0:$words_most $words_truth:truth" "$@"; }
+Makes() { words_line 'Makes FLUENT true|false' "4 << 28 | 2 << $words_truth" "0:$words_most $words_truth:truth" "$@"; }
 ShiftWindow() { words_line 'ShiftWindow ACTION FROM TO' '12 << 28' '12:63 6:63 0:63' "$@"; }
 Group() { words_line 'Group GROUP LIMIT' '13 << 28' '24:7 0:63' "$@"; }
 GroupMember() { words_line 'GroupMember GROUP ACTION' '14 << 28' '24:7 0:63' "$@"; }
 
 Always() { words_line 'Always' '5 << 28' '' "$@"; }
-Fluent() { words_line 'Fluent FLUENT' '5 << 28 | 1 << 24' '6:63' "$@"; }
+Fluent() { words_line 'Fluent FLUENT' '5 << 28 | 1 << 24' "$words_formula:$words_most" "$@"; }
 Not() { words_line 'Not FORMULA' '5 << 28 | 2 << 24' '6:63' "$@"; }
 And() { words_line 'And FORMULA FORMULA' '5 << 28 | 3 << 24' '6:63 0:63' "$@"; }
 Or() { words_line 'Or FORMULA FORMULA' '5 << 28 | 4 << 24' '6:63 0:63' "$@"; }

@@ -27,3 +27,15 @@ uint64_t step_once(const uint32_t *job, size_t job_len)
             printf("fluent %u is %s\n", planreader_fact_fluent(known[i]), planreader_fact_is_true(known[i]) ? "true" : "false");
     return answer;
 }
+
+void print_facts(const uint32_t *job, size_t job_len, const uint32_t *starts, size_t starts_len);
+void print_facts(const uint32_t *job, size_t job_len, const uint32_t *starts, size_t starts_len)
+{
+    static uint32_t known[PLANREADER_WIDE_BUFFER_WORDS];
+    uint64_t filled = fill(job, job_len, starts, starts_len, known, PLANREADER_WIDE_BUFFER_WORDS);
+    int wide = planreader_number(filled) == 0 && planreader_head_is_wide(job[0]);
+    for (unsigned i = 0; i < planreader_length(filled); i++)
+        printf("at %u fluent %u is %s\n", wide ? planreader_wide_fact_moment(known[i]) : planreader_fact_moment(known[i]),
+               wide ? planreader_wide_fact_fluent(known[i]) : planreader_fact_fluent(known[i]),
+               planreader_fact_is_true(known[i]) ? "true" : "false");
+}

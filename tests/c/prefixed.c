@@ -1,5 +1,5 @@
 /* A host that has functions of its own with the names of all calls, with the prefixed archive: jobs made by the header's makers, with every
- * kind and form, go through all calls. Compiled with PLANREADER_PREFIXED defined, as C11 and as C++17. */
+ * kind and form, and a wide one, go through all calls. Compiled with PLANREADER_PREFIXED defined, as C11 and as C++17. */
 #include "planreader.h"
 #include <stdio.h>
 #include <string.h>
@@ -123,11 +123,44 @@ static void try_trial(void)
         printf("trial: other words\n"), faults++;
 }
 
+/* A wide job of 256 fluents with every word that has another layout there: action 0 lasts 2, needs fluent 64 false and makes 255 true; fluent 0
+ * is true, 64 and 255 are false at first, and nothing else is known. The root: act 0, then the test of fluent 255. Three triples: the act from
+ * 0 to 2, the test at 2, and the root. */
+static void try_wide(void)
+{
+    static uint32_t known[PLANREADER_WIDE_BUFFER_WORDS];
+    static planreader_trial trial;
+    const uint32_t job[] = {
+        planreader_wide_head(256, 1, 2), planreader_wide_known(0, 1), planreader_wide_known(64, 0), planreader_wide_known(255, 0),
+        planreader_action(0, 2), planreader_wide_needs(64, 0), planreader_wide_law(PLANREADER_MAKES_TRUE, 255),
+        planreader_wide_fluent(255), planreader_act(0), planreader_test(0), planreader_sequence(0, 1),
+    };
+    const size_t length = sizeof job / sizeof *job;
+    const uint32_t starts[] = {planreader_start(0, 0)};
+    const uint32_t states[] = {planreader_wide_fact(0, 0, 1), planreader_wide_fact(0, 64, 0), planreader_wide_fact(0, 255, 0),
+                               planreader_wide_fact(1, 0, 1), planreader_wide_fact(1, 64, 0),
+                               planreader_wide_fact(2, 0, 1), planreader_wide_fact(2, 64, 0), planreader_wide_fact(2, 255, 1)};
+    const uint32_t expected[] = {planreader_reading(2, 0, 2), planreader_reading(0, 0, 2), planreader_reading(1, 2, 2)};
+    expect("wide, fill in too few words", planreader_fill(job, length, starts, 1, known, PLANREADER_BUFFER_WORDS), 12, 0, 0, 0);
+    expect("wide, fill", planreader_fill(job, length, starts, 1, known, PLANREADER_WIDE_BUFFER_WORDS), 0, 0, 8, 0);
+    if (memcmp(known, states, sizeof states) != 0) printf("wide: other facts\n"), faults++;
+    expect("wide, check", planreader_check(job, length, starts, 1, states, 8), 0, 0, 0, 0);
+    expect("wide, find", planreader_find(job, length, starts, 1, states, 8, reading, PLANREADER_BUFFER_WORDS), 0, 0, 3, 3);
+    if (memcmp(reading, expected, sizeof expected) != 0) printf("wide: another reading\n"), faults++;
+    expect("wide, begin", planreader_trial_begin(job, length, trial, PLANREADER_TRIAL_WORDS), 0, 0, 0, 0);
+    expect("wide, start", planreader_trial_start(job, length, trial, PLANREADER_TRIAL_WORDS, 0), 0, 0, 0, 0);
+    expect("wide, on", planreader_trial_on(job, length, trial, PLANREADER_TRIAL_WORDS), 0, 0, 0, 0);
+    expect("wide, show in too few words", planreader_trial_show(job, length, trial, PLANREADER_TRIAL_WORDS, known, PLANREADER_BUFFER_WORDS), 12, 0, 0, 0);
+    expect("wide, show", planreader_trial_show(job, length, trial, PLANREADER_TRIAL_WORDS, known, PLANREADER_WIDE_BUFFER_WORDS), 0, 0, 5, 0);
+    if (memcmp(known, states, 5 * sizeof *states) != 0) printf("wide: other facts shown\n"), faults++;
+}
+
 int main(void)
 {
     try_windows();
     try_forms();
     try_trial();
+    try_wide();
     if (check(0) != 1 || fill(0) != 2 || find(0) != 3 || trial_begin(0) != 4 || trial_start(0) != 5 || trial_on(0) != 6 || trial_show(0) != 7)
         printf("the host's own calls are not its own\n"), faults++;
     if (strcmp(planreader_version, PLANREADER_VERSION) != 0) printf("the archive's version is %s\n", planreader_version), faults++;

@@ -7,7 +7,7 @@
 #include <stdio.h>
 #include <string.h>
 
-enum { GUARDS = 64, ROOM = 5000, WHOLE = GUARDS + ROOM + GUARDS, TRIAL = 4098, BUFFER = 4096 };
+enum { GUARDS = 64, ROOM = 17000, WHOLE = GUARDS + ROOM + GUARDS, TRIAL = 4098, BUFFER = 4096, WIDE_BUFFER = 16384 };
 
 static int faults;
 
@@ -34,7 +34,7 @@ struct room {
 static struct room job_room, trial_room, buffer_room;
 static uint32_t *const trial = trial_room.all + GUARDS, *const buffer = buffer_room.all + GUARDS;
 static const uint32_t *job;
-static size_t job_len;
+static size_t job_len, least = BUFFER; /* the least buffer of the job's facts */
 
 static void paint(struct room *room)
 {
@@ -59,6 +59,7 @@ static void take_job(const uint32_t *words, size_t len)
     if (len) memcpy(job_room.all + GUARDS, words, len * sizeof *words);
     job = len ? job_room.all + GUARDS : NULL;
     job_len = len;
+    least = len && planreader_head_is_wide(words[0]) ? WIDE_BUFFER : BUFFER;
     remember(&job_room);
 }
 #define TAKE_JOB(words) take_job(words, sizeof words / sizeof *words)
@@ -87,6 +88,10 @@ static void starts_len(const char *what, uint32_t action, size_t trial_len, unsi
     remember(&trial_room);
     expect(what, trial_start(job, job_len, trial_len ? trial : NULL, trial_len, action), number, position, 0);
     uint32_t moment = trial_room.before[GUARDS], count = trial_room.before[GUARDS + 1];
+    if (number == 0 && count >= BUFFER) { /* no trial that could take a start: the begin has failed */
+        fault(what);
+        return;
+    }
     only_first(what, &trial_room, number ? 0 : 2 + count + 1);
     only_first(what, &job_room, 0);
     if (number) return;
@@ -122,12 +127,12 @@ static void shows_len(const char *what, size_t trial_len, size_t buffer_len, uns
     only_first(what, &job_room, 0);
 }
 
-static void refuses_show(const char *what, unsigned number) { shows_len(what, TRIAL, BUFFER, number, 0, 0); }
+static void refuses_show(const char *what, unsigned number) { shows_len(what, TRIAL, least, number, 0, 0); }
 
 /* The facts shown are these. */
 static void shows(const char *what, const uint32_t *facts, unsigned length)
 {
-    shows_len(what, TRIAL, BUFFER, 0, 0, length);
+    shows_len(what, TRIAL, least, 0, 0, length);
     if (memcmp(buffer, facts, length * sizeof *facts)) fault(what);
 }
 
@@ -139,15 +144,21 @@ static void is(const char *what, uint32_t moment, const uint32_t *words, uint32_
         fault(what);
 }
 
+static unsigned moment_of(uint32_t fact) { return least == WIDE_BUFFER ? planreader_wide_fact_moment(fact) : planreader_fact_moment(fact); }
+
 /* The facts shown are those of fill for the trial's starts, handed over as they are, up to the trial's moment; and check takes all of fill's. */
 static void shows_as_fill(const char *what)
 {
-    static uint32_t filled[BUFFER];
+    static uint32_t filled[WIDE_BUFFER];
     const uint32_t *list = planreader_trial_starts(trial);
-    uint64_t answer = fill(job, job_len, list, planreader_trial_count(trial), filled, BUFFER);
+    if (planreader_trial_count(trial) > BUFFER) { /* no trial either */
+        fault(what);
+        return;
+    }
+    uint64_t answer = fill(job, job_len, list, planreader_trial_count(trial), filled, least);
     unsigned length = planreader_length(answer), shown = 0;
     if (planreader_number(answer)) fault("fill refuses the starts of a trial");
-    while (shown < length && planreader_fact_moment(filled[shown]) <= planreader_trial_moment(trial)) shown++;
+    while (shown < length && moment_of(filled[shown]) <= planreader_trial_moment(trial)) shown++;
     shows(what, filled, shown);
     if (check(job, job_len, list, planreader_trial_count(trial), filled, length)) fault("check refuses the starts of a trial with fill's facts");
 }
@@ -182,7 +193,8 @@ static void first_steps(void)
     shows("P1, zeros are a fresh trial", facts, 1);
 }
 
-/* Every call with a job that is refused, a trial that would be 14 beside it, and then a sound one: number and position are check's. */
+/* Every call with a job that is refused, a trial that would be 14 beside it, and then a sound one: number and position are check's. A wide job
+ * that is refused asks for no more than 4,096 words. */
 static void bad_job(const char *what, const uint32_t *words, size_t len, unsigned number, unsigned position)
 {
     take_job(words, len);
@@ -545,6 +557,79 @@ static void large(void)
     goes_on("large, on at 63", 14);
 }
 
+/* A buffer for a wide job: 12 before all others below 4,096 words, from there up to 16,384 after the job and before the trial. */
+static void wide_lengths(const char *what, size_t trial_len, unsigned number, unsigned length)
+{
+    const size_t short_ones[] = {0, 4095, 4096, 4097, 16383};
+    for (size_t i = 0; i < 5; i++) shows_len(what, trial_len, short_ones[i], 12, 0, 0);
+    shows_len(what, trial_len, WIDE_BUFFER, number, 0, length);
+    shows_len(what, trial_len, ROOM, number, 0, length);
+}
+
+/* A wide job, n = 3: fluent 64 is false, 0 and 255 are true. Action 0 lasts 2, needs 255 true and makes 64 true; action 1 lasts 1, needs 64 true
+ * and makes 255 false; action 2 lasts 1 and makes 64 false. */
+static void wide(void)
+{
+    const uint32_t words[] = {0x11000303u, 0x20000000u, 0x20000140u, 0x200000ffu, 0x30000002u, 0x400000ffu, 0x40000240u, 0x30000041u,
+                              0x40000040u, 0x400003ffu, 0x30000081u, 0x40000340u, 0x60000000u};
+    const uint32_t known[] = {0xa0000000u, 0xa0000081u, 0xa00001feu, 0xa0000200u, 0xa00003feu, 0xa0000400u, 0xa0000480u, 0xa00005feu,
+                              0xa0000600u, 0xa0000680u, 0xa00007ffu};
+    const unsigned shown[] = {3, 5, 8, 11};
+    const uint32_t late[] = {0x90000040u}, late_end[] = {0x900000c0u};
+    TAKE_JOB(words);
+    begins("wide, begin", TRIAL, 0, 0);
+    starts("wide, a need above 63 that is false", 1, 10);
+    starts("wide, action 0", 0, 0);
+    starts("wide, a clash above 63", 2, 9);
+    for (uint32_t moment = 0; moment <= 3; moment++) {
+        if (moment == 1) starts("wide, a need above 63 that is hidden", 1, 10);
+        if (moment == 2) starts("wide, action 1", 1, 0);
+        shows("wide, show", known, shown[moment]);
+        wide_lengths("wide, show in buffers", TRIAL, 0, shown[moment]);
+        shows_as_fill("wide, as fill");
+        goes_on("wide, on", moment < 3 ? 0 : 14);
+    }
+    starts("wide, at the last moment", 0, 7);
+    wide_lengths("wide, 12 before 14, a short list", TRIAL - 1, 14, 0);
+    take_trial(4, NULL, 0);
+    wide_lengths("wide, 12 before 14, a late moment", TRIAL, 14, 0);
+    take_trial(0, late, 1);
+    wide_lengths("wide, 12 before 14, a late start", TRIAL, 14, 0);
+    take_trial(3, late_end, 1);
+    wide_lengths("wide, 12 before 7", TRIAL, 7, 0);
+    bad_job("wide, no node", words, 12, 5, 0);
+    const uint32_t spare[] = {0x11000303u, 0x20000200u}, none[] = {0x12010101u, 0x30000001u, 0x60000000u};
+    bad_job("wide, a spare bit", spare, 2, 2, 1);
+    bad_job("a head of no width", none, 3, 2, 0);
+}
+
+/* The largest plan of a wide job, its last start by hand: 256 fluents, all true, at 64 moments. */
+static void wide_large(void)
+{
+    static uint32_t words[1 + 256 + 64 + 1], list[64 * 63];
+    size_t n = 0, s = 0;
+    words[n++] = 0x1100403fu;
+    for (uint32_t f = 0; f < 256; f++) words[n++] = 0x20000000u | f;
+    for (uint32_t a = 0; a < 64; a++) words[n++] = 0x30000001u | a << 6;
+    words[n++] = 0x60000000u;
+    for (uint32_t u = 0; u < 63; u++)
+        for (uint32_t a = 0; a < 64; a++)
+            if (u != 62 || a != 0) list[s++] = 0x90000000u | u << 6 | a;
+    take_job(words, n);
+    take_trial(62, list, (uint32_t)s);
+    shows_len("wide and large, show at 62", TRIAL, WIDE_BUFFER, 0, 0, 63 * 256);
+    starts("wide and large, the last start", 0, 0);
+    goes_on("wide and large, on", 0);
+    wide_lengths("wide and large, show at 63", TRIAL, 0, 16384);
+    for (uint32_t i = 0; i < 16384; i++)
+        if (buffer[i] != 0xa0000000u + 2 * i) {
+            fault("wide and large, another fact");
+            break;
+        }
+    shows_as_fill("wide and large, as fill");
+    goes_on("wide and large, on at 63", 14);
+}
+
 int main(void)
 {
     first_steps();
@@ -559,6 +644,8 @@ int main(void)
     example3();
     door();
     large();
+    wide();
+    wide_large();
     printf("c trial: %s\n", faults ? "FAILED" : "ok");
     return faults != 0;
 }

@@ -1,5 +1,5 @@
 /* The header's makers and readers of words against the scope's list of kinds and their bits, its enumerations against the scope's numbers,
- * and its version against the file VERSION (given as VERSION_FILE). Compiled as C11 and as C++17. */
+ * its wide words against those of document 02, and its version against the file VERSION (given as VERSION_FILE). Compiled as C11 and as C++17. */
 #include "planreader.h"
 #include <stdio.h>
 #include <string.h>
@@ -208,6 +208,71 @@ static void try_short(void)
         if (none[i] != 0) fault("short of too much", 0, (int)i, none[i]);
 }
 
+/* Wide heads: fluents 1 to 256 in bits 23..16, where 256 stands as 0, and 1 in 27..24. Of 2 to 15 there, none is wide. */
+static void try_wide_heads(void)
+{
+    const unsigned others[] = {0, 1, 63, 64, 255, 256, 1u << 24, 0xffffffffu};
+    for (unsigned fluents = 0; fluents < 600; fluents++)
+        for (int a = 0; a < 8; a++)
+            for (int n = 0; n < 8; n++) {
+                uint32_t word = planreader_wide_head(fluents, others[a], others[n]);
+                int fits = fluents >= 1 && fluents <= 256 && others[a] < 256 && others[n] < 256;
+                if (word != (fits ? 0x11000000u + fluents % 256 * 65536 + others[a] * 256 + others[n] : 0)) fault("wide head", 1, 0, word);
+                if (!fits) continue;
+                if (!planreader_head_is_wide(word) || planreader_kind(word) != 1) fault("wide head, kind", 1, 0, word);
+                if (planreader_wide_head_fluents(word) != fluents) fault("wide head, fluents", 1, 0, word);
+                if (planreader_head_actions(word) != others[a] || planreader_head_last(word) != others[n]) fault("wide head, read", 1, 1, word);
+            }
+    for (uint32_t size = 0; size < 16; size++)
+        if (planreader_head_is_wide(0x10fffffeu + size * 16777216u) != (size == 1)) fault("is wide", 1, 0, size);
+    if (planreader_wide_head(1u << 31, 1, 1) != 0 || planreader_wide_head(0xffffffffu, 1, 1) != 0) fault("wide head of too much", 1, 0, 0);
+}
+
+/* The other words of a wide job, by the bits of document 02: a fluent in 7..0, its value in 8, or a role in 9..8; in a fact the moment in 14..9,
+ * the fluent in 8..1, the value in 0. */
+static void try_wide_words(void)
+{
+    for (unsigned f = 0; f < 600; f++) {
+        int fits = f < 256;
+        for (unsigned v = 0; v < 2; v++) {
+            if (planreader_wide_known(f, v == 0) != (fits ? 0x20000000u + v * 256 + f : 0)) fault("wide known", 2, (int)v, f);
+            if (planreader_wide_needs(f, v == 0) != (fits ? 0x40000000u + v * 256 + f : 0)) fault("wide needs", 4, (int)v, f);
+            if (planreader_wide_makes(f, v == 0) != (fits ? 0x40000200u + v * 256 + f : 0)) fault("wide makes", 4, (int)v, f);
+            for (unsigned t = 0; t < 130; t++)
+                if (planreader_wide_fact(t, f, v == 0) != (fits && t < 64 ? 0xa0000000u + t * 512 + f * 2 + v : 0)) fault("wide fact", 10, (int)v, f);
+        }
+        for (unsigned role = 0; role < 9; role++)
+            if (planreader_wide_law(role, f) != (fits && role < 4 ? 0x40000000u + role * 256 + f : 0)) fault("wide law", 4, (int)role, f);
+        if (planreader_wide_fluent(f) != (fits ? 0x51000000u + f : 0)) fault("wide fluent", 5, 0, f);
+    }
+    const uint32_t none[] = {planreader_wide_known(1u << 31, 1), planreader_wide_law(0, 0xffffffffu), planreader_wide_law(1u << 31, 0),
+                             planreader_wide_fluent(1u << 31), planreader_wide_fact(1u << 31, 0, 1), planreader_wide_fact(0, 0xffffffffu, 1)};
+    for (size_t i = 0; i < sizeof none / sizeof *none; i++)
+        if (none[i] != 0) fault("wide of too much", 0, (int)i, none[i]);
+}
+
+/* Their readers on any word. */
+static void try_wide_readers(void)
+{
+    const struct {
+        unsigned (*read)(uint32_t);
+        unsigned bits[2];
+    } readers[] = {
+        {planreader_wide_known_fluent, {7, 0}},   {planreader_wide_law_role, {9, 8}},     {planreader_wide_law_fluent, {7, 0}},
+        {planreader_wide_formula_fluent, {7, 0}}, {planreader_wide_fact_moment, {14, 9}}, {planreader_wide_fact_fluent, {8, 1}},
+    };
+    const unsigned truth[] = {8, 8}, fluents[] = {23, 16};
+    uint32_t word = 2463534242u;
+    for (int i = 0; i < 10000; i++) {
+        word ^= word << 13, word ^= word >> 17, word ^= word << 5;
+        for (size_t r = 0; r < sizeof readers / sizeof *readers; r++)
+            if (readers[r].read(word) != value_laid(readers[r].bits, word)) fault("wide read of any word", 0, (int)r, word);
+        if (false_bit(planreader_wide_known_is_true(word)) != value_laid(truth, word)) fault("wide read of truth", 2, 1, word);
+        unsigned laid = value_laid(fluents, word);
+        if (planreader_wide_head_fluents(word) != (laid == 0 ? 256 : laid)) fault("wide read of fluents", 1, 0, word);
+    }
+}
+
 /* Forms that no listing has, and refusals: in the scope's order. */
 static void try_numbers(void)
 {
@@ -267,6 +332,10 @@ int main(void)
     }
     try_listed();
     try_short();
+    try_wide_heads();
+    try_wide_words();
+    try_wide_readers();
+    if (PLANREADER_BUFFER_WORDS != 4096 || PLANREADER_WIDE_BUFFER_WORDS != 16384) fault("a buffer of another length", 0, 0, 0);
     try_numbers();
     try_texts();
     try_trial();

@@ -14,7 +14,7 @@ use std::fs;
 use std::path::{Path, PathBuf};
 
 /// Each with the folder that lists its job.
-const FOLDERS: [(&str, &str); 9] = [
+const FOLDERS: [(&str, &str); 11] = [
     ("door", "door"),
     ("too-soon", "door"),
     ("no-pause", "door"),
@@ -24,6 +24,8 @@ const FOLDERS: [(&str, &str); 9] = [
     ("after-shift", "shift"),
     ("grippers", "grippers"),
     ("third-door", "grippers"),
+    ("cabinet", "cabinet"),
+    ("half-bent", "cabinet"),
 ];
 
 fn root() -> PathBuf {
@@ -164,6 +166,35 @@ fn grippers_starts(door: usize) -> Vec<u32> {
     starts
 }
 
+/// The job of the cabinet, likewise: it is wide, and so are its words that name a fluent.
+fn cabinet() -> Vec<u32> {
+    let last = [(66, true), (67, false), (68, false), (69, true), (70, false), (71, false), (72, false)];
+    let facts = (0..22).map(|shelf| (3 * shelf + 2, true)).chain(last);
+    let actions: [(usize, &[(u32, u32)]); 5] = [
+        (2, &[(0, 66), (2, 67)]),
+        (3, &[(0, 69), (2, 70)]),
+        (1, &[(0, 67), (0, 65), (2, 68)]),
+        (1, &[(0, 70), (0, 68), (2, 71)]),
+        (1, &[(0, 71), (2, 72)]),
+    ];
+    let mut words = vec![1 << 28 | 1 << 24 | 73 << 16 | 5 << 8 | 7];
+    words.extend(facts.map(|(fluent, value)| 2 << 28 | u32::from(!value) << 8 | fluent));
+    for (number, (duration, laws)) in actions.into_iter().enumerate() {
+        words.push(action(number, duration));
+        words.extend(laws.iter().map(|&(role, fluent)| 4 << 28 | role << 8 | fluent));
+    }
+    words.extend([68, 71].map(|fluent| 5 << 28 | 1 << 24 | fluent));
+    words.push(formula(3, 0, 1));
+    words.extend([act(0), act(1), sequence(0, 1), act(2), node(6, 2, 3, 2, 5), act(3), node(1, 2, 0, 0, 0), act(4)]);
+    words.extend([sequence(6, 7), sequence(5, 8), sequence(4, 9)]);
+    words
+}
+
+/// Its starts, with shelf 23 put in place, action 3, at a moment.
+fn cabinet_starts(shelf: usize) -> Vec<u32> {
+    vec![start(0, 0), start(2, 1), start(3, 2), start(shelf, 3), start(6, 4)]
+}
+
 /// The job that an example is about.
 fn job(folder: &str) -> Vec<u32> {
     let (_, listing) = FOLDERS.into_iter().find(|&(name, _)| name == folder).expect("an example");
@@ -171,7 +202,8 @@ fn job(folder: &str) -> Vec<u32> {
         "door" => door(),
         "curtain" => curtain(),
         "shift" => shift(),
-        _ => grippers(),
+        "grippers" => grippers(),
+        _ => cabinet(),
     }
 }
 
@@ -214,8 +246,15 @@ fn the_grippers_words_say_what_is_meant() {
 }
 
 #[test]
+fn the_cabinet_s_words_say_what_is_meant() {
+    assert_eq!(listed("cabinet", "job.txt"), cabinet());
+    assert_eq!(plan("cabinet").0, cabinet_starts(5));
+    assert_eq!(plan("half-bent").0, cabinet_starts(4));
+}
+
+#[test]
 fn the_facts_are_those_of_the_rules() {
-    for folder in ["door", "no-pause", "curtain", "in-pause", "shift", "grippers"] {
+    for folder in ["door", "no-pause", "curtain", "in-pause", "shift", "grippers", "cabinet"] {
         let (starts, facts) = plan(folder);
         assert_eq!(calls::fill(&job(folder), &starts, 4_096).1, facts, "{folder}");
     }
@@ -234,7 +273,7 @@ fn the_program_and_the_checker_print_what_is_expected() {
 /// So that every run prints the same words.
 #[test]
 fn the_only_reading_is_the_listed_one() {
-    for folder in ["door", "curtain", "shift", "grippers"] {
+    for folder in ["door", "curtain", "shift", "grippers", "cabinet"] {
         let (starts, facts) = plan(folder);
         let Outcome::Read { world, decision } = calls::find(&job(folder), &starts, &facts, 4_096) else {
             panic!("{folder} has a reading");
