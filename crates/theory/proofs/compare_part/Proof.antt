@@ -16,12 +16,18 @@ Inv-loop given at part i₀ j₀ i j = (i ≤ length part) × (partRefusal (drop
 abbrev μ-loop : tie.MeasureT-loop
 μ-loop given at part i₀ j₀ i j = length part - i
 
+abbrev entry : tie.At-loop Inv-loop μ-loop → tie.Start Inv-loop μ-loop
+entry c = c .before .before .before
+
 -- the turn of the loop, from where two words are read
 abbrev turn : tie.After-shared-slice-known4 Inv-loop μ-loop → tie.In-loop Inv-loop μ-loop
 turn c = c .before .before .before
 
 returns : tie.Need-returns Inv-loop μ-loop
-returns c = c .refuse .ensures ∙ sym (c .before .before .before .loop .inv .1 ∙ given-ends _ _ _ _ (c .before .if1 .taken) (c .before .before .loop-test .taken))
+returns c =
+    let place = c .before .before .before in
+    let a = entry place .args in
+    c .refuse .ensures ∙ sym (place .loop .inv .1 ∙ given-ends (a .given .now) (a .part .now) (place .loop .j) (place .loop .i) (c .before .if1 .taken) (c .before .before .loop-test .taken))
 
 returns-2 : tie.Need-returns-2 Inv-loop μ-loop
 returns-2 c =
@@ -35,7 +41,7 @@ loop-again c =
 
 returns-3 : tie.Need-returns-3 Inv-loop μ-loop
 returns-3 c =
-    let a = c .before .before .before .before .before .args in
+    let a = entry (c .before .before) .args in
     let turn = c .before .before .loop in
     c .none .ensures ∙ sym (turn .inv .1 ∙ part-ends (a .given .now) (a .part .now) (turn .j) (turn .i) (c .before .loop-test .left))
 
