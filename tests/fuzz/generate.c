@@ -44,8 +44,8 @@ void sort_starts(struct input *in)
 
 static uint64_t filled(const struct input *in)
 {
-    static uint32_t facts[4096];
-    return fill(in->job, in->job_len, in->starts, in->starts_len, facts, 4096);
+    static uint32_t facts[WIDE_FILLER];
+    return fill(in->job, in->job_len, in->starts, in->starts_len, facts, WIDE_FILLER);
 }
 
 bool job_passes(const struct input *in)
@@ -90,10 +90,10 @@ static void add_groups(struct input *in, struct dice *dice, unsigned actions)
             if (chance(dice, 2)) add_job_word(in, pair_word((first + i * 3) % GROUPS, a));
 }
 
-uint32_t some_formula(struct dice *dice, unsigned formulas, unsigned fluents)
+uint32_t some_formula(struct dice *dice, unsigned formulas, uint32_t head, uint32_t fluent)
 {
     uint32_t form = formulas ? roll(dice, 5) : roll(dice, 2), word = (uint32_t)FORMULA << 28 | form << 24;
-    if (form == 1) return word | roll(dice, fluents) << 6;
+    if (form == 1) return atom_word(head, fluent);
     if (form >= 2) word |= roll(dice, formulas) << 6;
     if (form >= 3) word |= roll(dice, formulas);
     return word;
@@ -119,9 +119,27 @@ uint32_t some_condition(struct dice *dice, unsigned formulas, unsigned members)
 struct draft {
     struct input *in;
     struct dice *dice;
-    unsigned fluents, actions, formulas, nodes;
-    bool easy; /* most is known true from the start, and few laws and conditions; formula 0 is fluent 0, which only the last action ends */
+    uint32_t head;
+    unsigned fluents, actions, formulas, nodes; /* fluents that words name, all of a narrow job */
+    bool easy; /* most is known true from the start, and few laws and conditions; formula 0 is the first fluent, which only the last action ends */
 };
+
+/* A fluent that words name; in a wide job they are spread, and the last is the last of the job. */
+static uint32_t fluent_at(const struct draft *draft, unsigned i)
+{
+    uint32_t all = fluents_of(draft->head), step = all / draft->fluents;
+    return all - 1 - (draft->fluents - 1 - i) * step;
+}
+
+/* A head: narrow, with as many fluents as words name, or wide, with as many or more, often 256. */
+static void draw_head(struct draft *draft)
+{
+    struct dice *dice = draft->dice;
+    uint32_t fluents = draft->fluents, wide = chance(dice, 3);
+    if (wide) fluents = chance(dice, 2) ? FLUENTS : fluents + roll(dice, FLUENTS + 1 - fluents);
+    draft->head = (uint32_t)HEAD << 28 | wide << 24 | fluents % FLUENTS << 16 | draft->actions << 8 | roll(dice, 64);
+    add_job_word(draft->in, draft->head);
+}
 
 static unsigned add_node(struct draft *draft, uint32_t word)
 {
@@ -168,31 +186,32 @@ static unsigned add_tree(struct draft *draft, unsigned size)
 
 static void add_laws(struct draft *draft, unsigned action)
 {
-    if (draft->easy && action + 1 == draft->actions) add_job_word(draft->in, (uint32_t)LAW << 28 | 3u << 6);
+    if (draft->easy && action + 1 == draft->actions) add_job_word(draft->in, law_word(draft->head, 3, fluent_at(draft, 0)));
     for (unsigned f = draft->easy; f < draft->fluents; f++) {
         if (draft->easy && !chance(draft->dice, 4)) continue;
-        if (chance(draft->dice, 5)) add_job_word(draft->in, (uint32_t)LAW << 28 | roll(draft->dice, 2) << 6 | f);
-        if (chance(draft->dice, 3)) add_job_word(draft->in, (uint32_t)LAW << 28 | (2 + roll(draft->dice, 2)) << 6 | f);
+        if (chance(draft->dice, 5)) add_job_word(draft->in, law_word(draft->head, roll(draft->dice, 2), fluent_at(draft, f)));
+        if (chance(draft->dice, 3)) add_job_word(draft->in, law_word(draft->head, 2 + roll(draft->dice, 2), fluent_at(draft, f)));
     }
 }
 
 void generate(struct input *in, struct dice *dice, unsigned size)
 {
-    struct draft draft = {in, dice, chance(dice, 24) ? 64 : 1 + roll(dice, 6), 1 + roll(dice, chance(dice, 16) ? 64 : 5), 0, 0, chance(dice, 2)};
+    struct draft draft = {in, dice, 0, chance(dice, 24) ? 64 : 1 + roll(dice, 6), 1 + roll(dice, chance(dice, 16) ? 64 : 5), 0, 0, chance(dice, 2)};
     unsigned formulas = roll(dice, 6);
     memset(in, 0, sizeof *in);
     in->choices = FACTS_BY_FILL | (roll(dice, 8) << 5);
-    add_job_word(in, (uint32_t)HEAD << 28 | draft.fluents << 16 | draft.actions << 8 | roll(dice, 64));
+    draw_head(&draft);
     for (unsigned f = 0; f < draft.fluents; f++)
-        if (!chance(dice, draft.easy ? 16 + 100 * (f == 0) : 4)) add_job_word(in, (uint32_t)INITIALLY << 28 | (draft.easy ? 0 : roll(dice, 2)) << 6 | f);
+        if (!chance(dice, draft.easy ? 16 + 100 * (f == 0) : 4)) add_job_word(in, known_word(draft.head, fluent_at(&draft, f), draft.easy ? 0 : roll(dice, 2)));
     for (unsigned a = 0; a < draft.actions; a++) {
         add_job_word(in, (uint32_t)ACTION << 28 | a << 6 | (1 + roll(dice, chance(dice, 16) ? 63 : 3)));
         add_laws(&draft, a);
     }
     for (uint32_t windows = chance(dice, 3) ? roll(dice, 8) : 0; windows > 0; windows--) add_job_word(in, some_shift(dice, draft.actions));
     if (chance(dice, 3)) add_groups(in, dice, draft.actions);
-    if (draft.easy) draft.formulas++, add_job_word(in, (uint32_t)FORMULA << 28 | 1u << 24);
-    for (; draft.formulas < formulas; draft.formulas++) add_job_word(in, some_formula(dice, draft.formulas, draft.fluents));
+    if (draft.easy) draft.formulas++, add_job_word(in, atom_word(draft.head, fluent_at(&draft, 0)));
+    for (; draft.formulas < formulas; draft.formulas++)
+        add_job_word(in, some_formula(dice, draft.formulas, draft.head, fluent_at(&draft, roll(dice, draft.fluents))));
     add_tree(&draft, size);
     carry_out(in, dice);
     change_trial(in, dice);
@@ -240,7 +259,7 @@ static bool makes_false(const struct input *in, uint32_t action, uint32_t fluent
     uint32_t current = 64;
     for (size_t i = 0; i < in->job_len; i++) {
         if (kind_of(in->job[i]) == ACTION) current = field(in->job[i], 11, 6);
-        if (current == action && in->job[i] == ((uint32_t)LAW << 28 | 3u << 6 | fluent)) return true;
+        if (current == action && in->job[i] == law_word(in->job[0], 3, fluent)) return true;
     }
     return false;
 }
@@ -254,7 +273,7 @@ static uint32_t do_loop(struct doing *doing, uint32_t word, uint32_t b)
         size_t from = doing->in->starts_len;
         uint32_t m = do_node(doing, node_y(word), b);
         for (size_t i = from; i < doing->in->starts_len && form_of(formula) == 1; i++)
-            ended |= makes_false(doing->in, field(doing->in->starts[i], 5, 0), field(formula, 11, 6));
+            ended |= makes_false(doing->in, field(doing->in->starts[i], 5, 0), atom_fluent(doing->in->job[0], formula));
         ended |= m == b;
         b = m;
     }
@@ -289,10 +308,10 @@ static uint32_t do_node(struct doing *doing, uint32_t p, uint32_t b)
 /* Has the plan a reading, with the facts that fill writes? */
 static bool reads(const struct input *in)
 {
-    static uint32_t facts[4096], reading[4096];
-    uint64_t answer = fill(in->job, in->job_len, in->starts, in->starts_len, facts, 4096);
-    if (planreader_number(answer) != 0 || planreader_length(answer) > 4096) return false;
-    answer = find(in->job, in->job_len, in->starts, in->starts_len, facts, planreader_length(answer), reading, 4096);
+    static uint32_t facts[WIDE_FILLER], reading[NARROW_FILLER];
+    uint64_t answer = fill(in->job, in->job_len, in->starts, in->starts_len, facts, WIDE_FILLER);
+    if (planreader_number(answer) != 0 || planreader_length(answer) > WIDE_FILLER) return false;
+    answer = find(in->job, in->job_len, in->starts, in->starts_len, facts, planreader_length(answer), reading, NARROW_FILLER);
     return planreader_number(answer) == 0;
 }
 

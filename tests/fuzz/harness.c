@@ -14,11 +14,12 @@
 #include "reading.h"
 #include "shift.h"
 #include "trial.h"
+#include "wide.h"
 #include <stdio.h>
 #include <stdlib.h>
 #include <string.h>
 
-enum { BUFFER_MOST = 5000, CONTENTS = 2, READING_MOST = 4032 };
+enum { CONTENTS = 2, READING_MOST = 4032 };
 static const char *const call_names[CALLS] = {"check", "fill", "find", "trial_begin", "trial_start", "trial_on", "trial_show"};
 
 unsigned long harness_seen[CALLS][NUMBERS], harness_calls;
@@ -52,7 +53,7 @@ static void make_rooms(void)
     if (lent.ready) return;
     guard_make(&lent.job, JOB_MOST);
     guard_make(&lent.starts, STARTS_MOST);
-    guard_make(&lent.facts, FACTS_MOST);
+    guard_make(&lent.facts, WIDE_FILLER + 1);
     guard_make(&lent.buffer, BUFFER_MOST);
     for (uint32_t i = 0; i < BUFFER_MOST; i++) {
         lent.contents[0][i] = 0x5eed0000u + i * 7u;
@@ -113,9 +114,9 @@ void hold_words(int call, struct list job, uint32_t kind, unsigned (*by_itself)(
     size_t position = planreader_position(answer);
     bool at_word = number >= 2 && number <= 4 && position < job.len;
     for (size_t i = 0; i < (at_word ? position : job.len); i++)
-        if (kind_of(job.words[i]) == kind) hold(by_itself(job, i) == 0, call, "a wrong window, group or pair passed", answer);
+        if (kind_of(job.words[i]) == kind) hold(by_itself(job, i) == 0, call, "a wrong job word passed", answer);
     if (at_word && kind_of(job.words[position]) == kind)
-        hold(by_itself(job, position) == number, call, "a window, group or pair refused otherwise than by its word", answer);
+        hold(by_itself(job, position) == number, call, "a job word refused otherwise than by itself", answer);
 }
 
 /* The lists of a call. */
@@ -147,7 +148,7 @@ static void hold_position(int call, struct lists in, uint64_t answer)
     if (number == 3) hold(position <= in.job.len, call, "a position beyond the job's end", answer);
     if (number == 5) hold(position == 0 || position < nodes_in(in.job), call, "a position that is no node", answer);
     if (is_of_starts(number)) hold(position < in.starts.len, call, "a position beyond the starts", answer);
-    if (number == 11) hold(position <= in.facts.len && position <= 4096, call, "a position beyond the facts", answer);
+    if (number == 11) hold(position <= in.facts.len && position <= filler_words(head_of(in.job)), call, "a position beyond the facts", answer);
 }
 
 /* Puts contents in a buffer of `len` words, and hands it out. */
@@ -188,8 +189,18 @@ static uint64_t held_check(struct lists in)
     hold_position(CHECK, in, answer);
     hold_shifts(CHECK, in.job, in.starts, answer);
     hold_groups(CHECK, in.job, in.starts, answer);
+    hold_layout(in.job, answer);
     note(CHECK, answer);
     return answer;
+}
+
+/* Is it the number of a row on the job? */
+static bool is_of_job(uint64_t answer) { return planreader_number(answer) >= 1 && planreader_number(answer) <= 5; }
+
+/* Is the buffer too short? Below 4,096 words before everything; for a wide job fill needs more, where the job itself is not refused. */
+static bool is_short(int call, struct list job, size_t len, uint64_t answer)
+{
+    return len < NARROW_FILLER || (call == FILL && len < filler_words(head_of(job)) && !is_of_job(answer));
 }
 
 /* fill or find with a buffer of `len` words, on two different contents: the answers and the words written must be the same. The words
@@ -203,7 +214,7 @@ static uint64_t held_write(int call, struct lists in, size_t len, uint32_t choic
     hold_shifts(call, in.job, in.starts, first);
     hold_groups(call, in.job, in.starts, first);
     hold_buffer(call, lent.contents[0], first);
-    hold((planreader_number(first) == 12) == (len < 4096), call, "12 otherwise than by the buffer's length", first);
+    hold((planreader_number(first) == 12) == is_short(call, in.job, len, first), call, "12 otherwise than by the buffer's length", first);
     struct list written = keep(lent.buffer.words, planreader_length(first));
     buffer = lend_buffer(lent.contents[1], len, choices);
     uint64_t second = call_once(call, in, buffer, len);
@@ -218,18 +229,18 @@ static uint64_t held_write(int call, struct lists in, size_t len, uint32_t choic
 /* What fill wrote: fact words of the job's moments and fluents, rising, one value each, and at moment 0 the kind 2 words. */
 static void hold_facts(struct list job, struct list facts, uint64_t answer)
 {
-    uint32_t last = field(job.words[0], 7, 0), fluents = field(job.words[0], 23, 16);
+    uint32_t head = job.words[0], last = field(head, 7, 0), fluents = fluents_of(head);
     size_t at_0 = 0, initially = 0;
-    hold(facts.len <= 4096 && facts.len <= (size_t)(last + 1) * fluents, FILL, "more facts than moments and fluents", answer);
+    hold(facts.len <= (size_t)(last + 1) * fluents, FILL, "more facts than moments and fluents", answer);
     for (size_t i = 0; i < facts.len; i++) {
         uint32_t word = facts.words[i];
-        hold(kind_of(word) == FACT && field(word, 27, 13) == 0, FILL, "a word that is no fact", answer);
-        hold(field(word, 12, 7) <= last && field(word, 6, 1) < fluents, FILL, "a fact of no moment or no fluent", answer);
+        hold(kind_of(word) == FACT && field(word, 27, fluent_bits(head) + 7) == 0, FILL, "a word that is no fact", answer);
+        hold(fact_moment(head, word) <= last && fact_fluent(head, word) < fluents, FILL, "a fact of no moment or no fluent", answer);
         hold(i == 0 || facts.words[i - 1] >> 1 < word >> 1, FILL, "facts that do not rise", answer);
-        at_0 += field(word, 12, 7) == 0;
+        at_0 += fact_moment(head, word) == 0;
     }
     for (size_t i = 1; i < job.len && kind_of(job.words[i]) == INITIALLY; i++, initially++) {
-        uint32_t word = (uint32_t)FACT << 28 | field(job.words[i], 5, 0) << 1 | field(job.words[i], 6, 6);
+        uint32_t word = fact_word(head, 0, fluent_of(head, job.words[i]), known_value(head, job.words[i]));
         bool there = false;
         for (size_t k = 0; k < at_0; k++) there |= facts.words[k] == word;
         hold(there, FILL, "an initially known fact is missing", answer);
@@ -369,20 +380,57 @@ static uint64_t hold_find(struct lists in, uint64_t checked, uint32_t choices)
     return found;
 }
 
-/* 12 with a buffer one word short, and with any shorter one; the same answers and facts with a longer one. */
-static void hold_other_buffer(struct lists in, struct list right, uint64_t filled, uint64_t found, uint32_t choices)
+/* fill with another buffer than it needs: 12 where it is too short, the same answer and facts where it is longer. */
+static void hold_other_fill(struct lists in, struct list right, uint64_t filled, size_t len, uint32_t choices)
 {
-    size_t len = buffer_words(choices);
-    held_write(FILL, in, 4095, choices);
-    held_write(FIND, in, 4095, choices);
-    if (len == 4096) return;
     uint64_t again = held_write(FILL, in, len, choices);
-    hold(len < 4096 || again == filled, FILL, "another answer with a longer buffer", again);
-    hold(len < 4096 || same_words(lent.buffer.words, right.words, right.len), FILL, "other words with a longer buffer", again);
-    again = held_write(FIND, in, len, choices);
+    bool is_12 = is_short(FILL, in.job, len, filled);
+    hold(again == (is_12 ? UINT64_C(12) << 56 : filled), FILL, "another answer with another buffer", again);
+    hold(is_12 || same_words(lent.buffer.words, right.words, right.len), FILL, "other words with another buffer", again);
+}
+
+static void hold_other_find(struct lists in, uint64_t found, size_t len, uint32_t choices)
+{
+    uint64_t again = held_write(FIND, in, len, choices);
     bool same = planreader_number(again) == planreader_number(found) && planreader_position(again) == planreader_position(found) &&
                 planreader_count(again) == planreader_count(found);
-    hold(len < 4096 || same, FIND, "another answer with a longer buffer", again);
+    hold(len < NARROW_FILLER || same, FIND, "another answer with another buffer", again);
+}
+
+/* Buffers one word short, in a wide job for either 12, and the one that the input has. */
+static void hold_other_buffers(struct lists in, struct list right, uint64_t filled, uint64_t found, uint32_t choices)
+{
+    uint32_t head = head_of(in.job);
+    size_t len = buffer_words(choices, head);
+    hold_other_fill(in, right, filled, NARROW_FILLER - 1, choices);
+    hold_other_find(in, found, NARROW_FILLER - 1, choices);
+    if (is_wide(head)) {
+        hold_other_fill(in, right, filled, NARROW_FILLER, choices);
+        hold_other_fill(in, right, filled, WIDE_FILLER - 1, choices);
+    }
+    if (len == filler_words(head)) return;
+    hold_other_fill(in, right, filled, len, choices);
+    hold_other_find(in, found, len, choices);
+}
+
+/* A well-formed job in the other layout, narrow or wide, is judged by the same rules: fill and find answer the same, and the facts are the same but
+ * for their layout. */
+static void hold_twin(struct lists in, struct list right, uint64_t filled, uint64_t found)
+{
+    static struct twin twin;
+    if (is_of_job(filled) || !twin_of(&twin, in.job)) return;
+    size_t len = filler_words(twin.head);
+    in.job = (struct list){twin.words, twin.len};
+    uint64_t answer = call_once(FILL, in, lend_buffer(lent.contents[0], len, 0), len);
+    hold(answer == filled, FILL, "another answer in the other layout", answer);
+    for (size_t i = 0; i < right.len; i++) hold(lent.buffer.words[i] == twin_fact(&twin, right.words[i]), FILL, "other facts in the other layout", answer);
+    if (planreader_number(found) != 0 && planreader_number(found) != 13) return;
+    struct list facts = keep(lent.buffer.words, right.len);
+    in.facts = facts;
+    answer = call_once(FIND, in, lend_buffer(lent.contents[0], NARROW_FILLER, 0), NARROW_FILLER);
+    bool same = planreader_number(answer) == planreader_number(found) && planreader_count(answer) == planreader_count(found);
+    hold(same, FIND, "another number or count in the other layout", answer);
+    drop(facts);
 }
 
 /* job, starts and facts may be one list: the answer is that of three equal lists. */
@@ -407,7 +455,7 @@ static void hold_unchanged(struct list *lists, const struct guarded **rooms, int
 static void examine(struct list job, struct list starts, struct list facts, uint32_t choices)
 {
     struct lists in = {lend(&lent.job, job, choices), lend(&lent.starts, starts, choices), {NULL, 0}};
-    uint64_t filled = held_write(FILL, in, 4096, choices);
+    uint64_t filled = held_write(FILL, in, filler_words(head_of(job)), choices);
     bool accepted = planreader_number(filled) == 0;
     struct list right = keep(lent.buffer.words, planreader_length(filled));
     if (accepted) hold_facts(in.job, right, filled);
@@ -418,7 +466,8 @@ static void examine(struct list job, struct list starts, struct list facts, uint
     hold(checked == held_check(in), CHECK, "another answer the second time", checked);
     if (job.len > 2048) extra[ANSWERS + PAIRS + SIZES - 1]++;
     uint64_t found = hold_find(in, checked, choices);
-    hold_other_buffer(in, right, filled, found, choices);
+    hold_other_buffers(in, right, filled, found, choices);
+    hold_twin(in, right, filled, found);
     hold_unchanged((struct list[]){job, starts, given}, (const struct guarded *[]){&lent.job, &lent.starts, &lent.facts}, 3);
     hold_first(in, checked);
     if (choices & ONE_LIST) hold_one_list(in.job);

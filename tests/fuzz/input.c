@@ -55,10 +55,11 @@ size_t input_encode(const struct input *in, uint8_t *data, size_t most)
     return at;
 }
 
-size_t buffer_words(uint32_t choices)
+size_t buffer_words(uint32_t choices, uint32_t head)
 {
-    static const uint16_t lengths[16] = {4096, 0, 1, 64, 2048, 4032, 4094, 4095, 4097, 4098, 4160, 4200, 4500, 4999, 5000, 4096};
-    return lengths[choices & 15u];
+    static const uint16_t narrow[16] = {4096, 0, 1, 64, 2048, 4032, 4094, 4095, 4097, 4098, 4160, 4200, 4500, 4999, 16384, 4096};
+    static const uint16_t wide[16] = {16384, 0, 1, 64, 4094, 4095, 4096, 4097, 5000, 8192, 12288, 16382, 16383, 16385, 16386, BUFFER_MOST};
+    return is_wide(head) ? wide[choices & 15u] : narrow[choices & 15u];
 }
 
 size_t trial_words(uint8_t odd)

@@ -35,8 +35,9 @@ void input_decode(struct input *in, const uint8_t *data, size_t size);
 /* Writes at most `most` bytes, whole words and then the three bytes, and hands back how many. What does not fit is left out. */
 size_t input_encode(const struct input *in, uint8_t *data, size_t most);
 
-/* The buffer's length by the control word: 4,096, or a length that is refused, or a greater one. */
-size_t buffer_words(uint32_t choices);
+/* The buffer's length by the control word and the job's head: what the filler needs, or a length that is refused, or a greater one. */
+size_t buffer_words(uint32_t choices, uint32_t head);
+enum { BUFFER_MOST = 16640 };
 
 /* The length of the trial's list by byte 2: mostly 4,098, or one that is refused, or a greater one. */
 size_t trial_words(uint8_t odd);

@@ -2,6 +2,7 @@
 #include "generate.h"
 #include "harness.h"
 #include "planreader.h"
+#include "wide.h"
 #include <string.h>
 
 /* A list of an input that can be changed. */
@@ -46,7 +47,18 @@ static unsigned number_of(const struct input *in, uint32_t kind)
     return words;
 }
 
-static unsigned fluents_of(const struct input *in) { return in->job_len ? field(in->job[0], 23, 16) : 1; }
+static uint32_t head_in(const struct input *in) { return in->job_len ? in->job[0] : (uint32_t)HEAD << 28; }
+
+/* A fluent of the job; in a wide one mostly one that a word names. */
+static uint32_t some_fluent(const struct input *in, struct dice *dice)
+{
+    uint32_t head = head_in(in);
+    for (unsigned times = 0; is_wide(head) && times < 8; times++) {
+        uint32_t word = in->job[roll(dice, (uint32_t)in->job_len)];
+        if (kind_of(word) == INITIALLY || kind_of(word) == LAW) return fluent_of(head, word);
+    }
+    return roll(dice, fluents_of(head));
+}
 static unsigned last_of(const struct input *in) { return in->job_len ? field(in->job[0], 7, 0) : 0; }
 
 static void flip_bit(struct input *in, struct dice *dice)
@@ -59,11 +71,12 @@ static void flip_bit(struct input *in, struct dice *dice)
 struct range {
     uint8_t high, low;
 };
-static const struct {
+struct fields {
     uint8_t known;
     struct range range[6];
-} fields[16] = {
-    [HEAD] = {3, {{23, 16}, {15, 8}, {7, 0}}},
+};
+static const struct fields fields[16] = {
+    [HEAD] = {4, {{27, 24}, {23, 16}, {15, 8}, {7, 0}}},
     [INITIALLY] = {2, {{6, 6}, {5, 0}}},
     [ACTION] = {2, {{11, 6}, {5, 0}}},
     [LAW] = {2, {{7, 6}, {5, 0}}},
@@ -77,6 +90,21 @@ static const struct {
     [GROUP] = {2, {{27, 24}, {5, 0}}},
     [GROUP_MEMBER] = {2, {{27, 24}, {5, 0}}},
 };
+
+/* Those that stand elsewhere in a wide job; there a formula of form 1 has no X and Y. */
+static const struct fields wide_fields[16] = {
+    [INITIALLY] = {2, {{8, 8}, {7, 0}}},
+    [LAW] = {2, {{9, 8}, {7, 0}}},
+    [FORMULA] = {2, {{27, 24}, {7, 0}}},
+    [FACT] = {3, {{14, 9}, {8, 1}, {0, 0}}},
+};
+
+static struct fields fields_of(uint32_t head, uint32_t word)
+{
+    uint32_t kind = kind_of(word);
+    bool elsewhere = is_wide(head) && wide_fields[kind].known && (kind != FORMULA || form_of(word) == 1);
+    return elsewhere ? wide_fields[kind] : fields[kind];
+}
 
 static uint32_t other_value(uint32_t value, uint32_t most, struct dice *dice)
 {
@@ -94,9 +122,9 @@ static void change_field(struct input *in, struct dice *dice)
     struct open_list list = some_list(in, dice);
     if (!*list.len) return;
     uint32_t *word = &list.words[some_place(list, dice)];
-    uint32_t kind = kind_of(*word);
-    struct range range = fields[kind].range[roll(dice, fields[kind].known)];
-    if (!fields[kind].known || chance(dice, 30)) range = (struct range){31, 28};
+    struct fields known = fields_of(head_in(in), *word);
+    struct range range = known.range[roll(dice, known.known)];
+    if (!known.known || chance(dice, 30)) range = (struct range){31, 28};
     uint32_t most = (2u << (range.high - range.low)) - 1u;
     *word = with_field(*word, range.high, range.low, other_value(field(*word, range.high, range.low), most, dice));
 }
@@ -143,15 +171,15 @@ static size_t after_groups(const struct input *in) { return number_of(in, GROUP)
 static void add_declaration(struct input *in, struct dice *dice)
 {
     unsigned formulas = number_of(in, FORMULA);
-    uint32_t fluent = roll(dice, fluents_of(in)) & 63u;
+    uint32_t head = head_in(in), fluent = some_fluent(in, dice);
     switch (roll(dice, 4)) {
-    case 0: insert(open_job(in), in->job_len ? 1 : 0, (uint32_t)INITIALLY << 28 | roll(dice, 2) << 6 | fluent); break;
-    case 1: insert(open_job(in), after_kind(in, number_of(in, LAW) ? LAW : ACTION), (uint32_t)LAW << 28 | roll(dice, 4) << 6 | fluent); break;
+    case 0: insert(open_job(in), in->job_len ? 1 : 0, known_word(head, fluent, roll(dice, 2))); break;
+    case 1: insert(open_job(in), after_kind(in, number_of(in, LAW) ? LAW : ACTION), law_word(head, roll(dice, 4), fluent)); break;
     case 2:
         insert(open_job(in), after_kind(in, number_of(in, LAW) ? LAW : ACTION), (uint32_t)ACTION << 28 | (number_of(in, ACTION) & 63u) << 6 | (1 + roll(dice, 3)));
         break;
     default:
-        insert(open_job(in), formulas ? after_kind(in, FORMULA) : number_of(in, GROUP_MEMBER) ? after_kind(in, GROUP_MEMBER) : after_groups(in), some_formula(dice, formulas < 64 ? formulas : 64, fluents_of(in)));
+        insert(open_job(in), formulas ? after_kind(in, FORMULA) : number_of(in, GROUP_MEMBER) ? after_kind(in, GROUP_MEMBER) : after_groups(in), some_formula(dice, formulas < 64 ? formulas : 64, head, fluent));
         break;
     }
 }
@@ -162,7 +190,7 @@ static void add_law(struct input *in, struct dice *dice)
     unsigned actions = number_of(in, ACTION), wanted = roll(dice, actions);
     for (size_t i = 0; i < in->job_len; i++) {
         if (kind_of(in->job[i]) != ACTION || wanted-- > 0) continue;
-        insert(open_job(in), i + 1, (uint32_t)LAW << 28 | roll(dice, 4) << 6 | (roll(dice, fluents_of(in)) & 63u));
+        insert(open_job(in), i + 1, law_word(head_in(in), roll(dice, 4), some_fluent(in, dice)));
         return;
     }
 }
@@ -287,11 +315,12 @@ static void repair_numbers(struct input *in, struct dice *dice)
 /* Leaves out job words that fill refuses; puts unnamed nodes below a new root. */
 static void repair_job(struct input *in, struct dice *dice)
 {
-    static uint32_t facts[4096];
+    static uint32_t facts[WIDE_FILLER];
     for (unsigned times = 0; times < 64; times++) {
-        uint64_t answer = fill(in->job, in->job_len, NULL, 0, facts, 4096);
+        uint64_t answer = fill(in->job, in->job_len, NULL, 0, facts, WIDE_FILLER);
         unsigned number = planreader_number(answer), position = planreader_position(answer), nodes = number_of(in, NODE);
         if (number == 3 && position == in->job_len) repair_numbers(in, dice);
+        else if (number == 2 && position == 0 && kind_of(in->job[0]) == HEAD) in->job[0] = with_field(in->job[0], 27, 24, roll(dice, 2));
         else if (number >= 2 && number <= 4) erase(open_job(in), position);
         else if (number == 5 && nodes == 0) add_job_word(in, some_leaf(dice, number_of(in, ACTION), 0));
         else if (number == 5 && position + 1 < nodes && nodes < 64) add_job_word(in, node_word(SEQUENCE, position, nodes - 1, 0, 0));
@@ -314,14 +343,14 @@ static void carry_out_again(struct input *in, struct dice *dice)
 /* The facts that fill writes, as words of the input: perhaps with one changed by what follows. */
 static void write_facts(struct input *in, struct dice *dice)
 {
-    static uint32_t facts[4096];
-    uint64_t answer = fill(in->job, in->job_len, in->starts, in->starts_len, facts, 4096);
+    static uint32_t facts[WIDE_FILLER];
+    uint64_t answer = fill(in->job, in->job_len, in->starts, in->starts_len, facts, WIDE_FILLER);
     size_t len = planreader_length(answer);
     if (planreader_number(answer) != 0 || len > 200) return;
     in->facts_len = len;
     if (len) memcpy(in->facts, facts, len * sizeof *facts);
     in->choices &= ~(uint32_t)FACTS_BY_FILL;
-    if (len && chance(dice, 2)) in->facts[roll(dice, (uint32_t)len)] ^= 1u << roll(dice, 13);
+    if (len && chance(dice, 2)) in->facts[roll(dice, (uint32_t)len)] ^= 1u << roll(dice, 15);
 }
 
 static void facts_by_fill(struct input *in, struct dice *dice)
@@ -329,6 +358,15 @@ static void facts_by_fill(struct input *in, struct dice *dice)
     (void)dice;
     in->choices |= FACTS_BY_FILL;
     in->facts_len = 0;
+}
+
+/* The job in the other layout, narrow or wide. */
+static void change_layout(struct input *in, struct dice *dice)
+{
+    static struct twin twin;
+    if (!twin_of(&twin, (struct list){in->job, in->job_len})) return;
+    memcpy(in->job, twin.words, twin.len * sizeof *twin.words);
+    facts_by_fill(in, dice);
 }
 
 static void change_choices(struct input *in, struct dice *dice) { in->choices ^= 1u << roll(dice, 8); }
@@ -350,7 +388,7 @@ static mutation *const mutations[] = {
     swap_words,   add_declaration, add_law,   wrap_root,     wrap_root,    add_condition,  add_condition,   change_form,
     put_start,    put_start,    shift_starts, change_last,   write_facts,  facts_by_fill,  change_choices,  carry_out_again,
     carry_out_again, repair_numbers, repair_plan, repair_job, lengthen_job, change_trial, change_trial,   add_shift,
-    add_shift,    add_group,    add_group,    add_pair,      add_pair,
+    add_shift,    add_group,    add_group,    add_pair,      add_pair,     change_layout,  change_layout,
 };
 enum { MUTATIONS = sizeof mutations / sizeof *mutations };
 

@@ -8,7 +8,7 @@ void parts_of(struct parts *parts, struct list job)
         uint32_t word = job.words[i];
         switch (kind_of(word)) {
         case HEAD:
-            parts->fluents = field(word, 23, 16);
+            parts->head = word;
             parts->actions = field(word, 15, 8);
             parts->last = field(word, 7, 0);
             break;
@@ -29,12 +29,12 @@ static uint8_t least(uint8_t a, uint8_t b) { return a < b ? a : b; }
 static uint8_t greatest(uint8_t a, uint8_t b) { return a > b ? a : b; }
 
 /* A formula's value at a moment, from the fluents' and from the lower formulas'. */
-static uint8_t value_of(uint32_t word, uint8_t fluents[64][64], uint8_t formulas[64][64], uint32_t t)
+static uint8_t value_of(uint32_t head, uint32_t word, uint8_t fluents[FLUENTS][64], uint8_t formulas[64][64], uint32_t t)
 {
     uint32_t x = field(word, 11, 6), y = field(word, 5, 0);
     switch (form_of(word)) {
     case 0: return HOLDS;
-    case 1: return fluents[x][t];
+    case 1: return fluents[atom_fluent(head, word)][t];
     case 2: return (uint8_t)(HOLDS - formulas[x][t]);
     case 3: return least(formulas[x][t], formulas[y][t]);
     default: return greatest(formulas[x][t], formulas[y][t]);
@@ -43,15 +43,15 @@ static uint8_t value_of(uint32_t word, uint8_t fluents[64][64], uint8_t formulas
 
 void plan_of(struct plan *plan, const struct parts *parts, struct list starts, struct list facts)
 {
-    uint8_t fluents[64][64];
+    static uint8_t fluents[FLUENTS][64];
     memset(plan, 0, sizeof *plan);
     memset(fluents, OPEN, sizeof fluents);
     for (size_t i = 0; i < starts.len; i++)
         plan->starts[field(starts.words[i], 5, 0)] |= UINT64_C(1) << field(starts.words[i], 11, 6);
     for (size_t i = 0; i < facts.len; i++)
-        fluents[field(facts.words[i], 6, 1)][field(facts.words[i], 12, 7)] = facts.words[i] & 1u ? FAILS : HOLDS;
+        fluents[fact_fluent(parts->head, facts.words[i])][fact_moment(parts->head, facts.words[i])] = facts.words[i] & 1u ? FAILS : HOLDS;
     for (size_t k = 0; k < parts->formulas; k++)
-        for (uint32_t t = 0; t <= parts->last; t++) plan->value[k][t] = value_of(parts->formula[k], fluents, plan->value, t);
+        for (uint32_t t = 0; t <= parts->last; t++) plan->value[k][t] = value_of(parts->head, parts->formula[k], fluents, plan->value, t);
 }
 
 /* Where a reading is being followed. */

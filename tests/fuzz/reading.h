@@ -5,7 +5,7 @@
 #include <stdbool.h>
 
 struct parts {
-    uint32_t last, fluents, actions; /* the head: the last moment n, and the numbers of fluents and actions */
+    uint32_t head, last, actions; /* the head; its last moment n, and the number of actions */
     size_t formulas, nodes;
     uint32_t duration[64], formula[64], node[64];
     const uint32_t *after[64]; /* the words after each node's own: its members and conditions, if it is a set */

@@ -7,7 +7,7 @@
 #include "planreader.h"
 #include <string.h>
 
-enum { TRIAL_LEAST = 4098, TRIAL_MOST = 5000, STARTS_OF_TRIAL = 4096, BUFFER_LEAST = 4096, BUFFER_MOST = 5000 };
+enum { TRIAL_LEAST = 4098, TRIAL_MOST = 5000, STARTS_OF_TRIAL = 4096 };
 enum { ACTIONS_TRIED = 6, MOVES_TRIED = 16 };
 
 static struct guarded trial_room, buffer_room;
@@ -32,12 +32,12 @@ static uint32_t last_of(struct list job) { return field(job.words[0], 7, 0); }
 /* fill, for what it answers and writes. */
 struct filled {
     uint64_t answer;
-    uint32_t facts[BUFFER_LEAST];
+    uint32_t facts[WIDE_FILLER];
 };
 
 static void fill_with(struct filled *filled, struct list job, const uint32_t *starts, size_t len)
 {
-    filled->answer = fill(job.words, job.len, starts, len, filled->facts, BUFFER_LEAST);
+    filled->answer = fill(job.words, job.len, starts, len, filled->facts, filler_words(head_of(job)));
     harness_calls++;
     counters_add();
 }
@@ -130,6 +130,15 @@ static uint64_t held_move(int call, struct list job, struct trial *trial, uint32
     return answer;
 }
 
+/* What trial_show is to answer with a buffer of `len` words, but for the length of a success. */
+static uint64_t show_answer(struct filled *filled, struct list job, const struct trial *trial, size_t len)
+{
+    if (len < NARROW_FILLER) return answer_of(12);
+    if (len >= filler_words(head_of(job))) return trial_answer(filled, job, trial);
+    uint64_t refused = job_answer(job);
+    return refused ? refused : answer_of(12);
+}
+
 /* trial_show with a buffer of `len` words; the trial is locked. */
 static void held_show(struct list job, const struct trial *trial, size_t len, uint32_t choices)
 {
@@ -137,10 +146,10 @@ static void held_show(struct list job, const struct trial *trial, size_t len, ui
     struct list lent = lend(&trial_room, (struct list){trial->words, trial->len}, choices);
     guard_place(&buffer_room, painted, len, (choices & LISTS_BEGIN) != 0);
     uint32_t *buffer = len ? buffer_room.words : choices & EMPTY_POINTS ? buffer_room.end : NULL;
-    uint64_t right = len < BUFFER_LEAST ? answer_of(12) : trial_answer(&filled, job, trial);
+    uint64_t right = show_answer(&filled, job, trial, len);
     size_t shown = 0;
     if (right == 0)
-        while (shown < planreader_length(filled.answer) && field(filled.facts[shown], 12, 7) <= trial->words[0]) shown++;
+        while (shown < planreader_length(filled.answer) && fact_moment(job.words[0], filled.facts[shown]) <= trial->words[0]) shown++;
     uint64_t answer = trial_show(job.words, job.len, lent.words, lent.len, buffer, len);
     hold_answer(TRIAL_SHOW, answer, right | (uint64_t)shown << 24);
     hold(guard_intact(&buffer_room), TRIAL_SHOW, "a word outside the buffer changed", answer);
@@ -159,9 +168,15 @@ static void hold_trial(struct list job, const struct trial *trial, uint32_t acti
         moved = *trial;
         held_move(call, job, &moved, action, choices);
     }
-    held_show(job, trial, BUFFER_LEAST, choices);
-    held_show(job, trial, BUFFER_LEAST - 1, choices);
-    if (buffer_words(choices) != BUFFER_LEAST) held_show(job, trial, buffer_words(choices), choices);
+    uint32_t head = head_of(job);
+    size_t needed = filler_words(head), len = buffer_words(choices, head);
+    held_show(job, trial, needed, choices);
+    held_show(job, trial, NARROW_FILLER - 1, choices);
+    if (is_wide(head)) {
+        held_show(job, trial, NARROW_FILLER, choices);
+        held_show(job, trial, WIDE_FILLER - 1, choices);
+    }
+    if (len != needed) held_show(job, trial, len, choices);
 }
 
 /* A list of `len` words: the moment, what it says of its number of starts, the starts so far as they go, and then `after` and the like. */
@@ -187,7 +202,7 @@ static void hold_walk(struct list job, struct list starts, uint32_t choices)
             if (held_move(TRIAL_ON, job, &trial, 0, choices)) return;
         for (size_t i = to; i > from && moves++ < MOVES_TRIED; i--)
             held_move(TRIAL_START, job, &trial, field(starts.words[i - 1], 5, 0), choices);
-        held_show(job, &trial, BUFFER_LEAST, choices);
+        held_show(job, &trial, filler_words(head_of(job)), choices);
     }
 }
 

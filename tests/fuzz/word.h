@@ -1,6 +1,7 @@
 /* Words and lists of words, as the scope lays them out. */
 #ifndef WORD_H
 #define WORD_H
+#include <stdbool.h>
 #include <stddef.h>
 #include <stdint.h>
 
@@ -30,6 +31,49 @@ static inline uint32_t node_x(uint32_t word) { return field(word, 23, 18); }
 static inline uint32_t node_y(uint32_t word) { return field(word, 17, 12); }
 static inline uint32_t node_m(uint32_t word) { return field(word, 11, 6); }
 static inline uint32_t node_n(uint32_t word) { return field(word, 5, 0); }
+
+/* Request L6. A head whose bits 27..24 are 1 is wide; its job has fluents of eight bits, not six. A value of moment 0 and a law's role stand above
+ * the fluent, a fact's moment too; a formula of form 1 has the fluent in its lowest bits. Values: 0 true, 1 false. */
+enum { FLUENTS = 256, NARROW_FILLER = 4096, WIDE_FILLER = 16384 };
+
+static inline bool is_wide(uint32_t head) { return kind_of(head) == HEAD && form_of(head) == 1; }
+static inline unsigned fluent_bits(uint32_t head) { return is_wide(head) ? 8 : 6; }
+static inline uint32_t fluents_of(uint32_t head) { return is_wide(head) && field(head, 23, 16) == 0 ? FLUENTS : field(head, 23, 16); }
+
+static inline uint32_t fluent_of(uint32_t head, uint32_t word) { return field(word, fluent_bits(head) - 1, 0); }
+static inline uint32_t known_value(uint32_t head, uint32_t word) { return field(word, fluent_bits(head), fluent_bits(head)); }
+static inline uint32_t law_role(uint32_t head, uint32_t word) { return field(word, fluent_bits(head) + 1, fluent_bits(head)); }
+static inline uint32_t atom_fluent(uint32_t head, uint32_t word) { return is_wide(head) ? field(word, 7, 0) : field(word, 11, 6); }
+static inline uint32_t fact_fluent(uint32_t head, uint32_t word) { return field(word, fluent_bits(head), 1); }
+static inline uint32_t fact_moment(uint32_t head, uint32_t word) { return field(word, fluent_bits(head) + 6, fluent_bits(head) + 1); }
+
+/* A fluent that does not fit loses bits. */
+static inline uint32_t fitting(uint32_t head, uint32_t fluent) { return fluent & ((1u << fluent_bits(head)) - 1u); }
+
+static inline uint32_t known_word(uint32_t head, uint32_t fluent, uint32_t value)
+{
+    return (uint32_t)INITIALLY << 28 | value << fluent_bits(head) | fitting(head, fluent);
+}
+
+static inline uint32_t law_word(uint32_t head, uint32_t role, uint32_t fluent)
+{
+    return (uint32_t)LAW << 28 | role << fluent_bits(head) | fitting(head, fluent);
+}
+
+static inline uint32_t atom_word(uint32_t head, uint32_t fluent)
+{
+    return (uint32_t)FORMULA << 28 | 1u << 24 | fitting(head, fluent) << (is_wide(head) ? 0 : 6);
+}
+
+static inline uint32_t fact_word(uint32_t head, uint32_t moment, uint32_t fluent, uint32_t value)
+{
+    return (uint32_t)FACT << 28 | moment << (fluent_bits(head) + 1) | fitting(head, fluent) << 1 | value;
+}
+
+/* The buffer that fill and trial_show need. */
+static inline size_t filler_words(uint32_t head) { return is_wide(head) ? WIDE_FILLER : NARROW_FILLER; }
+
+static inline uint32_t head_of(struct list job) { return job.len ? job.words[0] : 0; }
 
 static inline uint32_t node_word(uint32_t form, uint32_t x, uint32_t y, uint32_t m, uint32_t n)
 {

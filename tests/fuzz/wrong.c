@@ -37,6 +37,7 @@ static volatile uint32_t sink;
 uint64_t check(const uint32_t *job, size_t job_len, const uint32_t *starts, size_t starts_len, const uint32_t *facts, size_t facts_len)
 {
     if (group_fault()) return group_check((struct list){job, job_len}, (struct list){starts, starts_len}, (struct list){facts, facts_len});
+    if (wide_fault()) return wide_check((struct list){job, job_len}, (struct list){starts, starts_len}, (struct list){facts, facts_len});
     static unsigned calls;
     job = shifted(job, job_len);
     uint64_t refusal = shift_refusal(job, job_len), answer = right_check(job, job_len, starts, starts_len, facts, facts_len);
@@ -82,7 +83,7 @@ static uint64_t spoil_fill(uint64_t answer, uint32_t *buffer, size_t buffer_len,
 }
 
 /* By action and fluent: how long the action lasts, if it makes the fluent true or false. */
-static uint32_t making[64][64];
+static uint32_t making[64][FLUENTS];
 
 static void read_making(const uint32_t *job, size_t job_len)
 {
@@ -90,14 +91,14 @@ static void read_making(const uint32_t *job, size_t job_len)
     memset(making, 0, sizeof making);
     for (size_t i = 0; i < job_len; i++) {
         if (job[i] >> 28 == 3u) action = job[i];
-        if (job[i] >> 28 == 4u && job[i] & 128u) making[action >> 6 & 63u][job[i] & 63u] = action & 63u;
+        if (job[i] >> 28 == 4u && law_role(job[0], job[i]) >= 2) making[action >> 6 & 63u][fluent_of(job[0], job[i])] = action & 63u;
     }
 }
 
 /* Does a start hide this fact's fluent, by the fault? */
-static bool hides_too(const uint32_t *starts, size_t starts_len, uint32_t fact)
+static bool hides_too(uint32_t head, const uint32_t *starts, size_t starts_len, uint32_t fact)
 {
-    uint32_t moment = planreader_fact_moment(fact), fluent = planreader_fact_fluent(fact);
+    uint32_t moment = fact_moment(head, fact), fluent = fact_fluent(head, fact);
     for (size_t i = 0; i < starts_len; i++) {
         uint32_t begin = starts[i] >> 6 & 63u, lasts = making[starts[i] & 63u][fluent];
         if (fault() == FILL_HIDES_AT_FINISH && lasts && moment == begin + lasts) return true;
@@ -108,30 +109,31 @@ static bool hides_too(const uint32_t *starts, size_t starts_len, uint32_t fact)
 
 /* fill, with a slip in the starts in hand that it carries from moment to moment. The other calls are right, and so the harness can see it: a
  * slip that all calls have in common it cannot, as it does not work out states. */
-static uint64_t fill_with_slip(const uint32_t *job, size_t job_len, const uint32_t *starts, size_t starts_len, uint32_t *buffer)
+static uint64_t fill_with_slip(const uint32_t *job, size_t job_len, const uint32_t *starts, size_t starts_len, uint32_t *buffer, size_t buffer_len)
 {
-    static uint32_t room[4096], other[2048];
+    static uint32_t room[WIDE_FILLER], other[2048];
     size_t kept = 0, seen = starts_len;
     memcpy(other, job, job_len * sizeof *job);
     for (size_t i = 0; fault() == FILL_FINISHES_EARLY && i < job_len; i++) other[i] -= job[i] >> 28 == 3u && (job[i] & 63u) > 1;
     while (fault() == FILL_LAST_NOT_ADDED && seen && starts[seen - 1] >> 6 == starts[starts_len - 1] >> 6) seen--;
-    uint64_t answer = right_fill(other, job_len, starts, seen, room, 4096);
+    uint64_t answer = right_fill(other, job_len, starts, seen, room, buffer_len < WIDE_FILLER ? buffer_len : WIDE_FILLER);
     if (planreader_number(answer)) return answer;
     read_making(job, job_len);
     for (size_t i = 0; i < planreader_length(answer); i++)
-        if (!hides_too(starts, starts_len, room[i])) buffer[kept++] = room[i];
+        if (!hides_too(job[0], starts, starts_len, room[i])) buffer[kept++] = room[i];
     return (uint64_t)kept << 24;
 }
 
 uint64_t fill(const uint32_t *job, size_t job_len, const uint32_t *starts, size_t starts_len, uint32_t *buffer, size_t buffer_len)
 {
     if (group_fault()) return group_fill((struct list){job, job_len}, (struct list){starts, starts_len}, buffer, buffer_len);
+    if (wide_fault()) return wide_fill((struct list){job, job_len}, (struct list){starts, starts_len}, buffer, buffer_len);
     static uint32_t room[4096];
     job = shifted(job, job_len);
     uint64_t refusal = buffer_len < 4096 ? 0 : shift_refusal(job, job_len);
     if (refusal) return refusal;
     if (fault() >= FILL_FINISHES_EARLY && fault() <= FILL_LAST_NOT_ADDED && job_len >= 1 && job_len <= 2048 && buffer_len >= 4096)
-        return fill_with_slip(job, job_len, starts, starts_len, buffer);
+        return fill_with_slip(job, job_len, starts, starts_len, buffer, buffer_len);
     uint32_t first = buffer_len ? buffer[0] : 0;
     if (fault() == FILL_12_AT_4096 && buffer_len == 4096) return UINT64_C(12) << 56;
     if (fault() == FILL_ACCEPTS_4095 && buffer_len == 4095) return right_fill(job, job_len, starts, starts_len, room, 4096);
@@ -213,12 +215,12 @@ static bool lets_pass(const uint32_t *job, size_t job_len, uint32_t start, const
 static uint64_t wait_through(const uint32_t *job, size_t job_len, const uint32_t *starts, size_t starts_len, const uint32_t *facts, size_t facts_len,
                              uint32_t *buffer, uint64_t answer)
 {
-    static uint32_t fewer[64], filled[4096], reading[4096];
+    static uint32_t fewer[64], filled[WIDE_FILLER], reading[4096];
     for (size_t left_out = 0; left_out < starts_len && starts_len <= 64; left_out++) {
         size_t kept = 0;
         for (size_t i = 0; i < starts_len; i++)
             if (i != left_out) fewer[kept++] = starts[i];
-        uint64_t written = right_fill(job, job_len, fewer, kept, filled, 4096);
+        uint64_t written = right_fill(job, job_len, fewer, kept, filled, WIDE_FILLER);
         if (written != (uint64_t)facts_len << 24 || (facts_len && memcmp(filled, facts, facts_len * sizeof *facts))) continue;
         uint64_t found = right_find(job, job_len, fewer, kept, filled, facts_len, reading, 4096);
         if (planreader_number(found) || !lets_pass(job, job_len, starts[left_out], reading, planreader_length(found))) continue;
@@ -232,6 +234,7 @@ uint64_t find(const uint32_t *job, size_t job_len, const uint32_t *starts, size_
               uint32_t *buffer, size_t buffer_len)
 {
     if (group_fault()) return group_find((struct list){job, job_len}, (struct list){starts, starts_len}, (struct list){facts, facts_len}, buffer, buffer_len);
+    if (wide_fault()) return wide_find((struct list){job, job_len}, (struct list){starts, starts_len}, (struct list){facts, facts_len}, buffer, buffer_len);
     uint32_t first = buffer_len ? buffer[0] : 0;
     job = shifted(job, job_len);
     uint64_t refusal = buffer_len < 4096 ? 0 : shift_refusal(job, job_len);
@@ -264,6 +267,7 @@ static bool copied(const uint32_t *trial, size_t trial_len)
 uint64_t trial_begin(const uint32_t *job, size_t job_len, uint32_t *trial, size_t trial_len)
 {
     if (group_fault()) return group_begin((struct list){job, job_len}, trial, trial_len);
+    if (wide_fault()) return wide_begin((struct list){job, job_len}, trial, trial_len);
     uint32_t moment = trial_len ? trial[0] : 0;
     job = shifted(job, job_len);
     if (fault() == BEGIN_14_BEFORE_JOB && trial_len < TRIAL_LEAST) return UINT64_C(14) << 56;
@@ -318,6 +322,7 @@ static uint64_t spoil_refused_start(const uint32_t *job, size_t job_len, uint32_
 uint64_t trial_start(const uint32_t *job, size_t job_len, uint32_t *trial, size_t trial_len, uint32_t action)
 {
     if (group_fault()) return group_start((struct list){job, job_len}, trial, trial_len, action);
+    if (wide_fault()) return wide_start((struct list){job, job_len}, trial, trial_len, action);
     bool whole = copied(trial, trial_len);
     job = shifted(job, job_len);
     if (fault() == START_READS_AFTER_TRIAL && trial_len) sink = trial[trial_len];
@@ -370,6 +375,7 @@ static uint64_t spoil_refused_on(const uint32_t *job, uint32_t *trial, uint64_t 
 uint64_t trial_on(const uint32_t *job, size_t job_len, uint32_t *trial, size_t trial_len)
 {
     if (group_fault()) return group_on((struct list){job, job_len}, trial, trial_len);
+    if (wide_fault()) return wide_on((struct list){job, job_len}, trial, trial_len);
     job = shifted(job, job_len);
     uint64_t answer = right_trial_on(job, job_len, trial, trial_len);
     if (fault() == ON_SKIPS_SHIFTS && planreader_number(answer) == 15) return right_trial_on(freed(job, job_len), job_len, trial, trial_len);
@@ -387,10 +393,10 @@ static uint64_t spoil_show(const uint32_t *job, size_t job_len, const uint32_t *
     switch (fault()) {
     case SHOW_ALL: return right_fill(job, job_len, trial + 2, trial[1], buffer, buffer_len);
     case SHOW_WITHOUT_PRESENT:
-        while (written && planreader_fact_moment(buffer[written - 1]) == trial[0]) written--;
+        while (written && fact_moment(job[0], buffer[written - 1]) == trial[0]) written--;
         return (uint64_t)written << 24;
     case SHOW_PRESENT_ALONE:
-        while (from < written && planreader_fact_moment(buffer[from]) < trial[0]) from++;
+        while (from < written && fact_moment(job[0], buffer[from]) < trial[0]) from++;
         for (size_t i = from; i < written; i++) buffer[i - from] = buffer[i];
         return (uint64_t)(written - from) << 24;
     case SHOW_COUNTS: return answer + written;
@@ -405,6 +411,7 @@ static uint64_t spoil_show(const uint32_t *job, size_t job_len, const uint32_t *
 uint64_t trial_show(const uint32_t *job, size_t job_len, const uint32_t *trial, size_t trial_len, uint32_t *buffer, size_t buffer_len)
 {
     if (group_fault()) return group_show((struct list){job, job_len}, trial, trial_len, buffer, buffer_len);
+    if (wide_fault()) return wide_show((struct list){job, job_len}, trial, trial_len, buffer, buffer_len);
     static uint32_t room[4096];
     job = shifted(job, job_len);
     uint64_t answer = right_trial_show(job, job_len, trial, trial_len, buffer, buffer_len);

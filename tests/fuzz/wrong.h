@@ -1,4 +1,4 @@
-/* The proved calls under other names, and the faults of wrong.c, wrong_shift.c and wrong_group.c. */
+/* The proved calls under other names, and the faults of wrong.c, wrong_shift.c, wrong_group.c and wrong_wide.c. */
 #ifndef WRONG_H
 #define WRONG_H
 #include "planreader.h"
@@ -172,7 +172,56 @@ enum fault {
     START_16_BEFORE_15,
     ON_SKIPS_GROUPS,
     SHOW_SKIPS_GROUPS,
-    FAULTS = SHOW_SKIPS_GROUPS
+    WIDE_0_IS_0,
+    WIDE_0_IS_255,
+    WIDE_F_UP_TO_64,
+    WIDE_F_IS_256,
+    WIDE_HEAD_REFUSED,
+    WIDE_HEAD_3,
+    WIDE_HEAD_2_TO_15,
+    WIDE_HEAD_2_TO_15_NARROW,
+    WIDE_HEAD_BY_BIT_24,
+    WIDE_BY_F,
+    WIDE_ALWAYS,
+    WIDE_KNOWN_VALUE_IN_BIT_6,
+    WIDE_KNOWN_OF_6_BITS,
+    WIDE_KNOWN_OF_7_BITS,
+    WIDE_KNOWN_SPARE,
+    WIDE_KNOWN_BIT_9,
+    WIDE_KNOWN_BIT_27,
+    WIDE_KNOWN_OLD_SPARE,
+    WIDE_ROLE_IN_7_6,
+    WIDE_LAW_OF_6_BITS,
+    WIDE_LAW_OF_7_BITS,
+    WIDE_LAW_SPARE,
+    WIDE_LAW_BIT_10,
+    WIDE_LAW_BIT_27,
+    WIDE_LAW_OLD_SPARE,
+    WIDE_ATOM_IN_11_6,
+    WIDE_ATOM_OF_6_BITS,
+    WIDE_ATOM_OF_7_BITS,
+    WIDE_ATOM_SPARE,
+    WIDE_ATOM_BIT_8,
+    WIDE_ATOM_BIT_23,
+    WIDE_ATOM_OLD_SPARE,
+    WIDE_FACT_MOMENT_AT_7,
+    WIDE_FACT_OF_6_BITS,
+    WIDE_FACT_NARROW,
+    WIDE_FACT_MOMENT_OF_5_BITS,
+    WIDE_12_BEFORE_JOB,
+    WIDE_12_AFTER_STARTS,
+    WIDE_12_AFTER_6,
+    SHOW_WIDE_12_AFTER_14,
+    WIDE_NO_12,
+    FILL_WIDE_NO_12,
+    SHOW_WIDE_NO_12,
+    WIDE_12_AT_16384,
+    WIDE_ACCEPTS_16383,
+    WIDE_12_BY_F,
+    WIDE_12_BY_FACTS,
+    NARROW_NEEDS_16384,
+    WIDE_FIND_NEEDS_16384,
+    FAULTS = WIDE_FIND_NEEDS_16384
 };
 
 /* The fault that the environment's FAULT numbers. */
@@ -201,4 +250,14 @@ uint64_t group_begin(struct list job, uint32_t *trial, size_t len);
 uint64_t group_start(struct list job, uint32_t *trial, size_t len, uint32_t action);
 uint64_t group_on(struct list job, uint32_t *trial, size_t len);
 uint64_t group_show(struct list job, const uint32_t *trial, size_t trial_len, uint32_t *buffer, size_t len);
+
+/* wrong_wide.c: is the fault one of wide jobs? Then these are the calls. */
+bool wide_fault(void);
+uint64_t wide_check(struct list job, struct list starts, struct list facts);
+uint64_t wide_fill(struct list job, struct list starts, uint32_t *buffer, size_t len);
+uint64_t wide_find(struct list job, struct list starts, struct list facts, uint32_t *buffer, size_t len);
+uint64_t wide_begin(struct list job, uint32_t *trial, size_t len);
+uint64_t wide_start(struct list job, uint32_t *trial, size_t len, uint32_t action);
+uint64_t wide_on(struct list job, uint32_t *trial, size_t len);
+uint64_t wide_show(struct list job, const uint32_t *trial, size_t trial_len, uint32_t *buffer, size_t len);
 #endif

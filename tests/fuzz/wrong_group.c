@@ -249,7 +249,7 @@ uint64_t group_fill(struct list job, struct list starts, uint32_t *buffer, size_
 {
     job = read_by_fault(job);
     uint64_t answer = len < BUFFER_LEAST ? 0 : refusal_by_fault(job);
-    if (!answer && len >= BUFFER_LEAST) answer = over_limit(job, starts, FILL_SKIPS_GROUPS);
+    if (!answer && len >= filler_words(head_of(job))) answer = over_limit(job, starts, FILL_SKIPS_GROUPS);
     if (answer) return answer;
     job = ungrouped(job);
     return right_fill(job.words, job.len, starts.words, starts.len, buffer, len);
@@ -275,11 +275,11 @@ uint64_t group_begin(struct list job, uint32_t *trial, size_t len)
 /* The refusal of the job or of the trial's own starts for its groups; 0 for none. */
 static uint64_t trial_refusal(struct list job, const uint32_t *trial, size_t len, int skips)
 {
-    static uint32_t room[BUFFER_LEAST];
+    static uint32_t room[WIDE_FILLER];
     uint64_t answer = refusal_by_fault(job);
     if (answer) return answer;
     struct list rest = ungrouped(job);
-    if (is_before_16(planreader_number(right_trial_show(rest.words, rest.len, trial, len, room, BUFFER_LEAST)))) return 0;
+    if (is_before_16(planreader_number(right_trial_show(rest.words, rest.len, trial, len, room, WIDE_FILLER)))) return 0;
     return over_limit(job, (struct list){trial + 2, trial[1]}, skips) ? refused(16, 0) : 0;
 }
 
@@ -329,7 +329,7 @@ uint64_t group_on(struct list job, uint32_t *trial, size_t len)
 uint64_t group_show(struct list job, const uint32_t *trial, size_t trial_len, uint32_t *buffer, size_t len)
 {
     job = read_by_fault(job);
-    uint64_t answer = len < BUFFER_LEAST ? 0 : trial_refusal(job, trial, trial_len, SHOW_SKIPS_GROUPS);
+    uint64_t answer = len < BUFFER_LEAST ? 0 : len < filler_words(head_of(job)) ? refusal_by_fault(job) : trial_refusal(job, trial, trial_len, SHOW_SKIPS_GROUPS);
     if (answer) return answer;
     job = ungrouped(job);
     return right_trial_show(job.words, job.len, trial, trial_len, buffer, len);
