@@ -2,6 +2,7 @@
 use crate::shapes::{facts, SET};
 use crate::slow::draws;
 use crate::time::{best, is_within};
+use crate::wide::widened;
 use crate::yardstick;
 use planreader_tests::checker::calls::read_plan;
 use planreader_tests::checker::readings::literal::{is_reading, Triple};
@@ -13,28 +14,31 @@ use planreader_tests::random::Random;
 
 const SEED: u64 = 0x5e3a_1071_000a;
 
-/// How many plans of all forms are compared, of end windows, of sets with few moments, and of wide sets with n = 63.
+/// How many plans of all forms are compared, of these with a wide head, of end windows, of sets with few moments, and of sets with n = 63.
 const ANY: usize = 2_000;
+const WIDE: usize = 1_000;
 const WAITS: usize = 4_000;
 const SMALL: usize = 4_000;
-const WIDE: usize = 300;
+const LONG: usize = 300;
 
 /// Prints how many agree, and the slowest find; whether all agree within the limit of a set.
 pub fn within_limits() -> bool {
     let mut random = Random::new(SEED);
     let small = (0..SMALL).filter(|_| agrees(&set_draws::any(&mut random).case()).is_some()).count();
-    let wide: Vec<f64> = (0..WIDE).filter_map(|_| agrees(&draws::plan(&mut random).case())).collect();
+    let long: Vec<f64> = (0..LONG).filter_map(|_| agrees(&draws::plan(&mut random).case())).collect();
     let any = (0..ANY).filter(|_| agrees(&any_case(&mut random)).is_some()).count();
     let waits = (0..WAITS).filter(|_| agrees(&waits::any(&mut random)).is_some()).count();
-    let slowest = wide.iter().copied().fold(0.0, f64::max);
-    let within = any == ANY && waits == WAITS && small == SMALL && wide.len() == WIDE && is_within(slowest, SET);
+    let wide = (0..WIDE).filter(|_| agrees(&wide_case(&mut random)).is_some()).count();
+    let slowest = long.iter().copied().fold(0.0, f64::max);
+    let all = any == ANY && wide == WIDE && waits == WAITS && small == SMALL && long.len() == LONG;
+    let within = all && is_within(slowest, SET);
     let told = if within { "" } else { "  FAILED" };
-    println!("generated plans on which find and the yardstick agree: {any} of {ANY} of all forms, {waits} of {WAITS} of end windows");
+    println!("generated plans on which find and the yardstick agree: {any} of {ANY} of all forms, {wide} of {WIDE} with a wide head, {waits} of {WAITS} of end windows");
     println!(
-        "generated sets on which find and the yardstick agree: {small} of {SMALL}, wide ones {} of {WIDE}",
-        wide.len()
+        "generated sets on which find and the yardstick agree: {small} of {SMALL}, with n = 63 {} of {LONG}",
+        long.len()
     );
-    println!("{slowest:>9.3} {SET:>6}  the slowest find on a wide one, ms{told}");
+    println!("{slowest:>9.3} {SET:>6}  the slowest find on one with n = 63, ms{told}");
     within
 }
 
@@ -47,6 +51,12 @@ fn any_case(random: &mut Random) -> FindCase {
     } else {
         finds::perturbed(random, &case)
     }
+}
+
+/// The same with a wide head.
+fn wide_case(random: &mut Random) -> FindCase {
+    let FindCase { job, starts } = any_case(random);
+    FindCase { job: widened(&job), starts }
 }
 
 /// The time of find, where both give the same number and count, and readings.

@@ -2,10 +2,11 @@
 //! archive refuses, as an older one does where a word of the job is of a newer kind, has no figure.
 use crate::instructions::{self, Finder};
 use crate::plans::{self, Plan};
-use crate::shapes::{self, facts};
+use crate::shapes::{self, facts, Shape};
 use crate::time::best;
 use crate::trials::{self, Trial};
 use crate::walks;
+use crate::wide;
 use planreader_tests::{checker::answer::Answer, host};
 
 /// A time is the best of so many.
@@ -61,8 +62,7 @@ fn times() -> Vec<Figure> {
         trials::CALLS.map(call)
     };
     let trials = lawful_trials().flat_map(in_trial);
-    let finds =
-        shapes::all().into_iter().map(|shape| time(format!("find: {}", shape.name), FIND, &shape.job, &shape.starts));
+    let finds = lawful_shapes().map(|shape| time(format!("find: {}", shape.name), FIND, &shape.job, &shape.starts));
     plans.chain(trials).chain(finds).collect()
 }
 
@@ -77,16 +77,20 @@ fn lawful_trials() -> impl Iterator<Item = &'static str> {
     })
 }
 
+fn lawful_shapes() -> impl Iterator<Item = Shape> {
+    shapes::all().into_iter().filter(|shape| is_lawful(&shape.job, &shape.starts))
+}
+
 /// Whether the archive says so.
 fn is_lawful(job: &[u32], starts: &[u32]) -> bool {
-    host::fill(job, starts, &mut vec![0; 4096]).number == 0
+    host::fill(job, starts, &mut vec![0; wide::filler_words(job)]).number == 0
 }
 
 fn time(name: String, call: Call, job: &[u32], starts: &[u32]) -> Figure {
     let (job, starts) = (job.to_vec(), starts.to_vec());
     Figure::new(name, move || {
         let facts = facts(&job, &starts);
-        let mut buffer = vec![0; 4096];
+        let mut buffer = vec![0; wide::filler_words(&job)];
         best(RUNS, || call(&job, &starts, &facts, &mut buffer)).0
     })
 }
@@ -98,7 +102,7 @@ fn instructions() -> Vec<Figure> {
         trials::COUNTED_CALLS.map(figure)
     };
     let trials = lawful_trials().flat_map(of_trial);
-    let counted = shapes::all().into_iter().filter(|shape| shape.counted);
+    let counted = lawful_shapes().filter(|shape| shape.counted);
     let finds = counted
         .map(|shape| count(format!("find: {}", shape.name), move || instructions::count(&shape, Finder::Archive)));
     fills.chain(trials).chain(finds).collect()

@@ -12,4 +12,5 @@ pub mod slow;
 pub mod time;
 pub mod trials;
 pub mod walks;
+pub mod wide;
 pub mod yardstick;

@@ -19,7 +19,7 @@ fn main() {
 
 fn run_counted(subject: &str, call: &str) {
     match subject {
-        trials::LARGEST | trials::WINDOWED | trials::GROUPED => trials::run(subject, call),
+        trial if trials::NAMES.contains(&trial) => trials::run(trial, call),
         walks::COUNTED => walks::run(call),
         shape => instructions::run(shape, call),
     }
@@ -41,11 +41,12 @@ fn hold_to_limits() {
 }
 
 /// Whether instructions are within each of their limits.
-fn instruction_limits() -> [bool; 5] {
+fn instruction_limits() -> [bool; 6] {
     [
         walks::instructions_within_limits(),
         walks::windows_within_limit(),
         walks::groups_within_limit(),
+        walks::fluents_within_limits(),
         trials::instructions_are_within(),
         finds::instructions_within_limits(),
     ]

@@ -1,5 +1,6 @@
-//! Lawful plans for check and fill: the largest ones, one with the most shift windows, some with all groups, and plans by how many starts
-//! are in hand.
+//! Lawful plans for check and fill: the largest ones, narrow and wide, one with the most shift windows, some with all groups, and plans by how
+//! many starts are in hand and by how many fluents there are.
+use crate::wide;
 use planreader_tests::words::{action, formula, head, initially, law, node, start};
 
 /// The last moments of the plans by starts in hand.
@@ -7,6 +8,10 @@ pub const LASTS: [usize; 3] = [15, 31, 63];
 
 /// How many laws an action of the largest plans has.
 const LAWS: usize = 29;
+
+/// How many laws the job of the largest wide plans has, and how many fluents its actions need, all known at 0.
+const WIDE_LAWS: usize = 1900;
+const NEEDED: usize = 20;
 
 /// Fluents of the plans by starts in hand: one that all actions need, and six that they make. So few, so that the walk of the states takes
 /// little for the fluents of a start that acts, and it shows how many starts it looks at.
@@ -39,8 +44,10 @@ pub fn all() -> Vec<Plan> {
         let in_hand = starts.len() * d;
         Plan { name: format!("the largest, d = {d}"), last: 63, job, starts, in_hand }
     });
+    let wide = [1, 2, 7].map(largest_wide);
     let windows_and_groups = [windowed(), grouped(), grouped_most_pairs(), grouped_durations(), bare()];
-    largest.into_iter().chain(windows_and_groups).chain(LASTS.into_iter().flat_map(by_starts_in_hand)).collect()
+    let by_starts = LASTS.into_iter().flat_map(by_starts_in_hand);
+    largest.into_iter().chain(wide).chain(windows_and_groups).chain(by_starts).chain(by_fluents()).collect()
 }
 
 /// As many shift windows as there is room for, 29 or 30 for each action, side by side from moment 0 to 63: each start is held by one of
@@ -131,8 +138,53 @@ pub fn largest(d: usize) -> (Vec<u32>, Vec<u32>) {
     }
     job.extend([formula(0, 0, 0); 62]);
     job.push(node(1, 0, 0, 0, 0));
-    let starts = (0..=63 - d).step_by(d).flat_map(|u| (0..64).map(move |a| start(u, a))).collect();
-    (job, starts)
+    (job, every_action(d))
+}
+
+/// Every action at every d-th moment, as long as it finishes by 63.
+fn every_action(d: usize) -> Vec<u32> {
+    (0..=63 - d).step_by(d).flat_map(|u| (0..64).map(move |a| start(u, a))).collect()
+}
+
+/// The same with a wide head, 256 fluents and 1,900 laws. There is room for 81 fluents known at 0; all are known as soon as the first starts
+/// have finished.
+pub fn largest_wide(d: usize) -> Plan {
+    let mut job = wide_before_formulas(d, 2);
+    job.extend([formula(0, 0, 0), node(1, 0, 0, 0, 0)]);
+    let starts = every_action(d);
+    let in_hand = starts.len() * d;
+    Plan { name: format!("the largest wide, d = {d}"), last: 63, job, starts, in_hand }
+}
+
+/// 256 fluents, of which as many are known at 0 as there is room for with so many words after the laws; 64 actions of duration d, 29 or 30
+/// laws each, all true: with d = 1 the first 12 need one of 20 fluents. Each fluent is made by some action.
+pub fn wide_before_formulas(d: usize, after: usize) -> Vec<u32> {
+    let needs = if d == 1 { 12 } else { 0 };
+    let mut job = vec![wide::head(wide::FLUENTS, 64, 63)];
+    job.extend((0..2048 - 1 - 64 - WIDE_LAWS - after).map(|f| wide::initially(f, true)));
+    for a in 0..64 {
+        let laws = (WIDE_LAWS - a).div_ceil(64);
+        job.push(action(a, d));
+        job.extend((0..needs).map(|i| wide::law(0, (a + i) % NEEDED)));
+        job.extend((needs..laws).map(|i| wide::law(2, (a * 4 + i * 15) % wide::FLUENTS)));
+    }
+    job
+}
+
+/// With a wide head and one fluent, and with 256; without starts, and with each of 64 actions at every moment but the last.
+pub fn by_fluents() -> [Plan; 4] {
+    [(1, 0), (wide::FLUENTS, 0), (1, 64), (wide::FLUENTS, 64)].map(|(fluents, started)| wide_plan(fluents, started))
+}
+
+/// All fluents are known at 0, and each action, of duration 1, makes one of them true.
+fn wide_plan(fluents: usize, started: usize) -> Plan {
+    let mut job = vec![wide::head(fluents, 64, 63)];
+    job.extend((0..fluents).map(|f| wide::initially(f, true)));
+    job.extend((0..64).flat_map(|a| [action(a, 1), wide::law(2, a * 4 % fluents)]));
+    job.extend([formula(0, 0, 0), node(1, 0, 0, 0, 0)]);
+    let starts: Vec<u32> = (0..63).flat_map(|u| (0..started).map(move |a| start(u, a))).collect();
+    let in_hand = starts.len();
+    Plan { name: format!("wide, fluents: {fluents}, in hand: {started}"), last: 63, job, starts, in_hand }
 }
 
 /// Without starts; with 64 starts in hand at each moment; and for n = 63 also with one, with eight, and of different durations.

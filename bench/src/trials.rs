@@ -1,18 +1,20 @@
 //! The calls on trials of 4,000 starts, beside check of those starts with their facts and beside the independent checker.
-use crate::calls::CALL;
-use crate::instructions::{count_run, counted_call};
-use crate::plans::{grouped, largest, windowed};
+use crate::calls::call_limit;
+use crate::instructions::{all_within, count_run, counted_call};
+use crate::plans::{grouped, largest, largest_wide, windowed};
 use crate::shapes::facts;
 use crate::time::{best, is_within};
+use crate::wide;
 use planreader_tests::checker::{answer::Answer, trial as plain};
 use planreader_tests::host;
 
-/// The trials: of the largest plan, of that with the most shift windows, and of that with all groups and the most in hand. The argument of
-/// a counted run that is about one.
+/// The trials: of the largest plan, of that with the most shift windows, of that with all groups and the most in hand, and of the largest
+/// wide one. The argument of a counted run that is about one.
 pub const LARGEST: &str = "trial";
 pub const WINDOWED: &str = "trial with shift windows";
 pub const GROUPED: &str = "trial with groups";
-pub const NAMES: [&str; 3] = [LARGEST, WINDOWED, GROUPED];
+pub const WIDE: &str = "wide trial";
+pub const NAMES: [&str; 4] = [LARGEST, WINDOWED, GROUPED, WIDE];
 
 /// The arguments for the two calls that are counted.
 const COUNTED_START: &str = "start";
@@ -52,6 +54,7 @@ impl Trial {
             LARGEST => largest(1),
             WINDOWED => (windowed().job, windowed().starts),
             GROUPED => (grouped().job, grouped().starts),
+            WIDE => (largest_wide(1).job, largest_wide(1).starts),
             _ => panic!("no trial {name}"),
         };
         let starts = [&all[..62 * 64], &all[62 * 64 + 32..]].concat();
@@ -68,7 +71,7 @@ impl Trial {
     /// How long a call takes, its answer, and what it leaves in trial and buffer. Each run has the trial as it was; that copy counts too, a
     /// thousandth of a millisecond.
     fn timed(&self, runs: usize, call: Call) -> (f64, (Answer, Vec<u32>, Vec<u32>)) {
-        let (mut lent, mut buffer) = (self.words.clone(), vec![0; 4096]);
+        let (mut lent, mut buffer) = (self.words.clone(), vec![0; wide::filler_words(&self.job)]);
         let (ms, answer) = best(runs, || {
             lent.copy_from_slice(&self.words);
             call(&self.job, &mut lent, &mut buffer)
@@ -79,9 +82,10 @@ impl Trial {
     fn call_within_limit(&self, name: &str, [call, checker]: [Call; 2]) -> bool {
         let (ms, given) = self.timed(10, call);
         let (plain_ms, right) = self.timed(1, checker);
-        let within = given == right && given.0.number == 0 && is_within(ms, CALL);
+        let limit = call_limit(&self.job);
+        let within = given == right && given.0.number == 0 && is_within(ms, limit);
         let told = if within { "" } else { "  FAILED" };
-        println!("{ms:>9.3} {CALL:>6} {plain_ms:>9.3}  {name}{told}");
+        println!("{ms:>9.3} {limit:>6} {plain_ms:>9.3}  {name}{told}");
         within
     }
 
@@ -117,21 +121,16 @@ fn trial_within_limits(name: &str) -> bool {
 /// Prints the instructions of a start and of check, which other work on the machine does not change; whether a start takes no more.
 pub fn instructions_are_within() -> bool {
     println!("start in a trial, instructions; check of the same starts with their facts, instructions; ratio; limit");
-    match COUNTED_CALLS.map(|call| count(LARGEST, call)) {
-        [Ok(start), Ok(check)] => {
-            let ratio = start as f64 / check as f64;
-            let within = ratio <= START_TO_CHECK;
-            println!(
-                "{start:>12} {check:>12} {ratio:>6.3} {START_TO_CHECK:>6}{}",
-                if within { "" } else { "  FAILED" }
-            );
-            within
-        }
-        [start, check] => {
-            [start, check].into_iter().filter_map(Result::err).for_each(|told| println!("{told}"));
-            false
-        }
-    }
+    all_within([LARGEST, WIDE].into_iter().map(start_within_check))
+}
+
+fn start_within_check(name: &str) -> Result<bool, String> {
+    let (start, check) = (count(name, COUNTED_START)?, count(name, COUNTED_CHECK)?);
+    let ratio = start as f64 / check as f64;
+    let within = ratio <= START_TO_CHECK;
+    let told = if within { "" } else { "  FAILED" };
+    println!("{start:>12} {check:>12} {ratio:>6.3} {START_TO_CHECK:>6}  {name}{told}");
+    Ok(within)
 }
 
 /// How many instructions one of the two calls takes.

@@ -1,8 +1,9 @@
 //! Instructions of fill by how many starts are in hand: the walk of the states carries these from moment to moment, and does not look
-//! through all starts at each. By shift windows: they are gone through once a call, not for each start. And by groups: a start is counted
-//! with those in hand, not with all before it.
+//! through all starts at each. By shift windows: they are gone through once a call, not for each start. By groups: a start is counted with
+//! those in hand, not with all before it. And by fluents.
 use crate::instructions::{all_within, count_run, counted_call};
 use crate::plans::{self, by_starts_in_hand, Plan, LASTS, STARTS_IN_GROUPS, WINDOWS};
+use crate::wide;
 use planreader_tests::host;
 
 /// The argument of a counted run that is about fill on a plan.
@@ -22,6 +23,11 @@ const WINDOW: u64 = 165;
 /// plan without groups, for each start and each group of its action. When this was set, it took 286; a count over all starts before takes
 /// more than 20,000.
 const START_IN_GROUP: u64 = 345;
+
+/// How many instructions a fluent may cost with a wide head: what fill takes with 256 beyond what it takes with one, for each fluent and moment
+/// without starts; and for each fluent and start what starts add.
+const FLUENT: u64 = 1000;
+const STARTED_FLUENT: u64 = 1000;
 
 /// Prints the instructions; whether they are within the limits.
 pub fn instructions_within_limits() -> bool {
@@ -62,6 +68,27 @@ pub fn groups_within_limit() -> bool {
     all_within([part_within_limit(&plans::grouped(), STARTS_IN_GROUPS, START_IN_GROUP)].into_iter())
 }
 
+/// Prints the instructions with one fluent and with 256, without starts, and what 4,032 starts add; whether a fluent costs no more than it may.
+pub fn fluents_within_limits() -> bool {
+    println!("fill, instructions with one fluent; with 256; for each more and each moment, or each start; limit");
+    let taken: Result<Vec<u64>, String> = plans::by_fluents().iter().map(count).collect();
+    all_within([taken.map(|taken| fluents_cost(&taken))].into_iter())
+}
+
+/// With one fluent and with 256, without starts; then with starts.
+fn fluents_cost(taken: &[u64]) -> bool {
+    let added = [0, 1].map(|i| taken[i + 2].saturating_sub(taken[i]));
+    let without = fluent_within_limit("no starts", [taken[0], taken[1]], 64, FLUENT);
+    without & fluent_within_limit("what 4,032 starts add", added, 4032, STARTED_FLUENT)
+}
+
+fn fluent_within_limit(name: &str, [one, all]: [u64; 2], times: u64, limit: u64) -> bool {
+    let each = all.saturating_sub(one) / ((wide::FLUENTS as u64 - 1) * times);
+    let told = if each <= limit { "" } else { "  FAILED" };
+    println!("{one:>12} {all:>12} {each:>6} {limit:>6}  {name}{told}");
+    each <= limit
+}
+
 /// Of a plan beyond what the bare one takes, for each of so many parts.
 fn part_within_limit(plan: &Plan, parts: usize, limit: u64) -> Result<bool, String> {
     let (with, without) = (count(plan)?, count(&plans::bare())?);
@@ -79,7 +106,7 @@ pub fn count(plan: &Plan) -> Result<u64, String> {
 /// The run that is counted.
 pub fn run(name: &str) {
     let plan = plans::all().into_iter().find(|plan| plan.name == name).expect("a plan of that name");
-    let mut buffer = vec![0; 4096];
+    let mut buffer = vec![0; wide::filler_words(&plan.job)];
     let filled = counted_call(&mut || host::fill(&plan.job, &plan.starts, &mut buffer));
     assert_eq!(filled.number, 0, "the plan is lawful");
 }

@@ -1,21 +1,32 @@
-//! Ordinary doors.
+//! Ordinary doors, narrow and wide.
 use super::nodes::Nodes;
 use super::{Shape, DOOR};
+use crate::wide;
 use planreader_tests::words::{action, condition, formula, head, initially, law, node, start};
 
 /// How many times as many instructions as the yardstick find may take on a door.
 const RATIO: f64 = 2.5;
 
 pub fn shapes() -> Vec<Shape> {
-    let shape = |name: &str, (job, starts): (Vec<u32>, Vec<u32>)| Shape {
-        name: name.to_string(),
+    let doors = [("door, sets after the loop", door()), ("door, sets in the loop", door_of_passes())];
+    let shape = |name: String, (job, starts): (Vec<u32>, Vec<u32>), most_ratio: Option<f64>| Shape {
+        name,
         job,
         starts,
         most_ms: DOOR,
         counted: true,
-        most_ratio: Some(RATIO),
+        most_ratio,
     };
-    vec![shape("door, sets after the loop", door()), shape("door, sets in the loop", door_of_passes())]
+    let wide = doors.clone().map(|(name, door)| shape(format!("wide {name}"), wide_door(door), None));
+    doors.map(|(name, door)| shape(name.to_string(), door, Some(RATIO))).into_iter().chain(wide).collect()
+}
+
+/// The door with a wide head and 256 fluents, its own the last of them; the others are known at 0 and stay. Then checking the job and 16,384
+/// facts, which the yardstick does not do, counts most.
+fn wide_door((job, starts): (Vec<u32>, Vec<u32>)) -> (Vec<u32>, Vec<u32>) {
+    let mut job = wide::widened(&job);
+    job.splice(1..1, (0..wide::FLUENTS - 1).map(|f| wide::initially(f, true)));
+    (job, starts)
 }
 
 /// Fluent 0 is true until action 1 makes it false; formula 0 says that it is, formula 1 always holds. Actions 2 and 3 are those of sets.

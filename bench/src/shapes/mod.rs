@@ -6,6 +6,7 @@ mod nodes;
 pub mod slowest;
 pub mod windows;
 
+use crate::wide;
 use planreader_tests::host;
 
 #[derive(Default)]
@@ -31,6 +32,7 @@ pub const LOOP: f64 = 20.0;
 pub const DOOR: f64 = 1.0;
 pub const WINDOWS: f64 = 1.0;
 pub const LARGEST: f64 = 5.0;
+pub const LARGEST_WIDE: f64 = 15.0;
 
 pub fn all() -> Vec<Shape> {
     [doors::shapes(), windows::shapes(), nests::shapes(), crowds::shapes(), slowest::shapes()]
@@ -41,7 +43,7 @@ pub fn all() -> Vec<Shape> {
 
 /// The facts of a plan that is lawful.
 pub fn facts(job: &[u32], starts: &[u32]) -> Vec<u32> {
-    let mut buffer = vec![0; 4096];
+    let mut buffer = vec![0; wide::filler_words(job)];
     let filled = host::fill(job, starts, &mut buffer);
     assert_eq!(filled.number, 0, "the plan is lawful");
     buffer.truncate(filled.length);

@@ -1,7 +1,7 @@
 //! Jobs with as many end windows as there is room for, over rows of many ends: in plans with few starts, with many, and with the most.
 use super::nodes::Nodes;
-use super::{Shape, LARGEST, WINDOWS};
-use crate::plans::largest;
+use super::{Shape, LARGEST, LARGEST_WIDE, WINDOWS};
+use crate::plans::{largest, largest_wide, wide_before_formulas};
 use planreader_tests::words::{action, formula, head, kind, node, start};
 
 /// How many times as many instructions as the yardstick find may take on a small job.
@@ -10,7 +10,7 @@ const RATIO: f64 = 1.5;
 pub fn shapes() -> Vec<Shape> {
     let plans = [("no starts", 0..0), ("one start, at 61", 61..62), ("a start at every moment", 0..63)];
     let small = plans.map(|(name, moments)| small_shape(name, moments.map(|u| start(u, 0)).collect()));
-    small.into_iter().chain([largest_shape()]).collect()
+    small.into_iter().chain([largest_shape(), largest_wide_shape()]).collect()
 }
 
 /// Formula 0 always holds.
@@ -32,6 +32,13 @@ fn largest_shape() -> Shape {
     let before_nodes = before_formulas.chain([formula(0, 0, 0); 2]).collect();
     let name = "29 end windows, 4,032 starts".to_string();
     Shape { name, job: chain(29, before_nodes), starts, most_ms: LARGEST, counted: true, most_ratio: None }
+}
+
+/// The largest wide plan in a job of 2,048 words: 62 of them are a formula and the 61 nodes of this procedure.
+fn largest_wide_shape() -> Shape {
+    let before_nodes = [wide_before_formulas(1, 62), vec![formula(0, 0, 0)]].concat();
+    let (name, starts) = ("29 end windows, wide, 4,032 starts".to_string(), largest_wide(1).starts);
+    Shape { name, job: chain(29, before_nodes), starts, most_ms: LARGEST_WIDE, counted: true, most_ratio: None }
 }
 
 /// A node that reads from every moment to every later one, whatever starts in between; over it so many end windows, each of the one before

@@ -43,11 +43,15 @@ pub struct Condition {
 }
 
 pub fn read(words: &[u32]) -> Job {
-    let fluents = field(words[0], 23, 16);
+    let wide = form(words[0]) == 1;
+    let fluents = match field(words[0], 23, 16) {
+        0 => 256,
+        fluents => fluents,
+    };
     let last = field(words[0], 7, 0);
     let mut job = Job { last, initially: vec![None; fluents], actions: vec![], formulas: vec![], nodes: vec![] };
     for &word in &words[1..] {
-        job.take(word);
+        job.take(word, wide);
     }
     job
 }
@@ -57,11 +61,14 @@ impl Job {
         self.nodes.len() - 1
     }
 
-    fn take(&mut self, word: u32) {
+    /// A fluent has six bits, in a wide job eight; a value or a role stands above it.
+    fn take(&mut self, word: u32, wide: bool) {
+        let above = if wide { 8 } else { 6 };
         match kind(word) {
-            2 => self.initially[field(word, 5, 0)] = Some(field(word, 6, 6) == 0),
+            2 => self.initially[field(word, above - 1, 0)] = Some(field(word, above, above) == 0),
             3 => self.actions.push(Action { duration: field(word, 5, 0), makes: vec![] }),
-            4 => self.take_law(field(word, 7, 6), field(word, 5, 0)),
+            4 => self.take_law(field(word, above + 1, above), field(word, above - 1, 0)),
+            5 if wide && form(word) == 1 => self.formulas.push(Formula { form: 1, x: field(word, 7, 0), y: 0 }),
             5 => self.formulas.push(Formula { form: form(word), x: field(word, 11, 6), y: field(word, 5, 0) }),
             6 => self.nodes.push(node(word)),
             7 => self.newest().members.push(field(word, 5, 0)),
