@@ -33,7 +33,8 @@ pub fn within_limits() -> bool {
     let all = any == ANY && wide == WIDE && waits == WAITS && small == SMALL && long.len() == LONG;
     let within = all && is_within(slowest, SET);
     let told = if within { "" } else { "  FAILED" };
-    println!("generated plans on which find and the yardstick agree: {any} of {ANY} of all forms, {wide} of {WIDE} with a wide head, {waits} of {WAITS} of end windows");
+    println!("generated plans on which find and the yardstick agree: {any} of {ANY} of all forms,");
+    println!("  {wide} of {WIDE} with a wide head, {waits} of {WAITS} of end windows");
     println!(
         "generated sets on which find and the yardstick agree: {small} of {SMALL}, with n = 63 {} of {LONG}",
         long.len()

@@ -44,7 +44,7 @@ pub fn all() -> Vec<Plan> {
         let in_hand = starts.len() * d;
         Plan { name: format!("the largest, d = {d}"), last: 63, job, starts, in_hand }
     });
-    let wide = [1, 2, 7].map(largest_wide);
+    let wide = [1, 7].map(largest_wide);
     let windows_and_groups = [windowed(), grouped(), grouped_most_pairs(), grouped_durations(), bare()];
     let by_starts = LASTS.into_iter().flat_map(by_starts_in_hand);
     largest.into_iter().chain(wide).chain(windows_and_groups).chain(by_starts).chain(by_fluents()).collect()

@@ -24,10 +24,10 @@ const WINDOW: u64 = 165;
 /// more than 20,000.
 const START_IN_GROUP: u64 = 345;
 
-/// How many instructions a fluent may cost with a wide head: what fill takes with 256 beyond what it takes with one, for each fluent and moment
-/// without starts; and for each fluent and start what starts add.
-const FLUENT: u64 = 1000;
-const STARTED_FLUENT: u64 = 1000;
+/// How many instructions a fluent may cost with a wide head: what fill takes with 256 beyond what it takes with one, for each more, without
+/// starts; and how many 255 fluents more may cost each of 4,032 starts. When these were set, it took 5,750 and 147.
+const FLUENT: u64 = 7_000;
+const FLUENTS_OF_START: u64 = 180;
 
 /// Prints the instructions; whether they are within the limits.
 pub fn instructions_within_limits() -> bool {
@@ -70,7 +70,7 @@ pub fn groups_within_limit() -> bool {
 
 /// Prints the instructions with one fluent and with 256, without starts, and what 4,032 starts add; whether a fluent costs no more than it may.
 pub fn fluents_within_limits() -> bool {
-    println!("fill, instructions with one fluent; with 256; for each more and each moment, or each start; limit");
+    println!("fill, instructions with one fluent; with 256; for each more, or for all more and each start; limit");
     let taken: Result<Vec<u64>, String> = plans::by_fluents().iter().map(count).collect();
     all_within([taken.map(|taken| fluents_cost(&taken))].into_iter())
 }
@@ -78,12 +78,12 @@ pub fn fluents_within_limits() -> bool {
 /// With one fluent and with 256, without starts; then with starts.
 fn fluents_cost(taken: &[u64]) -> bool {
     let added = [0, 1].map(|i| taken[i + 2].saturating_sub(taken[i]));
-    let without = fluent_within_limit("no starts", [taken[0], taken[1]], 64, FLUENT);
-    without & fluent_within_limit("what 4,032 starts add", added, 4032, STARTED_FLUENT)
+    let without = fluents_within_limit("no starts", [taken[0], taken[1]], wide::FLUENTS - 1, FLUENT);
+    without & fluents_within_limit("what 4,032 starts add", added, 4032, FLUENTS_OF_START)
 }
 
-fn fluent_within_limit(name: &str, [one, all]: [u64; 2], times: u64, limit: u64) -> bool {
-    let each = all.saturating_sub(one) / ((wide::FLUENTS as u64 - 1) * times);
+fn fluents_within_limit(name: &str, [one, all]: [u64; 2], parts: usize, limit: u64) -> bool {
+    let each = all.saturating_sub(one) / parts as u64;
     let told = if each <= limit { "" } else { "  FAILED" };
     println!("{one:>12} {all:>12} {each:>6} {limit:>6}  {name}{told}");
     each <= limit
