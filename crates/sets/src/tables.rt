@@ -9,7 +9,9 @@ ghost use Rattle.bitset.specs.Code.Members.{In};
 ghost use Rattle.words.specs.Fields.{memberNode, conditionI, conditionJ};
 ghost use Rattle.sets.specs.Code.Rows.{taskSetOf};
 ghost use Rattle.model.specs.Code.Table.{InTable};
-ghost use Rattle.sets.specs.Code.Search.{pairAt, MetAtMask, MetByMask, Have, Fewer, Cut, ConditionReady, ConditionsReady, InSpan, OwnRow, OwnRows, LaterReady, TablesReady, Tables};
+ghost use Rattle.narrowing.specs.Code.Tables.{pairAt};
+ghost use Rattle.searching.specs.Code.Ends.{MetAtMask, MetByMask};
+ghost use Rattle.sets.specs.Code.Tables.{Have, Fewer, Cut, ConditionReady, ConditionsReady, InSpan, OwnRow, OwnRows, LaterReady, TablesReady, Tables};
 use crate::conditions;
 use words::MOMENTS;
 
@@ -40,7 +42,7 @@ fn cut_for(
 {
     let form = words::form_of(w);
     let i = words::condition_i(w);
-    let j = conditions::partner(form, i, words::condition_j(w));
+    let j = searching::ends::partner(form, i, words::condition_j(w));
     match form {
         0 => cut(goes, j * 4 + i, allow, c, a, z),
         2 => cut(goes, j * 4 + i, allow, c, a, z),
@@ -213,7 +215,7 @@ fn constrained(conds: &[u32], i: usize, j: usize) -> bool {
     while c < conds.len() {
         let w = conds[c];
         let k = words::condition_i(w);
-        let l = conditions::partner(words::form_of(w), k, words::condition_j(w));
+        let l = searching::ends::partner(words::form_of(w), k, words::condition_j(w));
         if k == i {
             if l == j {
                 return true;

@@ -5,7 +5,8 @@ use mathlib.Core.List.{List}
 use native.Mathlib.Omega.{arith}
 use lib.ListN.{length}
 use Rattle.bitset.proofs.In.{in-zero}
-use Rattle.sets.specs.Code.Search.{EndsHave, InSpan, BoundsHave}
+use Rattle.narrowing.specs.Code.Tables.{EndsHave, BoundsHave}
+use Rattle.sets.specs.Code.Tables.{InSpan}
 use borrow.Author.Needs.{needs}
 use Rattle.sets.proofs.bounds.fill.Statement.{statement}
 use Rattle.sets.proofs.bounds.fill.Tie as tie
