@@ -76,28 +76,25 @@ fn fill_pair(ends: &[u64; 1024], p: usize, a: u32, z: u32, bounds: &mut [u64; 20
     join_up(SOONER + p * MOMENTS, bounds);
 }
 
-// Whether some condition ties the end of member w to the begin of member j.
-fn tied(conds: &[u32], w: usize, j: usize) -> bool {
+// The pairs of members of which some condition ties the end of w to the begin of j, at w * 4 + j.
+fn tied(conds: &[u32]) -> u64 {
+    let mut pairs = 0;
     let mut c = 0;
     while c < conds.len() {
         let word = conds[c];
-        if words::condition_i(word) == w {
-            if words::condition_j(word) == j {
-                match words::form_of(word) {
-                    1 => return true,
-                    4 => return true,
-                    _ => {}
-                }
-            }
+        let p = words::condition_i(word) * 4 + words::condition_j(word);
+        match words::form_of(word) {
+            1 => pairs = bitset::union(pairs, bitset::single(p as u32)),
+            4 => pairs = bitset::union(pairs, bitset::single(p as u32)),
+            _ => {}
         }
         c += 1;
     }
-    false
+    pairs
 }
 
-// The bounds of the pair (w, j), where its members are different and tied.
-fn fill_tied(
-    conds: &[u32],
+// The bounds of the pair (w, j), where these are different members of the set.
+fn fill_members(
     ends: &[u64; 1024],
     count: usize,
     w: usize,
@@ -106,22 +103,22 @@ fn fill_tied(
     z: u32,
     bounds: &mut [u64; 2052],
 )
-    requires { ⌜ BoundsReady count a z (now bounds) × (w < count) ⌝ }
+    requires { ⌜ BoundsReady count a z (now bounds) ⌝ }
     ensures { λ _. ⌜ (length (now (bounds .exit)) ≡ 2052) × ((bs es : ℕ → ℕ) → InSpan count a z bs es → EndsHave count (now (ends .entry)) bs es → BoundsHave count (now (bounds .entry)) bs es → BoundsHave count (now (bounds .exit)) bs es) ⌝ }
 {
+    if count <= w {
+        return;
+    }
     if count <= j {
         return;
     }
-    if w == j {
-        return;
-    }
-    if tied(conds, w, j) {
+    if w != j {
         fill_pair(ends, w * 4 + j, a, z, bounds);
         bounds[FILLED + j] = bitset::union(bounds[FILLED + j], bitset::single(w as u32));
     }
 }
 
-// The bounds of all pairs.
+// The bounds of all pairs that are tied.
 pub fn fill(
     conds: &[u32],
     ends: &[u64; 1024],
@@ -133,9 +130,10 @@ pub fn fill(
     requires { ⌜ BoundsReady count a z (now bounds) × ((q : ℕ) → getD (now bounds) q 0 ≡ 0) ⌝ }
     ensures { λ _. ⌜ ((bs es : ℕ → ℕ) → InSpan count a z bs es → EndsHave count (now (ends .entry)) bs es → BoundsHave count (now (bounds .exit)) bs es) ⌝ }
 {
-    let mut p = 0;
-    while p < count * 4 {
-        fill_tied(conds, ends, count, p / 4, p % 4, a, z, bounds);
-        p += 1;
+    let mut rest = tied(conds);
+    while rest != 0 {
+        let p = bitset::lowest(rest) as usize;
+        fill_members(ends, count, p / 4, p % 4, a, z, bounds);
+        rest = bitset::drop_lowest(rest);
     }
 }
