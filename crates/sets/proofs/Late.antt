@@ -8,8 +8,8 @@ use native.Mathlib.Omega.{arith}
 use lib.ListN.{length, getD, set, length-set}
 use lib.Seq.{getD-set-same, getD-set-other}
 use Rattle.bitset.specs.Code.Members.{In}
-use Rattle.sets.specs.Code.Bounds.{Grows, EndMarked, Bounded}
-use Rattle.sets.specs.Code.Search.{BoundsHave}
+use Rattle.sets.specs.Code.Bounds.{Grows, EndMarked}
+use Rattle.narrowing.specs.Code.Tables.{Bounded, BoundsHave}
 use Rattle.sets.proofs.Pairs.{in-kept}
 
 -- the entry that is written

@@ -5,6 +5,7 @@ use mathlib.Core.List.{List}
 use lib.ListN.{length, getD}
 use Rattle.words.specs.Fields.{holds, conditionFormula, conditionI, conditionJ, conditionM, conditionN}
 use Rattle.model.specs.Forms.{ConditionForm, BeginAfterBegin, BeginAfterEnd, HoldsBefore, HoldsAfter, HoldsBetween, ReservedCondition, conditionForm}
+use Rattle.covering.specs.Cover.{Covers}
 
 -- the nodes of the members, the condition words, the value of formula k at moment t, and the last moment
 pub record TaskSet : Type 0 where
@@ -32,10 +33,6 @@ MetAt value n w bi ei bj = MetAs (conditionForm w) value n (conditionFormula w) 
 -- the same where member i begins at bs i and ends at es i
 abbrev pub Met : TaskSet → ℕ → (ℕ → ℕ) → (ℕ → ℕ) → Type 0
 Met s w bs es = MetAt (s .value) (s .last) w (bs (conditionI w)) (es (conditionI w)) (bs (conditionJ w))
-
--- each moment of b..e lies in some member, ends included
-abbrev pub Covers : ℕ → (ℕ → ℕ) → (ℕ → ℕ) → ℕ → ℕ → Type 0
-Covers count bs es b e = (t : ℕ) → b ≤ t → t ≤ e → (i : ℕ) × (i < count) × (bs i ≤ t) × (t ≤ es i)
 
 -- begins and ends that are lawful from b to e, whatever the members read
 pub record Placing (s : TaskSet) (b e : ℕ) (bs es : ℕ → ℕ) : Type 0 where

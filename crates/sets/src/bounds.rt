@@ -4,16 +4,12 @@ ghost use mathlib.Core.Path.{_≡_};
 ghost use Prim.Native.Nat.{ℕ, _+_, _*_, _<_, _≤_};
 ghost use lib.ListN.{length, getD};
 ghost use Rattle.bitset.specs.Code.Members.{In};
-ghost use Rattle.sets.specs.Code.Rows.{entryAt};
-ghost use Rattle.sets.specs.Code.Search.{EndsHave, InSpan, BoundsHave, InDomains};
-ghost use Rattle.sets.specs.Code.Bounds.{BoundsReady, Grows, EndMarked, Bounded};
-use crate::search;
+ghost use Rattle.narrowing.specs.Code.Tables.{EndsHave, BoundsHave, Bounded};
+ghost use Rattle.sets.specs.Code.Tables.{InSpan};
+ghost use Rattle.sets.specs.Code.Bounds.{BoundsReady, Grows, EndMarked};
+use narrowing::bounds::FILLED;
+use narrowing::bounds::SOONER;
 use words::MOMENTS;
-
-// The bounds have 1024 words of later ends, 1024 of sooner ones, and for each member j a word of the members w for which they are filled.
-const SOONER: usize = 1024;
-
-const FILLED: usize = 2048;
 
 // Marks begin y in row p at the last and at the first of its ends.
 fn mark(p: usize, y: u32, mask: u64, bounds: &mut [u64; 2052])
@@ -80,28 +76,25 @@ fn fill_pair(ends: &[u64; 1024], p: usize, a: u32, z: u32, bounds: &mut [u64; 20
     join_up(SOONER + p * MOMENTS, bounds);
 }
 
-// Whether some condition ties the end of member w to the begin of member j.
-fn tied(conds: &[u32], w: usize, j: usize) -> bool {
+// The pairs of members of which some condition ties the end of w to the begin of j, at w * 4 + j.
+fn tied(conds: &[u32]) -> u64 {
+    let mut pairs = 0;
     let mut c = 0;
     while c < conds.len() {
         let word = conds[c];
-        if words::condition_i(word) == w {
-            if words::condition_j(word) == j {
-                match words::form_of(word) {
-                    1 => return true,
-                    4 => return true,
-                    _ => {}
-                }
-            }
+        let p = words::condition_i(word) * 4 + words::condition_j(word);
+        match words::form_of(word) {
+            1 => pairs = bitset::union(pairs, bitset::single(p as u32)),
+            4 => pairs = bitset::union(pairs, bitset::single(p as u32)),
+            _ => {}
         }
         c += 1;
     }
-    false
+    pairs
 }
 
-// The bounds of the pair (w, j), where its members are different and tied.
-fn fill_tied(
-    conds: &[u32],
+// The bounds of the pair (w, j), where these are different members of the set.
+fn fill_members(
     ends: &[u64; 1024],
     count: usize,
     w: usize,
@@ -110,22 +103,22 @@ fn fill_tied(
     z: u32,
     bounds: &mut [u64; 2052],
 )
-    requires { ⌜ BoundsReady count a z (now bounds) × (w < count) ⌝ }
+    requires { ⌜ BoundsReady count a z (now bounds) ⌝ }
     ensures { λ _. ⌜ (length (now (bounds .exit)) ≡ 2052) × ((bs es : ℕ → ℕ) → InSpan count a z bs es → EndsHave count (now (ends .entry)) bs es → BoundsHave count (now (bounds .entry)) bs es → BoundsHave count (now (bounds .exit)) bs es) ⌝ }
 {
+    if count <= w {
+        return;
+    }
     if count <= j {
         return;
     }
-    if w == j {
-        return;
-    }
-    if tied(conds, w, j) {
+    if w != j {
         fill_pair(ends, w * 4 + j, a, z, bounds);
         bounds[FILLED + j] = bitset::union(bounds[FILLED + j], bitset::single(w as u32));
     }
 }
 
-// The bounds of all pairs.
+// The bounds of all pairs that are tied.
 pub fn fill(
     conds: &[u32],
     ends: &[u64; 1024],
@@ -137,73 +130,10 @@ pub fn fill(
     requires { ⌜ BoundsReady count a z (now bounds) × ((q : ℕ) → getD (now bounds) q 0 ≡ 0) ⌝ }
     ensures { λ _. ⌜ ((bs es : ℕ → ℕ) → InSpan count a z bs es → EndsHave count (now (ends .entry)) bs es → BoundsHave count (now (bounds .exit)) bs es) ⌝ }
 {
-    let mut p = 0;
-    while p < count * 4 {
-        fill_tied(conds, ends, count, p / 4, p % 4, a, z, bounds);
-        p += 1;
-    }
-}
-
-// The begins of row p with which an end may be one of `ends`.
-fn beside(bounds: &[u64; 2052], p: usize, ends: u64) -> u64
-    requires { ⌜ p < 16 ⌝ }
-    ensures { λ r. ⌜ ((y e : ℕ) → In ends e → Bounded (now (bounds .entry)) p y e → In r y) ⌝ }
-{
-    if ends == 0 {
-        return 0;
-    }
-    let late = bounds[p * MOMENTS + bitset::lowest(ends) as usize];
-    let soon = bounds[SOONER + p * MOMENTS + bitset::highest(ends) as usize];
-    bitset::inter(late, soon)
-}
-
-// What the ends of all members leave of the begins of member j.
-fn bounded(bounds: &[u64; 2052], count: usize, j: usize, begins: u64, ends: [u64; 4]) -> u64
-    requires { ⌜ (count ≤ 4) × (j < count) ⌝ }
-    ensures { λ r. ⌜ ((bs es : ℕ → ℕ) → BoundsHave count (now (bounds .entry)) bs es → In begins (bs j) → ((i : ℕ) → i < count → In (entryAt ends i) (es i)) → In r (bs j)) × ((x : ℕ) → In r x → In begins x) ⌝ }
-{
-    let mut r = begins;
-    let mut rest = bitset::inter(bounds[FILLED + j], bitset::upto(count as u32 - 1));
+    let mut rest = tied(conds);
     while rest != 0 {
-        let w = bitset::lowest(rest) as usize;
-        r = bitset::inter(r, beside(bounds, w * 4 + j, ends[w]));
+        let p = bitset::lowest(rest) as usize;
+        fill_members(ends, count, p / 4, p % 4, a, z, bounds);
         rest = bitset::drop_lowest(rest);
-    }
-    r
-}
-
-// The set with the begins that the bounds leave. It has no ends where they leave none.
-pub fn tighten(bounds: &[u64; 2052], count: usize, state: search::Open) -> search::Open
-    requires { ⌜ (count ≤ 4) × (state .last < count) ⌝ }
-    ensures { λ r. ⌜ (r .from ≡ state .from) × (r .last ≡ state .last) × (r .left ≡ state .left) × ((bs es : ℕ → ℕ) → BoundsHave count (now (bounds .entry)) bs es → InDomains count state bs es → InDomains count r bs es) ⌝ }
-{
-    let from = state.from;
-    let last = state.last;
-    let left = state.left;
-    let mut begins = state.begins;
-    let ends = state.ends;
-    let mut j = 0;
-    while j < count {
-        if bounds[FILLED + j] != 0 {
-            let kept = bounded(bounds, count, j, begins[j], ends);
-            if kept == 0 {
-                return search::Open {
-                    from,
-                    last,
-                    left,
-                    begins,
-                    ends: [0; 4],
-                };
-            }
-            begins[j] = kept;
-        }
-        j += 1;
-    }
-    search::Open {
-        from,
-        last,
-        left,
-        begins,
-        ends,
     }
 }

@@ -1,10 +1,7 @@
 // Task sets: conditions (the moments that each allows, as masks), tables (the begins and ends that a placement may have, by pairs of
-// members), bounds (on begins, by the ends of others), covering (the ends of a set whose begins are fixed), search (for begins), rows (the
-// ends of a set from each begin) and placing (begins and ends of the members).
+// members), bounds (on begins, by the ends of others), rows (the ends of a set from each begin) and placing (begins and ends of the members).
 mod bounds;
 mod conditions;
-mod covering;
 pub mod placing;
 pub mod rows;
-pub mod search;
 mod tables;

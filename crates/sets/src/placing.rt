@@ -1,11 +1,10 @@
 // A placement, for whoever writes a reading.
-ghost use Prim.Native.Nat.{ℕ, _+_, _<_, _≤_};
+ghost use Prim.Native.Nat.{ℕ, _<_, _≤_};
 ghost use Rattle.bitset.specs.Code.Members.{Highest, In};
-ghost use Rattle.sets.specs.Code.Rows.{taskSetOf, entryAt, Placed, Placeable};
+ghost use Rattle.sets.specs.Code.Rows.{taskSetOf, Placed, Placeable};
+ghost use Rattle.covering.specs.Code.Cover.{entryAt};
 ghost use Rattle.model.specs.Code.Table.{InTable};
 use crate::bounds;
-use crate::conditions;
-use crate::search;
 use crate::tables;
 
 pub struct Placement {
@@ -39,7 +38,7 @@ fn greatest_ends(sets: [u64; 4], count: usize, e: u32) -> [u32; 4]
 }
 
 // Begins and ends with which the set of these members reads b to e, as it does. Its tables are those of b..e.
-pub fn place(
+fn place_by_tables(
     members: &[u32],
     conds: &[u32],
     values: &[u8; 4096],
@@ -73,7 +72,7 @@ pub fn place(
     let count = members.len();
     bounds::fill(conds, &ends, count, b, e, &mut bounds);
     let goal = bitset::single(e);
-    let found = search::row(
+    let found = searching::row(
         conds,
         &allow,
         &ends,
@@ -86,7 +85,29 @@ pub fn place(
         goal,
     );
     let begins = found.begins;
-    let masks = conditions::ends_at(conds, &allow, &ends, count, begins);
+    let masks = searching::ends::ends_at(conds, &allow, &ends, count, begins);
     let last = greatest_ends(masks, count, e);
     Placement { begins, ends: last }
+}
+
+// Begins and ends with which the set of these members reads b to e, as it does. One member alone begins at b and ends at e.
+pub fn place(
+    members: &[u32],
+    conds: &[u32],
+    values: &[u8; 4096],
+    table: &[u64],
+    b: u32,
+    e: u32,
+    n: u32,
+) -> Placement
+    requires { ⌜ Placeable (taskSetOf (now members) (now conds) (now values) n) (now table) b e ⌝ }
+    ensures { λ r. ⌜ Placed (taskSetOf (now (members .entry)) (now (conds .entry)) (now (values .entry)) n) (InTable (now (table .entry))) b e (entryAt (r .begins)) (entryAt (r .ends)) ⌝ }
+{
+    if members.len() == 1 {
+        return Placement {
+            begins: [b; 4],
+            ends: [e; 4],
+        };
+    }
+    place_by_tables(members, conds, values, table, b, e, n)
 }

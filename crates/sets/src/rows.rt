@@ -1,9 +1,7 @@
 // The rows of a task set: for each begin, the mask of the ends that the set reads to.
-ghost use Prim.Native.Nat.{_+_, _*_};
 ghost use lib.ListN.{length};
 ghost use Rattle.sets.specs.Code.Rows.{taskSetOf, SetReady, SetRows};
 use crate::bounds;
-use crate::search;
 use crate::tables;
 use words::MOMENTS;
 
@@ -43,7 +41,7 @@ pub fn set_rows(
     let mut b = 0;
     while b <= n {
         let goal = bitset::between(b, n);
-        let found = search::row(
+        let found = searching::row(
             conds,
             &allow,
             &ends,

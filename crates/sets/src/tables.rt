@@ -9,7 +9,9 @@ ghost use Rattle.bitset.specs.Code.Members.{In};
 ghost use Rattle.words.specs.Fields.{memberNode, conditionI, conditionJ};
 ghost use Rattle.sets.specs.Code.Rows.{taskSetOf};
 ghost use Rattle.model.specs.Code.Table.{InTable};
-ghost use Rattle.sets.specs.Code.Search.{pairAt, MetAtMask, MetByMask, Have, Fewer, Cut, ConditionReady, ConditionsReady, InSpan, OwnRow, OwnRows, LaterReady, TablesReady, Tables};
+ghost use Rattle.narrowing.specs.Code.Tables.{pairAt};
+ghost use Rattle.searching.specs.Code.Ends.{MetAtMask, MetByMask};
+ghost use Rattle.sets.specs.Code.Tables.{Have, Fewer, Cut, ConditionReady, ConditionsReady, InSpan, OwnRow, OwnRows, LaterReady, TablesReady, Tables};
 use crate::conditions;
 use words::MOMENTS;
 
@@ -40,7 +42,7 @@ fn cut_for(
 {
     let form = words::form_of(w);
     let i = words::condition_i(w);
-    let j = conditions::partner(form, i, words::condition_j(w));
+    let j = searching::ends::partner(form, i, words::condition_j(w));
     match form {
         0 => cut(goes, j * 4 + i, allow, c, a, z),
         2 => cut(goes, j * 4 + i, allow, c, a, z),
@@ -207,31 +209,23 @@ fn cut_pair(i: usize, j: usize, a: u32, z: u32, ends: &mut [u64; 1024], goes: &m
     }
 }
 
-// Whether some condition is on members i and j.
-fn constrained(conds: &[u32], i: usize, j: usize) -> bool {
+// The pairs of members that some condition is on, i and j at i * 4 + j.
+fn constrained(conds: &[u32]) -> u64 {
+    let mut pairs = 0;
     let mut c = 0;
     while c < conds.len() {
         let w = conds[c];
-        let k = words::condition_i(w);
-        let l = conditions::partner(words::form_of(w), k, words::condition_j(w));
-        if k == i {
-            if l == j {
-                return true;
-            }
-        }
-        if k == j {
-            if l == i {
-                return true;
-            }
-        }
+        let i = words::condition_i(w);
+        let j = searching::ends::partner(words::form_of(w), i, words::condition_j(w));
+        pairs = bitset::union(pairs, bitset::single((i * 4 + j) as u32));
+        pairs = bitset::union(pairs, bitset::single((j * 4 + i) as u32));
         c += 1;
     }
-    false
+    pairs
 }
 
-// Does so for a pair of different members of the set that a condition is on.
-fn cut_constrained(
-    conds: &[u32],
+// Does so where i and j are different members of the set.
+fn cut_members(
     count: usize,
     i: usize,
     j: usize,
@@ -240,23 +234,23 @@ fn cut_constrained(
     ends: &mut [u64; 1024],
     goes: &mut [u64; 1024],
 )
-    requires { ⌜ (count ≤ 4) × (i < count) × (a ≤ z) × (z < 64) ⌝ }
+    requires { ⌜ (count ≤ 4) × (a ≤ z) × (z < 64) ⌝ }
     ensures { λ _. ⌜ Fewer (now (ends .entry)) (now (ends .exit)) × ((bs es : ℕ → ℕ) → InSpan count a z bs es → Have (now (ends .entry)) (now (goes .entry)) count bs es → Have (now (ends .exit)) (now (goes .exit)) count bs es) ⌝ }
 {
+    if count <= i {
+        return;
+    }
     if count <= j {
         return;
     }
-    if i == j {
-        return;
-    }
-    if constrained(conds, i, j) {
+    if i != j {
         cut_pair(i, j, a, z, ends, goes);
     }
 }
 
-// Does so for each pair.
+// Does so for each of these pairs.
 fn cut_pairs(
-    conds: &[u32],
+    pairs: u64,
     count: usize,
     a: u32,
     z: u32,
@@ -266,10 +260,11 @@ fn cut_pairs(
     requires { ⌜ (count ≤ 4) × (a ≤ z) × (z < 64) ⌝ }
     ensures { λ _. ⌜ Fewer (now (ends .entry)) (now (ends .exit)) × ((bs es : ℕ → ℕ) → InSpan count a z bs es → Have (now (ends .entry)) (now (goes .entry)) count bs es → Have (now (ends .exit)) (now (goes .exit)) count bs es) ⌝ }
 {
-    let mut p = 0;
-    while p < count * 4 {
-        cut_constrained(conds, count, p / 4, p % 4, a, z, ends, goes);
-        p += 1;
+    let mut rest = pairs;
+    while rest != 0 {
+        let p = bitset::lowest(rest) as usize;
+        cut_members(count, p / 4, p % 4, a, z, ends, goes);
+        rest = bitset::drop_lowest(rest);
     }
 }
 
@@ -318,6 +313,6 @@ pub fn fill(
     conditions::fill_allowed(values, conds, a, z, n, allow);
     cut_all(conds, allow, a, z, ends, goes);
     fill_own(members, table, a, z, goes, ends);
-    cut_pairs(conds, members.len(), a, z, ends, goes);
+    cut_pairs(constrained(conds), members.len(), a, z, ends, goes);
     fill_later(ends, members.len(), a, z, later);
 }

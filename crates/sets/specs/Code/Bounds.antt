@@ -28,8 +28,3 @@ pub record EndMarked (bounds : List ℕ) (p y e : ℕ) : Type 0 where
   pub below : low ≤ e
   pub late : In (getD bounds (p * 64 + high) 0) y
   pub soon : In (getD bounds (1024 + p * 64 + low) 0) y
-
--- it stands at every end up to e, and at every end from e on
-pub record Bounded (bounds : List ℕ) (p y e : ℕ) : Type 0 where
-  pub late : (d : ℕ) → d ≤ e → In (getD bounds (p * 64 + d) 0) y
-  pub soon : (d : ℕ) → e ≤ d → d < 64 → In (getD bounds (1024 + p * 64 + d) 0) y

@@ -8,16 +8,13 @@ use lib.ListN.{length, getD}
 use Rattle.words.specs.Fields.{memberNode}
 use Rattle.model.specs.Code.Arrays.{valueIn}
 use Rattle.model.specs.Code.Table.{InTable}
+pub use Rattle.covering.specs.Code.Cover.{entryAt}
 use Rattle.sets.specs.Set.{TaskSet, memberCount, Placing}
 use Rattle.sets.specs.Code.Set.{member, SetRule, Formed}
 
 -- the task set of member words, condition words, the values of all formulas, and the last moment
 abbrev pub taskSetOf : List ℕ → List ℕ → List ℕ → ℕ → TaskSet
 taskSetOf ms cs vs n = record { members = map memberNode ms; conditions = cs; value = valueIn vs; last = n }
-
--- an array as a function of its places
-abbrev pub entryAt : List ℕ → ℕ → ℕ
-entryAt l i = getD l i 0
 
 -- what the rows of a set need: its members have lower numbers than p, and the table has the rows of p
 pub record SetReady (s : TaskSet) (p rows : ℕ) : Type 0 where

@@ -6,13 +6,14 @@ use Rattle.sets.proofs.bounds.tied.Statement.{statement}
 use Rattle.sets.proofs.bounds.tied.Tie as tie
 
 abbrev Inv-loop : tie.InvT-loop
-Inv-loop conds w j c₀ c = c ≤ length conds
+Inv-loop conds pairs₀ c₀ pairs c = c ≤ length conds
 
 abbrev μ-loop : tie.MeasureT-loop
-μ-loop conds w j c₀ c = length conds - c
+μ-loop conds pairs₀ c₀ pairs c = length conds - c
 
 pub tied-spec : {M : Type 1} → statement M
 tied-spec =
     tie.close
-    (tie.spec Inv-loop μ-loop (λ c. search needs) (λ c. search needs) (λ c. search needs) (λ c κs. search needs) (λ c κs. search needs)
-    (λ c κs. search needs) (λ c. search needs) (λ c. search needs) (λ c. search needs) (λ c. search needs) (λ c. search needs) (λ c. search needs))
+    (tie.spec Inv-loop μ-loop (λ c. search needs) (λ c. search needs) (λ c. search needs) (λ c κs. search needs) (λ c. search needs) (λ c κs. search needs)
+    (λ c. search needs) (λ c κs. search needs) (λ c. search needs) (λ c κs. search needs) (λ c κs. search needs) (λ c. search needs) (λ c κs. search needs)
+    (λ c κs. search needs) (λ c. search needs) (λ c. search needs) (λ c. search needs) (λ c. search needs))

@@ -5,7 +5,7 @@ use mathlib.Core.List.{List}
 use native.Mathlib.Omega.{arith}
 use lib.ListN.{length}
 use Rattle.model.specs.Code.Arrays.{valueIn}
-use Rattle.sets.specs.Code.Search.{Allowed}
+use Rattle.sets.specs.Code.Masks.{Allowed}
 use Rattle.sets.proofs.Masks.{allowed-more}
 use borrow.Author.Needs.{needs}
 use Rattle.sets.proofs.conditions.fill_allowed.Statement.{statement}

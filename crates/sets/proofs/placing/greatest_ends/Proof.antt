@@ -6,7 +6,7 @@ use native.Mathlib.Omega.{arith}
 use lib.ListN.{length, length-set}
 use Rattle.words.proofs.Entries.{entries-more}
 use Rattle.bitset.specs.Code.Members.{Highest}
-use Rattle.sets.specs.Code.Rows.{entryAt}
+use Rattle.covering.specs.Code.Cover.{entryAt}
 use borrow.Author.Needs.{needs}
 use Rattle.sets.proofs.placing.greatest_ends.Statement.{statement}
 use Rattle.sets.proofs.placing.greatest_ends.Tie as tie

@@ -3,7 +3,8 @@ use Prim.Native.Nat.{ℕ, _-_, _≤_, _<_}
 use native.Mathlib.Omega.{arith}
 use lib.ListN.{length, getD}
 use Rattle.words.specs.Fields.{conditionI, conditionJ}
-use Rattle.sets.specs.Code.Search.{MetByMask, Have, InSpan}
+use Rattle.searching.specs.Code.Ends.{MetByMask}
+use Rattle.sets.specs.Code.Tables.{Have, InSpan}
 use borrow.Author.Needs.{needs}
 use Rattle.sets.proofs.tables.cut_all.Statement.{statement}
 use Rattle.sets.proofs.tables.cut_all.Tie as tie

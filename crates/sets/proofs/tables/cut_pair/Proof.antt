@@ -3,7 +3,7 @@ use Prim.Native.Nat.{ℕ, _+_, _-_, _*_, _≤_, _<_}
 use mathlib.Core.List.{List}
 use native.Mathlib.Omega.{arith}
 use Rattle.bitset.proofs.In.{in-both}
-use Rattle.sets.specs.Code.Search.{Have, Fewer, InSpan}
+use Rattle.sets.specs.Code.Tables.{Have, Fewer, InSpan}
 use Rattle.sets.proofs.Pairs.{pair-more, fewer-more}
 use borrow.Author.Needs.{needs}
 use Rattle.sets.proofs.tables.cut_pair.Statement.{statement}

@@ -19,7 +19,7 @@ abbrev conditions : tie.After-fill-own → tie.After-cut-all
 conditions c = c .before .before .before
 
 abbrev own : tie.After-cut-pairs → tie.After-fill-own
-own c = c .before .before .before
+own c = c .before .before .before .before
 
 abbrev begun : tie.After-fill-own → tie.Start
 begun c = entry (allowed (conditions c))
@@ -44,7 +44,7 @@ fill-own-requires : tie.Need-fill-own-requires
 fill-own-requires c κs = let s = entry (allowed (c .before .before)) in (few s, node-rows (s .args .members .now) (s .pre .rows), s .pre .forward, small s)
 
 cut-pairs-requires : tie.Need-cut-pairs-requires
-cut-pairs-requires c κs = let s = begun (c .before .before) in (few s, s .pre .forward, small s)
+cut-pairs-requires c κs = let s = begun (c .before .before .before) in (few s, s .pre .forward, small s)
 
 fill-later-requires : tie.Need-fill-later-requires
 fill-later-requires c κs = let s = begun (own (c .before .before)) in (few s, record { forward = s .pre .forward; moments = small s; long = s .pre .later-long })
@@ -62,4 +62,4 @@ returns c =
     (pairs .cut-pairs .ensures .1) (c .fill-later .ensures)
 
 pub fill-spec : {M : Type 1} → statement M
-fill-spec = tie.close (tie.spec (λ c κs. search needs) cut-all-requires fill-own-requires cut-pairs-requires fill-later-requires returns)
+fill-spec = tie.close (tie.spec (λ c κs. search needs) cut-all-requires fill-own-requires (λ c κs. search needs) cut-pairs-requires fill-later-requires returns)

@@ -2,7 +2,7 @@
 use Prim.Native.Nat.{_-_, _≤_}
 use native.Mathlib.Omega.{arith}
 use lib.ListN.{length}
-use Rattle.sets.specs.Code.Search.{OwnRows}
+use Rattle.sets.specs.Code.Tables.{OwnRows}
 use Rattle.sets.proofs.Pairs.{own-rows-more}
 use borrow.Author.Needs.{needs}
 use Rattle.sets.proofs.tables.fill_own.Statement.{statement}

@@ -4,7 +4,7 @@ use mathlib.Core.Path.{refl}
 use mathlib.Core.List.{List}
 use native.Mathlib.Omega.{arith}
 use Rattle.model.specs.Code.Table.{InTable}
-use Rattle.sets.specs.Code.Search.{OwnRow}
+use Rattle.sets.specs.Code.Tables.{OwnRow}
 use Rattle.sets.proofs.Pairs.{own-more}
 use borrow.Author.Needs.{needs}
 use Rattle.sets.proofs.tables.fill_own_row.Statement.{statement}
