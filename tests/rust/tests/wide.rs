@@ -3,7 +3,7 @@
 
 use planreader_tests::checker::answer::{Answer, Refusal};
 use planreader_tests::compare::asker::Calls;
-use planreader_tests::compare::{plans_by_hand, wide, wide_alike, wide_features};
+use planreader_tests::compare::{job, plans_by_hand, wide, wide_alike, wide_features, wide_jobs};
 use planreader_tests::host;
 use planreader_tests::random::Random;
 use planreader_tests::vectors;
@@ -11,6 +11,7 @@ use planreader_tests::vectors;
 const SEED: u64 = 0x5e3a_1071_001d;
 const SECOND_SEED: u64 = 0x5e3a_1071_001e;
 const ALIKE_SEED: u64 = 0x5e3a_1071_001f;
+const JOBS_SEED: u64 = 0x5e3a_1071_0022;
 
 const CALLS: Calls = Calls { of_trials: host::TRIAL_CALLS, find: &host::find };
 
@@ -39,6 +40,15 @@ fn the_same_job_written_narrow_and_wide_is_answered_alike() {
     assert_eq!(report.differences, 0);
     let seldom = |number: &&str| report.tally.count(wide_alike::ROW, number) < 20;
     assert!(!["0", "2", "3", "6", "7", "8", "9", "10", "11", "12", "13", "14", "16"].iter().any(|n| seldom(&n)));
+}
+
+#[test]
+fn generated_wide_jobs_get_the_checker_s_answers() {
+    let report = wide_jobs::run(JOBS_SEED, 2_000, &host::job_rows);
+    report.print(JOBS_SEED, "wide jobs by the place of their answer", &wide_jobs::COLUMNS);
+    assert_eq!(report.differences, 0);
+    assert_eq!(report.tally.missing(&job::possible()), [], "places that no case reached");
+    assert_eq!(report.tally.too_seldom(&wide_jobs::needed()), [], "met too seldom");
 }
 
 /// Each length of a buffer, for fill: narrow and wide jobs, lawful ones and those that some row refuses.

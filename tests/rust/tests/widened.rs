@@ -90,7 +90,7 @@ fn much_in_hand() {
     let plans = 4_000;
     let report = widened::with(&CALLS, |calls| carried::run(SEED, plans, calls));
     held(&report, "plans with much in hand, by refusal number", &carried::COLUMNS);
-    assert_eq!(report.tally.too_seldom(&carried_features::needed(plans)), [], "met too seldom");
+    assert_eq!(report.tally.too_seldom(&carried_features::needed(plans / 2)), [], "met too seldom");
     let report = widened::with(&CALLS, |calls| carried::run_largest(SEED, 8, calls));
     held(&report, "the largest plans, by refusal number", &carried::COLUMNS);
     let report = widened::with(&CALLS, |calls| {
@@ -105,7 +105,7 @@ fn shift_windows() {
     let plans = 4_000;
     let report = widened::with(&CALLS, |calls| windows::run(SEED, plans, calls));
     held(&report, "plans with windows, by refusal number", &windows::COLUMNS);
-    assert_eq!(report.tally.too_seldom(&window_features::needed(plans)), [], "met too seldom");
+    assert_eq!(report.tally.too_seldom(&window_features::needed(plans / 2)), [], "met too seldom");
     let report = widened::with(&CALLS, |calls| window_tiny::run_one(&[0, 1, 2], calls));
     held(&report, "tiny plans of one action, by refusal number", &window_tiny::COLUMNS);
 }
@@ -115,7 +115,7 @@ fn groups_of_actions() {
     let plans = 4_000;
     let report = widened::with(&CALLS, |calls| groups::run(SEED, plans, calls));
     held(&report, "plans with groups, by refusal number", &groups::COLUMNS);
-    assert_eq!(report.tally.too_seldom(&group_features::needed(plans)), [], "met too seldom");
+    assert_eq!(report.tally.too_seldom(&group_features::needed(plans / 2)), [], "met too seldom");
     let report = widened::with(&CALLS, |calls| group_tiny::run(2, calls));
     held(&report, "tiny plans, by refusal number", &group_tiny::COLUMNS);
 }

@@ -41,6 +41,7 @@ pub mod wide_alike;
 pub mod wide_case;
 pub mod wide_features;
 pub mod wide_job_rules;
+pub mod wide_jobs;
 pub mod wide_rules;
 pub mod widened;
 pub mod window_case;

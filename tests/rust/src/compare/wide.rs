@@ -7,8 +7,7 @@ use crate::compare::find::Find;
 use crate::compare::report::Report;
 use crate::compare::trial::Lent;
 use crate::compare::wide_case::Asked;
-use crate::compare::wide_features as features;
-use crate::compare::wide_rules::{slips, Rule};
+use crate::compare::wide_features::{self as features, Slips};
 use crate::generate::trials::{self, Call, Trial};
 use crate::generate::wide_plans::{self, WidePlan};
 use crate::generate::{plan_damage, wide_damage};
@@ -20,10 +19,10 @@ pub const COLUMNS: [&str; 18] =
 /// Sets with more placements than this are not asked for.
 const MOST_PLACEMENTS: usize = 20_000;
 
-/// One run: what it asks with, and the slips that one plan in seven is answered by.
+/// One run: what it asks with, and the slips that one plan in six is answered by.
 struct Run<'a> {
     asker: Asker<'a>,
-    slips: Vec<Rule>,
+    slips: Slips,
     /// Whether this plan is.
     telling: bool,
 }
@@ -32,9 +31,9 @@ struct Run<'a> {
 pub fn run(seed: u64, plans: usize, calls: &Calls) -> Report {
     let find = guarded(calls.find);
     let calls = Calls { find: &find, of_trials: calls.of_trials };
-    let mut run = Run { asker: Asker::new(seed, &calls, first_or_later), slips: slips(), telling: false };
+    let mut run = Run { asker: Asker::new(seed, &calls, first_or_later), slips: Slips::new(), telling: false };
     for number in 0..plans {
-        run.telling = number % 7 == 5;
+        run.telling = number % 7 == 5 || number % 24 == 3;
         let plan = run.drawn(number);
         run.plan(&plan, number);
         run.damaged_starts(&plan, number);
@@ -82,7 +81,10 @@ impl Run<'_> {
         let question = Question::new(&plan.job, &plan.starts);
         self.check(&question, question.facts());
         let (last, fluents) = size(&plan.job);
-        let wrong = wide_damage::facts(&mut self.asker.random, question.facts(), last, fluents);
+        let wrong = match number % 128 {
+            37 => plan_damage::very_long(&mut self.asker.random, question.facts(), question.facts().len() + 1),
+            _ => wide_damage::facts(&mut self.asker.random, question.facts(), last, fluents),
+        };
         self.check(&question, &wrong);
         self.fill(&question);
         if number % 4 == 0 {
@@ -187,7 +189,7 @@ mod tests {
     use crate::compare::planted;
     use crate::compare::trial as of_trials;
     use crate::compare::wide_case::answer_by;
-    use crate::compare::wide_rules::RIGHT;
+    use crate::compare::wide_rules::{Rule, RIGHT};
 
     const SEED: u64 = 111;
 

@@ -6,7 +6,7 @@ use crate::checker::calls::Plan;
 use crate::checker::job::{Formula, Job, Known};
 use crate::checker::starts::Start;
 use crate::compare::wide_case::{fitting, told, Asked};
-use crate::compare::wide_rules::{slips, Row, Rule};
+use crate::compare::wide_rules::{slips, slips_in_buffers, slips_in_lists, Row, Rule};
 use crate::tally::{Needed, Tally};
 use crate::words::{bits, field, form, is_wide, kind};
 use std::collections::BTreeSet;
@@ -150,8 +150,8 @@ fn column(row: Row, number: usize) -> String {
     }
 }
 
-/// Counts the bits of wide words that are looked at: spare ones that are set.
-pub fn spare(tally: &mut Tally, job: &[u32], right: &Result<Plan, Refusal>) {
+/// Counts the spare bit of a wide word that refuses the job, where it is one alone.
+pub fn spare<T>(tally: &mut Tally, job: &[u32], right: &Result<T, Refusal>) {
     let Err(Refusal { number: 2, position }) = right else { return };
     let Some(&word) = job.get(*position).filter(|_| is_wide(job)) else { return };
     let (name, spare) = match (kind(word), form(word)) {
@@ -162,12 +162,35 @@ pub fn spare(tally: &mut Tally, job: &[u32], right: &Result<Plan, Refusal>) {
     };
     let set: Vec<u32> = (0..28).filter(|bit| word & spare & 1 << bit != 0).collect();
     if let [bit] = set[..] {
-        tally.add(&format!("spare bit {bit:02} of {name}"), "2");
+        tally.add(&spare_row(bit, name), "2");
+    }
+}
+
+/// The row that counts a spare bit of a kind of words.
+pub fn spare_row(bit: u32, name: &str) -> String {
+    format!("spare bit {bit:02} of {name}")
+}
+
+/// The slips that calls are answered by.
+pub struct Slips {
+    in_lists: Vec<Rule>,
+    in_buffers: Vec<Rule>,
+    all: Vec<Rule>,
+}
+
+impl Slips {
+    pub fn new() -> Slips {
+        Slips { in_lists: slips_in_lists(), in_buffers: slips_in_buffers(), all: slips() }
     }
 }
 
 /// Which slips a call tells.
-pub fn tell(tally: &mut Tally, rules: &[Rule], job: &[u32], asked: Asked) {
+pub fn tell(tally: &mut Tally, slips: &Slips, job: &[u32], asked: Asked) {
+    let rules = match asked {
+        Asked::Check(..) => &slips.in_lists,
+        Asked::Fill(..) | Asked::Show(..) => &slips.in_buffers,
+        Asked::Find(..) => &slips.all,
+    };
     told(rules, job, asked).iter().for_each(|slip| tally.add(&slip_row(slip.name), "told"));
 }
 
@@ -188,9 +211,8 @@ pub fn needed(plans: usize) -> Vec<Needed> {
     for name in ["wide initial word", "wide law"] {
         ["2", "3", "4"].iter().for_each(|number| add(name.to_string(), number, 500));
     }
-    for name in ["wide form 1", "wide head"] {
-        ["2", "3"].iter().for_each(|number| add(name.to_string(), number, 2_000));
-    }
+    ["2", "3"].iter().for_each(|number| add("wide form 1".to_string(), number, 1_000));
+    add("wide head".to_string(), "3", 1_000);
     for name in ["wide initial word, fluent F", "wide law, fluent F", "wide form 1, fluent F"] {
         add(name.to_string(), "3", 2_000);
     }

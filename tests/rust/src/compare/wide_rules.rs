@@ -148,6 +148,16 @@ pub fn slips() -> Vec<Rule> {
     [&HEADS[..], &WORDS, &KEPT, &ROOMS, &ROWS, &FACTS, &COMPARED].concat()
 }
 
+/// Those that a check can tell.
+pub fn slips_in_lists() -> Vec<Rule> {
+    [&HEADS[..], &WORDS, &KEPT, &FACTS, &COMPARED].concat()
+}
+
+/// Those that lengths of buffers can tell.
+pub fn slips_in_buffers() -> Vec<Rule> {
+    [&ROOMS[..], &ROWS].concat()
+}
+
 /// A fact's moment and fluent.
 fn of(layout: &Layout, word: u32) -> (usize, usize) {
     let at = |(high, low)| field(word, high, low);

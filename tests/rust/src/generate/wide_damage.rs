@@ -10,7 +10,10 @@ pub fn job(random: &mut Random, job: &[u32]) -> Vec<u32> {
         0 | 1 => damage::any(random, job),
         2 => damage::bit(random, job),
         3 => damage::named_again(random, job),
-        4 => with_head(job, bits(27, 24), (random.below(16) as u32) << 24),
+        4 => {
+            let any = random.below(16) as u32;
+            with_head(job, bits(27, 24), *random.pick(&[0, 1, 2, 2, 3, 8, 9, any]) << 24)
+        }
         5 => {
             let old = field(job[0], 23, 16);
             let fluents = *random.pick(&[0, 0, 0, 1, 63, 64, 65, 127, 128, 255, old + 1, old.wrapping_sub(1)]) & 255;
@@ -91,7 +94,7 @@ fn at_the_end(random: &mut Random, job: &[u32]) -> Vec<u32> {
         0 => job.retain(|&word| !matches!(kind(word), 6..=8)),
         1 => job.push(words::node(0, 0, 0, 0, 0)),
         2 => job[0] ^= 1 << 8,
-        3 => job.resize(2_049, words::node(0, 0, 0, 0, 0)),
+        3 => job.resize(*random.pick(&[2_049, 2_049, 2_049, 100_000]), words::node(0, 0, 0, 0, 0)),
         4 => job.clear(),
         _ => job.extend([words::node(0, 0, 0, 0, 0), words::node(8, 0, 0, 0, 0)]),
     }
