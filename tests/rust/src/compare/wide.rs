@@ -70,7 +70,7 @@ impl Run<'_> {
             37 => wide_plans::full(random),
             other if other % 8 == 3 => {
                 let (job, starts) = wide_plans::drawn(random);
-                WidePlan { job, starts, narrow: None }
+                WidePlan { job, starts }
             }
             _ => wide_plans::any(random),
         }

@@ -20,7 +20,7 @@ pub fn run(seed: u64, cases: usize, calls: &Calls) -> Report {
     let mut report = Report::new();
     while report.cases < cases {
         let (mut job, mut starts) = wide_plans::drawn(&mut random);
-        let draft = wide_plans::draft_of(&WidePlan { job: job.clone(), starts: starts.clone(), narrow: None }).draft;
+        let draft = wide_plans::draft_of(&WidePlan { job: job.clone(), starts: starts.clone() }).draft;
         match random.below(4) {
             0 => job = damage::any(&mut random, &job),
             1 => starts = plan_damage::starts(&mut random, &starts, &draft),

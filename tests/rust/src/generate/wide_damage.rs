@@ -1,12 +1,13 @@
 //! Damage to wide jobs and their facts (L6), most of it at the fields that a wide job has in other places.
 
-use crate::generate::{damage, plan_damage};
+use crate::generate::widen::{self, Spread};
+use crate::generate::{damage, noise, plan_damage};
 use crate::random::Random;
 use crate::words::{self, bits, field, form, kind};
 
 /// One damage of a random sort.
 pub fn job(random: &mut Random, job: &[u32]) -> Vec<u32> {
-    match random.below(14) {
+    match random.below(15) {
         0 | 1 => damage::any(random, job),
         2 => damage::bit(random, job),
         3 => damage::named_again(random, job),
@@ -21,6 +22,7 @@ pub fn job(random: &mut Random, job: &[u32]) -> Vec<u32> {
         }
         6 => named_in_low_bits(random, job),
         7 => at_the_end(random, job),
+        8 => noise(random),
         _ => one_fluent(random, job),
     }
 }
@@ -28,6 +30,19 @@ pub fn job(random: &mut Random, job: &[u32]) -> Vec<u32> {
 fn with_head(job: &[u32], field: u32, value: u32) -> Vec<u32> {
     let mut job = job.to_vec();
     job[0] = job[0] & !field | value;
+    job
+}
+
+/// Words that no job writer meant, behind a wide head.
+fn noise(random: &mut Random) -> Vec<u32> {
+    let mut job = match random.chance(50) {
+        true => noise::words(random),
+        false => noise::plausible(random),
+    };
+    if let Some(fluents) = widen::fluents(&job) {
+        return Spread::any(random, fluents).job(&job);
+    }
+    job[0] = words::wide_head(random.between(1, 256), random.between(1, 64), random.below(64));
     job
 }
 

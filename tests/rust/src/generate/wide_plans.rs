@@ -9,31 +9,32 @@ use crate::generate::{carried, group_plans, set_draws, waits, window_plans};
 use crate::random::Random;
 use crate::words::{self, field, kind};
 
-/// A job and starts of it, mostly lawful; and the narrow job that says the same, where there is one.
+/// A job and starts of it, mostly lawful.
 #[derive(Clone, Debug)]
 pub struct WidePlan {
     pub job: Vec<u32>,
     pub starts: Vec<u32>,
-    pub narrow: Option<(Vec<u32>, Spread)>,
 }
 
 /// With windows, groups, formulas, nodes and sets as the narrow generators have them.
 pub fn any(random: &mut Random) -> WidePlan {
     let (narrow, starts) = drawn(random);
-    let fluents = widen::fluents(&narrow).expect("a narrow job");
+    let Some(fluents) = widen::fluents(&narrow) else {
+        return WidePlan { job: narrow, starts };
+    };
     let spread = match random.below(8) {
         0 => Spread::same(fluents),
         1 => Spread::top(fluents),
         _ => Spread::any(random, fluents),
     };
-    let job = spread.job(&narrow);
-    match random.chance(50) {
-        true => WidePlan { job: with_fluents(random, &job, &spread), starts, narrow: None },
-        false => WidePlan { job, starts, narrow: Some((narrow, spread)) },
+    let mut job = spread.job(&narrow);
+    if random.chance(50) {
+        job = with_fluents(random, &job, &spread);
     }
+    WidePlan { job, starts }
 }
 
-/// A narrow job and starts of it.
+/// A narrow job and starts of it; but now and then a damage has made its head a wide one.
 pub fn drawn(random: &mut Random) -> (Vec<u32>, Vec<u32>) {
     let size = Size { last: *random.pick(&[0, 1, 2, 3, 5, 8, 12, 63]), nodes: *random.pick(&[3, 7, 10, 15]) };
     let readable = random.chance(50);
@@ -134,7 +135,7 @@ pub fn full(random: &mut Random) -> WidePlan {
     for moment in 0..63 {
         starts.extend((0..actions).filter(|_| random.chance(often)).map(|action| words::start(moment, action)));
     }
-    WidePlan { job, starts, narrow: None }
+    WidePlan { job, starts }
 }
 
 /// What damage to starts and trials asks of a draft: the last moment, and how long each action lasts.
