@@ -44,7 +44,7 @@ fn the_same_job_written_narrow_and_wide_is_answered_alike() {
 
 #[test]
 fn generated_wide_jobs_get_the_checker_s_answers() {
-    let report = wide_jobs::run(JOBS_SEED, 2_000, &host::job_rows);
+    let report = wide_jobs::run(JOBS_SEED, 700, &host::job_rows);
     report.print(JOBS_SEED, "wide jobs by the place of their answer", &wide_jobs::COLUMNS);
     assert_eq!(report.differences, 0);
     assert_eq!(report.tally.missing(&job::possible()), [], "places that no case reached");
