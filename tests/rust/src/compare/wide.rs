@@ -31,7 +31,7 @@ struct Run<'a> {
 pub fn run(seed: u64, plans: usize, calls: &Calls) -> Report {
     let find = guarded(calls.find);
     let calls = Calls { find: &find, of_trials: calls.of_trials };
-    let mut run = Run { asker: Asker::new(seed, &calls, first_or_later), slips: Slips::new(), telling: false };
+    let mut run = Run { asker: Asker::new(seed, &calls, first_or_later), slips: Slips::all(), telling: false };
     for number in 0..plans {
         run.telling = number % 7 == 5 || number % 24 == 3;
         let plan = run.drawn(number);
@@ -189,7 +189,7 @@ mod tests {
     use crate::compare::planted;
     use crate::compare::trial as of_trials;
     use crate::compare::wide_case::answer_by;
-    use crate::compare::wide_rules::{Rule, RIGHT};
+    use crate::compare::wide_rules::{slips, Rule, RIGHT};
 
     const SEED: u64 = 111;
 
@@ -203,7 +203,7 @@ mod tests {
     }
 
     /// The differences that a run finds where check, fill and show go by a rule.
-    fn differences(rule: &'static Rule, plans: usize) -> usize {
+    fn differences(rule: &Rule, plans: usize) -> usize {
         let check = |job: &[u32], starts: &[u32], facts: &[u32]| answer_by(rule, job, Asked::Check(starts, facts)).0;
         let written = |asked: Asked, job: &[u32], buffer: &mut [u32]| {
             let (answer, facts) = answer_by(rule, job, asked);
@@ -220,8 +220,16 @@ mod tests {
 
     #[test]
     fn rows_by_the_right_rule_are_the_checker_s() {
-        static THE_RIGHT: Rule = RIGHT;
-        assert_eq!(differences(&THE_RIGHT, 300), 0);
+        assert_eq!(differences(&RIGHT, 300), 0);
+    }
+
+    #[test]
+    fn calls_with_a_slip_are_seen() {
+        for slip in slips().into_iter().filter(|slip| slip.find_rows == RIGHT.find_rows).step_by(10) {
+            let seen = differences(&slip, 250);
+            println!("{seen:>6} differences of 250 plans: {}", slip.name);
+            assert!(seen > 0, "{}", slip.name);
+        }
     }
 
     #[test]

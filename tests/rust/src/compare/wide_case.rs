@@ -84,9 +84,9 @@ impl Case<'_> {
     /// The first refusal of the rows, or the plan.
     fn passed(self, rows: &[Row]) -> Result<Plan, Refusal> {
         rows.iter().try_for_each(|&row| self.row(row))?;
-        match self.plan {
-            Some(plan) => plan,
-            None => Err(self.job.err().expect("a job without a plan is refused")),
+        match (self.plan, self.job) {
+            (Some(plan), _) => plan,
+            (None, job) => Err(job.expect_err("a job without a plan is refused")),
         }
     }
 }

@@ -31,8 +31,11 @@ const SIZES: [(&str, Test); 14] = [
     ("a group with a pair", |plan| plan.job.groups.iter().any(|group| !group.actions.is_empty())),
 ];
 
+/// The fluents that a job names in one way.
+type Named = fn(&Job) -> BTreeSet<usize>;
+
 /// Where a fluent is named.
-const NAMED: [(&str, fn(&Job) -> BTreeSet<usize>); 4] = [
+const NAMED: [(&str, Named); 4] = [
     ("known at 0", |job| fluents(job.initially.iter())),
     ("needed", |job| fluents(job.actions.iter().flat_map(|action| &action.needs))),
     ("made", |job| fluents(job.actions.iter().flat_map(|action| &action.makes))),
@@ -46,8 +49,11 @@ fn fluents<'a>(named: impl Iterator<Item = &'a Known>) -> BTreeSet<usize> {
     named.map(|known| known.fluent).collect()
 }
 
+/// Whether a fluent of a job is of a sort.
+type Sort = fn(&Job, usize) -> bool;
+
 /// Which fluents these are.
-const WHICH: [(&str, fn(&Job, usize) -> bool); 7] = [
+const WHICH: [(&str, Sort); 7] = [
     ("fluent 63", |_, fluent| fluent == 63),
     ("fluent 64", |_, fluent| fluent == 64),
     ("fluent 255", |_, fluent| fluent == 255),
@@ -179,7 +185,7 @@ pub struct Slips {
 }
 
 impl Slips {
-    pub fn new() -> Slips {
+    pub fn all() -> Slips {
         Slips { in_lists: slips_in_lists(), in_buffers: slips_in_buffers(), all: slips() }
     }
 }

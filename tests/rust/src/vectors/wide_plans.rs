@@ -134,7 +134,12 @@ fn order() -> Vec<Vector> {
     let low_first = [&right[..2], &right[5..7], &right[2..5], &right[7..]].concat();
     let falling: Vec<u32> = right.iter().rev().copied().collect();
     let as_listed = [4, 2, 1, 0, 3].map(|place| right[place]);
+    let narrow = [0x10400101, 0x2000003f, 0x20000041, 0x20000000, 0x30000001, 0x60000000];
+    let narrow_right = [0xa0000000, 0xa0000003, 0xa000007e, 0xa0000080, 0xa0000083, 0xa00000fe];
+    let narrow_by_fluent = [0, 3, 1, 4, 2, 5].map(|place| narrow_right[place]);
     vec![
+        vector("narrow: ascending, whatever the order of the job's words", &narrow, &[], &narrow_right, (0, 0)),
+        vector("narrow: by fluent, then by moment", &narrow, &[], &narrow_by_fluent, (11, 1)),
         vector("ascending, whatever the order of the job's words", &job, &[], &right, (0, 0)),
         vector("by fluent, then by moment", &job, &[], &by_fluent, (11, 1)),
         vector("those above 63 behind the others", &job, &[], &low_first, (11, 2)),
