@@ -160,8 +160,13 @@ impl Asker<'_> {
 
     /// Find, unless a set has more placements than may be tried.
     pub fn find(&mut self, question: &Question, facts: &[u32], most: usize) {
+        self.find_of(question, facts, calls::LEAST_BUFFER, most);
+    }
+
+    /// The same with a buffer of this length.
+    pub fn find_of(&mut self, question: &Question, facts: &[u32], length: usize, most: usize) {
         let case = FindCase { job: question.job.to_vec(), starts: question.starts.to_vec() };
-        let noise = self.noise[..calls::LEAST_BUFFER].to_vec();
+        let noise = self.noise[..length].to_vec();
         find::judge(&case, facts, noise, most, self.calls.find, &mut self.report);
     }
 

@@ -87,8 +87,8 @@ impl Run<'_> {
         };
         self.check(&question, &wrong);
         self.fill(&question);
-        if number % 4 == 0 {
-            self.asker.find(&question, question.facts(), MOST_PLACEMENTS);
+        if number % 4 == 0 || number % 128 == 101 {
+            self.find(&question);
         }
         if self.telling && number % 2 == 1 {
             self.tell(&question, Asked::Find(&plan.starts, question.facts(), 4_096));
@@ -109,7 +109,7 @@ impl Run<'_> {
         self.check(&question, question.facts());
         self.fill(&question);
         if number % 8 == 2 {
-            self.asker.find(&question, question.facts(), MOST_PLACEMENTS);
+            self.find(&question);
         }
     }
 
@@ -143,6 +143,12 @@ impl Run<'_> {
         features::count(&mut self.asker.report.tally, question.job, &question.right);
         self.asker.check(question, facts);
         self.tell(question, Asked::Check(question.starts, facts));
+    }
+
+    /// Find asks for 4,096 words of any job.
+    fn find(&mut self, question: &Question) {
+        let length = *self.asker.random.pick(&[4_096, 4_096, 4_096, 4_096, 4_097, 16_383, 16_384, 4_095, 0]);
+        self.asker.find_of(question, question.facts(), length, MOST_PLACEMENTS);
     }
 
     fn fill(&mut self, question: &Question) {
