@@ -19,9 +19,7 @@ pub struct WidePlan {
 /// With windows, groups, formulas, nodes and sets as the narrow generators have them.
 pub fn any(random: &mut Random) -> WidePlan {
     let (narrow, starts) = drawn(random);
-    let Some(fluents) = widen::fluents(&narrow) else {
-        return WidePlan { job: narrow, starts };
-    };
+    let fluents = widen::fluents(&narrow).expect("a narrow job");
     let spread = match random.below(8) {
         0 => Spread::same(fluents),
         1 => Spread::top(fluents),
@@ -34,7 +32,7 @@ pub fn any(random: &mut Random) -> WidePlan {
     WidePlan { job, starts }
 }
 
-/// A narrow job and starts of it; but now and then a damage has made its head a wide one.
+/// A narrow job and starts of it.
 pub fn drawn(random: &mut Random) -> (Vec<u32>, Vec<u32>) {
     let size = Size { last: *random.pick(&[0, 1, 2, 3, 5, 8, 12, 63]), nodes: *random.pick(&[3, 7, 10, 15]) };
     let readable = random.chance(50);
