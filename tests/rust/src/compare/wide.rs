@@ -87,7 +87,7 @@ impl Run<'_> {
         };
         self.check(&question, &wrong);
         self.fill(&question);
-        if number % 4 == 0 || number % 128 == 101 {
+        if number % 4 == 2 || number % 128 == 101 {
             self.find(&question);
         }
         if self.telling && number % 2 == 1 {
