@@ -83,9 +83,49 @@ pub fn group_member(group: usize, action: usize) -> u32 {
     made(14, &[(group, 24), (action, 0)])
 }
 
+/// L6's head; F of 256 is a field of 0.
+pub fn wide_head(fluents: usize, actions: usize, last: usize) -> u32 {
+    made(1, &[(1, 24), (fluents % 256, 16), (actions, 8), (last, 0)])
+}
+
+/// Kind 2 of a wide job.
+pub fn wide_initially(fluent: usize, value: bool) -> u32 {
+    made(2, &[(usize::from(!value), 8), (fluent, 0)])
+}
+
+/// Kind 4 of a wide job.
+pub fn wide_law(role: usize, fluent: usize) -> u32 {
+    made(4, &[(role, 8), (fluent, 0)])
+}
+
+/// Formula form 1 of a wide job.
+pub fn wide_fluent(fluent: usize) -> u32 {
+    made(5, &[(1, 24), (fluent, 0)])
+}
+
+/// A fact word of a wide job.
+pub fn wide_fact(moment: usize, fluent: usize, value: bool) -> u32 {
+    made(10, &[(moment, 9), (fluent, 1), (usize::from(!value), 0)])
+}
+
+/// Whether a job's head asks for the wide layout.
+pub fn is_wide(job: &[u32]) -> bool {
+    job.first().is_some_and(|&head| kind(head) == 1 && field(head, 27, 24) == 1)
+}
+
 #[cfg(test)]
 mod tests {
     use super::*;
+
+    #[test]
+    fn the_words_of_wide_jobs() {
+        assert_eq!([wide_head(256, 1, 63), wide_head(255, 64, 0)], [0x1100013f, 0x11ff4000]);
+        assert_eq!([wide_initially(255, true), wide_initially(0, false)], [0x200000ff, 0x20000100]);
+        assert_eq!([wide_law(3, 255), wide_law(1, 64)], [0x400003ff, 0x40000140]);
+        assert_eq!([wide_fluent(255), wide_fluent(64)], [0x510000ff, 0x51000040]);
+        assert_eq!([wide_fact(63, 255, false), wide_fact(1, 0, true)], [0xa0007fff, 0xa0000200]);
+        assert!(is_wide(&[0x11010100]) && !is_wide(&[0x10410100]) && !is_wide(&[0x13010100]) && !is_wide(&[]));
+    }
 
     #[test]
     fn the_words_of_the_paper() {

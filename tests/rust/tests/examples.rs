@@ -256,7 +256,7 @@ fn the_cabinet_s_words_say_what_is_meant() {
 fn the_facts_are_those_of_the_rules() {
     for folder in ["door", "no-pause", "curtain", "in-pause", "shift", "grippers", "cabinet"] {
         let (starts, facts) = plan(folder);
-        assert_eq!(calls::fill(&job(folder), &starts, 4_096).1, facts, "{folder}");
+        assert_eq!(calls::facts(&job(folder), &starts), facts, "{folder}");
     }
 }
 
@@ -290,7 +290,7 @@ fn the_only_reading_is_the_listed_one() {
 fn the_loader_disturbs_the_pause_and_no_other_moment() {
     for (moment, number, count) in [(2, 0, 11), (3, 13, 7), (4, 13, 8)] {
         let starts = curtain_starts(moment);
-        let facts = calls::fill(&curtain(), &starts, 4_096).1;
+        let facts = calls::facts(&curtain(), &starts);
         let found = host::find(&curtain(), &starts, &facts, &mut vec![0; 4_096]);
         assert_eq!((found.number, found.count), (number, count), "the loader at {moment}");
     }

@@ -5,6 +5,7 @@ use planreader_tests::compare::plan::{self, Calls};
 use planreader_tests::host;
 use planreader_tests::random::Random;
 use planreader_tests::vectors;
+use planreader_tests::words::is_wide;
 
 const SEED: u64 = 0x5e3a_1071_0002;
 
@@ -28,7 +29,7 @@ fn hand_written_plans_get_the_paper_s_check() {
 #[test]
 fn hand_written_plans_get_the_paper_s_facts() {
     for vector in vectors::plan::vectors() {
-        let noise = Random::new(SEED).words(4_096);
+        let noise = Random::new(SEED).words(if is_wide(&vector.job) { 16_384 } else { 4_096 });
         let mut buffer = noise.clone();
         let answer = host::fill(&vector.job, &vector.starts, &mut buffer);
         if vector.number == 0 {

@@ -3,14 +3,17 @@
 use planreader_tests::built::printed_in;
 use planreader_tests::checker::program::{file_of, planread, reading_text, refusal_text};
 use planreader_tests::generate::finds;
+use planreader_tests::generate::widen::Widened;
 use planreader_tests::generate::{damage, plan_damage};
 use planreader_tests::random::Random;
 use planreader_tests::vectors;
+use planreader_tests::words::kind;
 use std::path::PathBuf;
 use std::sync::atomic::{AtomicUsize, Ordering};
 use std::{env, fs};
 
 const SEED: u64 = 0x5e3a_1071_0005;
+const WIDE_SEED: u64 = 0x5e3a_1071_0021;
 
 /// A file of the program's folder.
 enum File<'a> {
@@ -150,6 +153,64 @@ fn generated_files_print_the_checker_s_answers() {
     }
 }
 
+/// The same files with their jobs and facts written wide, and as they would be for a narrow job.
+#[test]
+fn generated_files_written_wide_print_the_checker_s_answers() {
+    let mut random = Random::new(WIDE_SEED);
+    println!("seed {WIDE_SEED:#x}, 200 runs");
+    for _ in 0..200 {
+        let (job, plan) = files(&mut random);
+        let Some(wide) = Widened::of(&job) else { continue };
+        let (starts, facts): (Vec<u32>, Vec<u32>) = plan.iter().partition(|&&word| kind(word) == 9);
+        agree(&wide.job, &[starts, wide.spread.facts(&facts)].concat(), "written wide");
+        if random.chance(20) {
+            agree(&wide.job, &plan, "a narrow plan");
+        }
+    }
+}
+
+#[test]
+fn hand_written_wide_plans_print_the_paper_s_answers() {
+    for vector in vectors::wide_plans::vectors() {
+        let plan = [&vector.starts[..], &vector.facts].concat();
+        let text = printed_words(&vector.job, &plan);
+        match (plan.len(), vector.number) {
+            (8_193.., _) => assert_eq!(text, "bad file\n", "{}", vector.name),
+            (_, 0) => agree(&vector.job, &plan, vector.name),
+            (_, number) => assert_eq!(text, refusal_text(number, vector.position), "{}", vector.name),
+        }
+    }
+}
+
+/// Point 15: "planread's file limit stays, so a wide plan of more than 8,192 words is a bad file." 256 fluents known at 32 moments
+/// are 8,192 facts; with one start there is a word too many.
+#[test]
+fn a_wide_plan_of_8_192_words_is_good_and_one_more_is_a_bad_file() {
+    let job = vectors::wide_plans::known_job(256, 31);
+    let facts = vectors::wide_plans::known_facts(256, 31);
+    assert_eq!(facts.len(), 8_192);
+    assert_eq!(printed_words(&job, &facts), "refused 13 at 0 triples 0\n");
+    assert_eq!(printed_words(&job, &[&[0x90000000], &facts[..]].concat()), "bad file\n");
+    assert_eq!(printed_words(&job, &[&facts[..], &facts[8_191..]].concat()), "bad file\n");
+    assert_eq!(printed_words(&job, &[&[0x90000000], &facts[..8_191]].concat()), "refused 11 at 8191 triples 0\n");
+    let mut turned = facts.clone();
+    turned[8_191] ^= 1;
+    assert_eq!(printed_words(&job, &turned), "refused 11 at 8191 triples 0\n");
+    let full = vectors::wide_plans::known_facts(256, 63);
+    assert_eq!(printed_words(&vectors::wide_plans::known_job(256, 63), &full), "bad file\n");
+    let begun = printed_words(&vectors::wide_plans::known_job(256, 63), &full[..8_192]);
+    assert_eq!(begun, "refused 11 at 8192 triples 0\n");
+}
+
+/// A wide job with 256 fluents and a reading: the program lends 4,096 words and find asks for no more.
+#[test]
+fn a_wide_example_byte_for_byte() {
+    let job = [0x11000101, 0x200001ff, 0x30000001, 0x400002ff, 0x60000000];
+    assert_eq!(printed_words(&job, &[0x90000000, 0xa00001ff, 0xa00003fe]), "read 1 triples 1\nb0000001\n");
+    assert_eq!(printed_words(&job, &[0x90000000, 0xa000007f, 0xa000027e]), "refused 11 at 0 triples 0\n");
+    assert_eq!(printed_words(&[0x12000101, 0x200001ff], &[]), "refused 2 at 0 triples 0\n");
+}
+
 /// A job and a plan, now and then damaged.
 fn files(random: &mut Random) -> (Vec<u32>, Vec<u32>) {
     let size = finds::Size { last: random.below(10), nodes: random.between(3, 10) };
@@ -157,7 +218,7 @@ fn files(random: &mut Random) -> (Vec<u32>, Vec<u32>) {
     if random.chance(40) {
         case = finds::perturbed(random, &case);
     }
-    let facts = planreader_tests::checker::calls::fill(&case.job, &case.starts, 4_096).1;
+    let facts = planreader_tests::checker::calls::facts(&case.job, &case.starts);
     let mut plan = [&case.starts[..], &facts].concat();
     match random.below(8) {
         0 => case.job = damage::any(random, &case.job),

@@ -1,4 +1,4 @@
-//! Document 01, "Where each check is made": the rows of each call, from the top.
+//! Document 01, "Where each check is made": the rows of each call, from the top; with the second 12 of request L6.
 
 use crate::checker::answer::{refuse, Answer, Refusal};
 use crate::checker::facts::{fact_words, row_10, row_11, states, State};
@@ -20,11 +20,15 @@ pub struct Plan {
 
 /// Rows 1 to 10, with 15 and 16 after 9.
 pub fn read_plan(job: &[u32], starts: &[u32]) -> Result<Plan, Refusal> {
-    let job = read_job(job)?;
+    plan_of(read_job(job)?, starts)
+}
+
+/// Rows 6 to 10, 15 and 16, of a well-formed job.
+pub fn plan_of(job: Job, starts: &[u32]) -> Result<Plan, Refusal> {
     let starts = read_starts(&job, starts)?;
     let states = states(&job, &starts);
     row_10(&job, &starts, &states)?;
-    let facts = fact_words(&states);
+    let facts = fact_words(&job.layout, &states);
     Ok(Plan { job, starts, states, facts })
 }
 
@@ -42,6 +46,19 @@ pub fn lent_buffer(length: usize) -> Result<(), Refusal> {
     }
 }
 
+/// L6: "The filler then needs 16,384 words; from 4,096 up to that it gives 12, right after the job's checks and before 14."
+pub fn room_for_facts(job: &Job, length: usize) -> Result<(), Refusal> {
+    match length < job.layout.room {
+        true => refuse(12, 0),
+        false => Ok(()),
+    }
+}
+
+/// The list of the rules, or an empty one where the job or the starts are refused.
+pub fn facts(job: &[u32], starts: &[u32]) -> Vec<u32> {
+    read_plan(job, starts).map_or(vec![], |plan| plan.facts)
+}
+
 /// "Check has no lent buffer and runs numbers 1 to 11", with 15 and 16; "check gives length 0", count 0.
 pub fn check(job: &[u32], starts: &[u32], facts: &[u32]) -> Answer {
     match read_whole_plan(job, starts, facts) {
@@ -50,9 +67,17 @@ pub fn check(job: &[u32], starts: &[u32], facts: &[u32]) -> Answer {
     }
 }
 
-/// "fill runs all but numbers 11 and 13"; its answer, and the words that it writes.
+/// "fill runs all but numbers 11 and 13": 12, the job, 12 again in a wide one, the starts.
+fn filled(job: &[u32], starts: &[u32], buffer: usize) -> Result<Plan, Refusal> {
+    lent_buffer(buffer)?;
+    let job = read_job(job)?;
+    room_for_facts(&job, buffer)?;
+    plan_of(job, starts)
+}
+
+/// Fill's answer, and the words that it writes.
 pub fn fill(job: &[u32], starts: &[u32], buffer: usize) -> (Answer, Vec<u32>) {
-    match lent_buffer(buffer).and_then(|()| read_plan(job, starts)) {
+    match filled(job, starts, buffer) {
         Ok(plan) => (Answer::success(plan.facts.len(), 0), plan.facts),
         Err(refusal) => (Answer::refused(refusal), vec![]),
     }
@@ -68,7 +93,7 @@ pub enum Outcome {
     Read { world: World, decision: Decision },
 }
 
-/// "find runs all": 12, then 1 to 11 with 15 and 16, then 13.
+/// "find runs all": 12, then 1 to 11 with 15 and 16, then 13. It writes no facts, and asks for 4,096 words of any job.
 pub fn find(job: &[u32], starts: &[u32], facts: &[u32], buffer: usize) -> Outcome {
     find_within(job, starts, facts, buffer, usize::MAX).expect("no bound on the placements")
 }

@@ -1,9 +1,9 @@
 //! Document 01, "Starts and known facts": the state of each moment, row 10, the list of facts, row 11.
 
 use crate::checker::answer::{refuse, Refusal};
-use crate::checker::job::Job;
+use crate::checker::job::{Job, Known};
+use crate::checker::layout::Layout;
 use crate::checker::starts::Start;
-use crate::words;
 
 /// For each fluent its known value, or none where it is open.
 pub type State = Vec<Option<bool>>;
@@ -17,9 +17,17 @@ pub fn states(job: &Job, starts: &[Start]) -> Vec<State> {
     states
 }
 
-/// The state of t > 0 by that of t - 1.
+/// The state of t > 0 by that of t - 1: "At t > 0 a fluent that a hiding start makes true or false is open. Any other fluent
+/// takes the value given by a start finishing at t, or else its value at t − 1."
 pub fn state_at(job: &Job, starts: &[Start], before: &State, t: usize) -> State {
-    (0..job.fluents).map(|fluent| value_at(job, starts, before, fluent, t)).collect()
+    let made_by = |test: fn(&Start, usize) -> bool| -> Vec<Known> {
+        let looked_at = starts.iter().filter(|start| test(start, t));
+        looked_at.flat_map(|start| &job.actions[start.action].makes).copied().collect()
+    };
+    let mut state = before.clone();
+    made_by(Start::finishes).iter().rev().for_each(|made| state[made.fluent] = Some(made.value));
+    made_by(Start::hides).iter().for_each(|made| state[made.fluent] = None);
+    state
 }
 
 /// "Known at 0: the kind 2 words."
@@ -29,20 +37,6 @@ pub fn initial_state(job: &Job) -> State {
         state[known.fluent] = Some(known.value);
     }
     state
-}
-
-/// "At t > 0 a fluent that a hiding start makes true or false is open. Any other fluent takes the value
-/// given by a start finishing at t, or else its value at t − 1."
-fn value_at(job: &Job, starts: &[Start], before: &State, fluent: usize, t: usize) -> Option<bool> {
-    let made_by = |start: &Start| {
-        let makes = &job.actions[start.action].makes;
-        makes.iter().find(|made| made.fluent == fluent).map(|made| made.value)
-    };
-    if starts.iter().any(|start| start.hides(t) && made_by(start).is_some()) {
-        return None;
-    }
-    let given = starts.iter().filter(|start| start.finishes(t)).find_map(made_by);
-    given.or(before[fluent])
 }
 
 /// Row 10, "needs not known": "A start's needs must be known in the state of its own moment."
@@ -58,14 +52,20 @@ pub fn row_10(job: &Job, starts: &[Start], states: &[State]) -> Result<(), Refus
 }
 
 /// The list of the rules: a fact word for each known fluent of each moment, ascending.
-pub fn fact_words(states: &[State]) -> Vec<u32> {
+pub fn fact_words(layout: &Layout, states: &[State]) -> Vec<u32> {
     let mut facts = vec![];
     for (moment, state) in states.iter().enumerate() {
         for (fluent, known) in state.iter().enumerate() {
-            facts.extend(known.map(|value| words::fact(moment, fluent, value)));
+            facts.extend(known.map(|value| fact_word(layout, moment, fluent, value)));
         }
     }
     facts
+}
+
+/// "Fact word, kind 10: 12..7 moment, 6..1 fluent, bit 0 (0 true, 1 false)"; L6: "its moment in 14..9, fluent in 8..1, value in
+/// bit 0".
+fn fact_word(layout: &Layout, moment: usize, fluent: usize, value: bool) -> u32 {
+    10 << 28 | (moment as u32) << layout.moment.1 | (fluent as u32) << layout.fact.1 | u32::from(!value)
 }
 
 /// Row 11, "not the list of the rules": "first difference; if one list begins the other, the shorter length".

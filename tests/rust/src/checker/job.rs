@@ -1,7 +1,8 @@
-//! Document 01, "Job words", and the rows on the job in "Where each check is made"; document 02, L4, "Shift windows", and L5,
-//! "Grippers are few".
+//! Document 01, "Job words", and the rows on the job in "Where each check is made"; document 02, L4, "Shift windows", L5,
+//! "Grippers are few", and L6, "Two hundred and fifty-six facts".
 
 use crate::checker::answer::{refuse, Refusal};
+use crate::checker::layout::{mask, part, JobRule, Layout, RIGHT};
 use crate::words::{bits, field, form, kind};
 
 pub const MOST_WORDS: usize = 2048;
@@ -9,6 +10,8 @@ pub const MOST_WORDS: usize = 2048;
 /// A well-formed job, taken apart.
 #[derive(Clone, Debug)]
 pub struct Job {
+    /// L6: where fluents are named in its words, and how many words its filler needs.
+    pub layout: Layout,
     pub fluents: usize,
     pub head_actions: usize,
     /// n: "Moments are 0..n."
@@ -93,13 +96,22 @@ pub struct Condition {
 
 /// All rows on the job, from the top: its length, each word in turn, its end.
 pub fn read_job(words: &[u32]) -> Result<Job, Refusal> {
+    read_job_by(words, &RIGHT)
+}
+
+/// The same with any rule of layouts.
+pub fn read_job_by(words: &[u32], rule: &JobRule) -> Result<Job, Refusal> {
     if !(1..=MOST_WORDS).contains(&words.len()) {
         return refuse(1, 0);
     }
-    let mut job = Job::empty();
+    // "Bits 27..24 of the head from 2 to 15 are 2 at word 0."
+    let Some(layout) = (rule.layout)(words[0]) else {
+        return refuse(2, 0);
+    };
+    let mut job = Job::empty(layout);
     for (position, &word) in words.iter().enumerate() {
         let before = position.checked_sub(1).map(|index| words[index]);
-        if not_allowed(before, word) {
+        if not_allowed(&layout, before, word & !(rule.unseen)(word)) {
             return refuse(2, position);
         }
         if wrong(&job, word) {
@@ -116,8 +128,8 @@ pub fn read_job(words: &[u32]) -> Result<Job, Refusal> {
 
 // Row 2: "kind, form or predecessor not allowed, or spare bit set"
 
-fn not_allowed(before: Option<u32>, word: u32) -> bool {
-    !kind_and_form_allowed(word) || !may_follow(before, word) || word & !used_bits(word) != 0
+fn not_allowed(layout: &Layout, before: Option<u32>, word: u32) -> bool {
+    !kind_and_form_allowed(word) || !may_follow(before, word) || word & !used_bits(layout, word) != 0
 }
 
 fn kind_and_form_allowed(word: u32) -> bool {
@@ -152,17 +164,18 @@ fn may_follow(before: Option<u32>, word: u32) -> bool {
     }
 }
 
-/// The bits that a word of this kind and form uses: "A field that its form doesn't use is spare."
-fn used_bits(word: u32) -> u32 {
+/// The bits that a word of this kind and form uses: "A field that its form doesn't use is spare." Those of a head are all used.
+fn used_bits(layout: &Layout, word: u32) -> u32 {
     let x_y = bits(23, 18) | bits(17, 12);
     let m_n = bits(11, 6) | bits(5, 0);
     let fields = match (kind(word), form(word)) {
-        (1, _) => bits(23, 16) | bits(15, 8) | bits(7, 0),
-        (2, _) => bits(6, 6) | bits(5, 0),
+        (1, _) => bits(27, 24) | bits(23, 16) | bits(15, 8) | bits(7, 0),
+        (2, _) => mask(layout.known_value) | mask(layout.known),
         (3, _) => bits(11, 6) | bits(5, 0),
-        (4, _) => bits(7, 6) | bits(5, 0),
+        (4, _) => mask(layout.role) | mask(layout.law),
         (5, 0) => bits(27, 24),
-        (5, 1) | (5, 2) => bits(27, 24) | bits(11, 6),
+        (5, 1) => bits(27, 24) | mask(layout.formula),
+        (5, 2) => bits(27, 24) | bits(11, 6),
         (5, _) => bits(27, 24) | bits(11, 6) | bits(5, 0),
         (6, 0) | (6, 1) => bits(27, 24) | bits(23, 18),
         (6, 2) | (6, 3) => bits(27, 24) | x_y,
@@ -184,8 +197,9 @@ fn used_bits(word: u32) -> u32 {
 
 fn wrong(job: &Job, word: u32) -> bool {
     match kind(word) {
-        1 => wrong_head(word),
-        2 | 4 => field(word, 5, 0) >= job.fluents,
+        1 => wrong_head(job, word),
+        2 => part(word, job.layout.known) >= job.fluents,
+        4 => part(word, job.layout.law) >= job.fluents,
         3 => wrong_action(job, word),
         5 => job.formulas.len() == 64 || wrong_formula(job, word),
         6 => job.nodes.len() == 64 || wrong_node(job, word),
@@ -197,11 +211,11 @@ fn wrong(job: &Job, word: u32) -> bool {
     }
 }
 
-fn wrong_head(word: u32) -> bool {
-    let fluents = field(word, 23, 16);
+fn wrong_head(job: &Job, word: u32) -> bool {
+    let fluents = (job.layout.fluents)(field(word, 23, 16));
     let actions = field(word, 15, 8);
     let last = field(word, 7, 0);
-    !(1..=64).contains(&fluents) || !(1..=64).contains(&actions) || last > 63
+    fluents.is_none() || !(1..=64).contains(&actions) || last > 63
 }
 
 /// "its number (0, 1, 2, ..)", "duration (1 to 63)"
@@ -216,7 +230,7 @@ fn wrong_formula(job: &Job, word: u32) -> bool {
     let own = job.formulas.len();
     match form(word) {
         0 => false,
-        1 => x >= job.fluents,
+        1 => part(word, job.layout.formula) >= job.fluents,
         2 => x >= own,
         _ => x >= own || y >= own,
     }
@@ -277,15 +291,14 @@ fn wrong_pair(job: &Job, word: u32) -> bool {
 // listed twice is 4"
 
 fn named_twice(job: &Job, word: u32) -> bool {
-    let fluent = field(word, 5, 0);
-    let named = |list: &[Known]| list.iter().any(|known| known.fluent == fluent);
+    let named = |list: &[Known], at| list.iter().any(|known| known.fluent == part(word, at));
     match kind(word) {
-        2 => named(&job.initially),
+        2 => named(&job.initially, job.layout.known),
         4 => {
             let action = job.actions.last().expect("a law follows its action");
-            match field(word, 7, 6) {
-                0 | 1 => named(&action.needs),
-                _ => named(&action.makes),
+            match part(word, job.layout.role) {
+                0 | 1 => named(&action.needs, job.layout.law),
+                _ => named(&action.makes, job.layout.law),
             }
         }
         13 => job.group(field(word, 27, 24)).is_some(),
@@ -347,8 +360,9 @@ impl Node {
 // Taking a word that rows 2, 3 and 4 let pass.
 
 impl Job {
-    fn empty() -> Job {
+    fn empty(layout: Layout) -> Job {
         Job {
+            layout,
             fluents: 0,
             head_actions: 0,
             last: 0,
@@ -376,10 +390,10 @@ impl Job {
     fn take(&mut self, word: u32) {
         match kind(word) {
             1 => self.take_head(word),
-            2 => self.initially.push(Known { fluent: field(word, 5, 0), value: field(word, 6, 6) == 0 }),
+            2 => self.take_known(word),
             3 => self.take_action(word),
             4 => self.take_law(word),
-            5 => self.formulas.push(formula_of(word)),
+            5 => self.formulas.push(formula_of(&self.layout, word)),
             6 => self.nodes.push(node_of(word)),
             12 => self.take_shift(word),
             13 => self.take_group(word),
@@ -389,9 +403,15 @@ impl Job {
     }
 
     fn take_head(&mut self, word: u32) {
-        self.fluents = field(word, 23, 16);
+        self.fluents = (self.layout.fluents)(field(word, 23, 16)).expect("row 3 has seen that F is in range");
         self.head_actions = field(word, 15, 8);
         self.last = field(word, 7, 0);
+    }
+
+    /// "(0 true, 1 false)"
+    fn take_known(&mut self, word: u32) {
+        let value = part(word, self.layout.known_value) == 0;
+        self.initially.push(Known { fluent: part(word, self.layout.known), value });
     }
 
     fn take_action(&mut self, word: u32) {
@@ -418,8 +438,8 @@ impl Job {
     /// "role (0 needs true, 1 needs false, 2 makes true, 3 makes false)"
     fn take_law(&mut self, word: u32) {
         let action = self.actions.last_mut().expect("a law follows its action");
-        let fluent = field(word, 5, 0);
-        match field(word, 7, 6) {
+        let fluent = part(word, self.layout.law);
+        match part(word, self.layout.role) {
             0 => action.needs.push(Known { fluent, value: true }),
             1 => action.needs.push(Known { fluent, value: false }),
             2 => action.makes.push(Known { fluent, value: true }),
@@ -437,12 +457,12 @@ impl Job {
     }
 }
 
-fn formula_of(word: u32) -> Formula {
+fn formula_of(layout: &Layout, word: u32) -> Formula {
     let x = field(word, 11, 6);
     let y = field(word, 5, 0);
     match form(word) {
         0 => Formula::Always,
-        1 => Formula::Fluent(x),
+        1 => Formula::Fluent(part(word, layout.formula)),
         2 => Formula::Not(x),
         3 => Formula::And(x, y),
         _ => Formula::Or(x, y),

@@ -5,6 +5,7 @@ pub mod calls;
 pub mod facts;
 pub mod formulas;
 pub mod job;
+pub mod layout;
 pub mod program;
 pub mod readings;
 pub mod starts;

@@ -15,7 +15,7 @@ pub enum Printed {
     /// This line alone.
     Line(String),
     /// The line of any reading of the root, and the reading.
-    Reading { world: World, decision: Decision },
+    Reading { world: Box<World>, decision: Decision },
 }
 
 /// The output for the two files' bytes; none is a file that can't be read.
@@ -28,7 +28,7 @@ pub fn planread(job: Option<&[u8]>, plan: Option<&[u8]>) -> Printed {
     match find(&job, &plan[..starts], &plan[starts..], 4_096) {
         Outcome::Refused(refusal) => refused(Answer::refused(refusal)),
         Outcome::NoReading { decision, .. } => refused(no_reading(&decision)),
-        Outcome::Read { world, decision } => Printed::Reading { world, decision },
+        Outcome::Read { world, decision } => Printed::Reading { world: Box::new(world), decision },
     }
 }
 

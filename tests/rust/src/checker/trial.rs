@@ -1,8 +1,9 @@
-//! Request L1, "Stepping a plan by hand", with L4's row 15 and L5's row 16: the four calls, and what each leaves in the words
-//! lent to it. A trial crosses to C as words: its moment, the number of its starts, then the starts.
+//! Request L1, "Stepping a plan by hand", with L4's row 15, L5's row 16 and L6's second 12: the four calls, and what each leaves
+//! in the words lent to it. A trial crosses to C as words: its moment, the number of its starts, then the starts.
 
 use crate::checker::answer::{refuse, Answer, Refusal};
-use crate::checker::calls::{lent_buffer, read_plan, Plan};
+use crate::checker::calls::{lent_buffer, plan_of, room_for_facts, Plan};
+use crate::checker::facts::fact_words;
 use crate::checker::job::{read_job, Job};
 use crate::checker::starts::{clash, exceeds, keeps_windows, Start};
 use crate::words::{self, field};
@@ -41,9 +42,8 @@ pub fn trial_on(job: &[u32], trial: &mut [u32]) -> Answer {
 /// "Showing writes the fact words for moments 0 to the present one to a buffer of the filler's least length, refused and
 /// answered like the filler's"
 pub fn trial_show(job: &[u32], trial: &[u32], buffer: &mut [u32]) -> Answer {
-    match lent_buffer(buffer.len()).and_then(|()| read_trial(job, trial)) {
-        Ok(trial) => {
-            let facts = shown(&trial);
+    match shown(job, trial, buffer.len()) {
+        Ok(facts) => {
             buffer[..facts.len()].copy_from_slice(&facts);
             Answer::success(facts.len(), 0)
         }
@@ -65,12 +65,16 @@ fn hand_back(trial: &mut [u32], moved: Result<(usize, Vec<u32>), Refusal>) -> An
     }
 }
 
-/// "Each call takes the job again and refuses a bad one, then a trial that no moves could give: 14, or the number that the
-/// check gives its starts"; "a refusal of the job keeps its position, any other refusal here has position 0".
+/// "Each call takes the job again and refuses a bad one, then a trial that no moves could give".
 fn read_trial(job: &[u32], trial: &[u32]) -> Result<Trial, Refusal> {
-    let last = read_job(job)?.last;
-    let (moment, words) = taken_apart(trial, last)?;
-    let plan = read_plan(job, &words).map_err(|of_starts| Refusal { position: 0, ..of_starts })?;
+    trial_of(read_job(job)?, trial)
+}
+
+/// "14, or the number that the check gives its starts"; "a refusal of the job keeps its position, any other refusal here has
+/// position 0".
+fn trial_of(job: Job, trial: &[u32]) -> Result<Trial, Refusal> {
+    let (moment, words) = taken_apart(trial, job.last)?;
+    let plan = plan_of(job, &words).map_err(|of_starts| Refusal { position: 0, ..of_starts })?;
     Ok(Trial { moment, words, plan })
 }
 
@@ -156,8 +160,12 @@ fn gone_on(trial: Trial) -> Result<(usize, Vec<u32>), Refusal> {
     }
 }
 
-/// "the facts shown equal the filler's for the accepted starts, up to the present moment"
-fn shown(trial: &Trial) -> Vec<u32> {
-    let facts = trial.plan.facts.iter().copied();
-    facts.filter(|&word| field(word, 12, 7) <= trial.moment).collect()
+/// "the facts shown equal the filler's for the accepted starts, up to the present moment"; "from 4,096 up to that it gives 12,
+/// right after the job's checks and before 14".
+fn shown(job: &[u32], trial: &[u32], length: usize) -> Result<Vec<u32>, Refusal> {
+    lent_buffer(length)?;
+    let job = read_job(job)?;
+    room_for_facts(&job, length)?;
+    let trial = trial_of(job, trial)?;
+    Ok(fact_words(&trial.plan.job.layout, &trial.plan.states[..=trial.moment]))
 }

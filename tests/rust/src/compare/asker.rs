@@ -4,6 +4,7 @@
 use crate::checker::answer::{Answer, Refusal};
 use crate::checker::calls::{self, Plan};
 use crate::checker::facts::row_11;
+use crate::checker::layout::WIDE;
 use crate::compare::find::{self, Find};
 use crate::compare::report::{shown, Report};
 use crate::compare::trial::{self, Lent};
@@ -12,12 +13,12 @@ use crate::generate::plan_damage;
 use crate::generate::plans::LawfulPlan;
 use crate::generate::trials::{Call, Trial};
 use crate::random::Random;
-use crate::words::{field, kind};
+use crate::words::{field, is_wide, kind};
 
 /// The calls to be held against the checker.
 pub struct Calls<'a> {
     pub of_trials: trial::Calls<'a>,
-    pub find: &'a Find,
+    pub find: &'a Find<'a>,
 }
 
 /// What is tried of a plan beside check and fill.
@@ -54,15 +55,32 @@ impl Question<'_> {
     /// nothing else is wrong.
     pub fn facts_but_for(&self, number: usize, kinds: &[usize]) -> Vec<u32> {
         match self.refusal() {
-            Some(refusal) if refusal.number == number => {
-                calls::fill(&without_kinds(self.job, kinds), self.starts, calls::LEAST_BUFFER).1
-            }
+            Some(refusal) if refusal.number == number => calls::facts(&without_kinds(self.job, kinds), self.starts),
             _ => self.facts().to_vec(),
+        }
+    }
+
+    /// What fill writes to a buffer of this length, or its refusal.
+    fn filled(&self, length: usize) -> Result<&[u32], Refusal> {
+        calls::lent_buffer(length)?;
+        match &self.right {
+            Err(refusal) if refusal.number <= 5 => Err(*refusal),
+            _ if is_wide(self.job) && length < WIDE.room => Err(Refusal { number: 12, position: 0 }),
+            Err(refusal) => Err(*refusal),
+            Ok(plan) => Ok(&plan.facts),
         }
     }
 
     pub fn told(&self) -> String {
         format!("{}\n {}", shown("job", self.job), shown("starts", self.starts))
+    }
+}
+
+/// Lengths of buffers for facts: mostly enough for the job.
+pub fn lengths(job: &[u32]) -> &'static [usize] {
+    match is_wide(job) {
+        true => &[16_384, 16_384, 16_384, 16_385, 16_400, 20_000, 16_383, 16_383, 10_000, 4_097, 4_096, 4_095, 0],
+        false => &[4_096, 4_096, 4_097, 5_000],
     }
 }
 
@@ -93,7 +111,7 @@ pub struct Asker<'a> {
 impl Asker<'_> {
     pub fn new<'a>(seed: u64, calls: &'a Calls<'a>, place: fn(usize) -> &'static str) -> Asker<'a> {
         let mut random = Random::new(seed);
-        let noise = random.words(5_000);
+        let noise: Vec<u32> = random.words(5_000).into_iter().cycle().take(100_000).collect();
         Asker { random, report: Report::new(), calls, noise, place }
     }
 
@@ -121,9 +139,15 @@ impl Asker<'_> {
 
     /// Each word of the buffer, and words on both sides of it, are the facts or as before.
     pub fn fill(&mut self, question: &Question) {
-        let length = *self.random.pick(&[4_096, 4_096, 4_097, 5_000]);
-        let facts = question.facts();
-        let answer = question.refusal().map_or_else(|| Answer::success(facts.len(), 0), Answer::refused);
+        let length = *self.random.pick(lengths(question.job));
+        self.fill_of(question, length);
+    }
+
+    /// The same with a buffer of this length; with the right answer.
+    pub fn fill_of(&mut self, question: &Question, length: usize) -> Answer {
+        let filled = question.filled(length);
+        let answer = filled.map_or_else(Answer::refused, |facts| Answer::success(facts.len(), 0));
+        let facts = filled.unwrap_or(&[]);
         self.count("fill", answer);
         let mut given_buffer = Lent::new(&self.noise[..length]);
         let mut right_buffer = given_buffer.clone();
@@ -131,12 +155,18 @@ impl Asker<'_> {
         let given = (self.calls.of_trials.fill)(question.job, question.starts, given_buffer.words_mut());
         let case = || format!("fill of {length} words, {}", question.told());
         self.report.judge((answer, true), (given, given_buffer == right_buffer), &case);
+        answer
     }
 
     /// Find, unless a set has more placements than may be tried.
     pub fn find(&mut self, question: &Question, facts: &[u32], most: usize) {
+        self.find_of(question, facts, calls::LEAST_BUFFER, most);
+    }
+
+    /// The same with a buffer of this length.
+    pub fn find_of(&mut self, question: &Question, facts: &[u32], length: usize, most: usize) {
         let case = FindCase { job: question.job.to_vec(), starts: question.starts.to_vec() };
-        let noise = self.noise[..calls::LEAST_BUFFER].to_vec();
+        let noise = self.noise[..length].to_vec();
         find::judge(&case, facts, noise, most, self.calls.find, &mut self.report);
     }
 
@@ -153,9 +183,15 @@ impl Asker<'_> {
     /// The trial shown, with an action started, and gone on from, each from the same words; with the right answers.
     pub fn trial(&mut self, job: &[u32], trial: &Trial, action: u32) -> [(Call, Answer); 3] {
         let slice = trial.slice(&mut self.random);
-        let buffer = Lent::new(&self.noise[..calls::LEAST_BUFFER]);
-        [Call::Show(calls::LEAST_BUFFER), Call::Start(action), Call::On].map(|call| {
-            let mut lent = Lent::new(&slice);
+        self.trial_of(job, &slice, action)
+    }
+
+    /// The same by the words of the slice.
+    pub fn trial_of(&mut self, job: &[u32], slice: &[u32], action: u32) -> [(Call, Answer); 3] {
+        let length = if is_wide(job) { *self.random.pick(lengths(job)) } else { calls::LEAST_BUFFER };
+        let buffer = Lent::new(&self.noise[..length]);
+        [Call::Show(length), Call::Start(action), Call::On].map(|call| {
+            let mut lent = Lent::new(slice);
             let right = trial::case(call, job, &mut lent, &buffer, &self.calls.of_trials, &mut self.report);
             self.count(call.name(), right);
             (call, right)

@@ -117,7 +117,7 @@ mod tests {
 
     const SEED: u64 = 81;
 
-    fn with_fill(fill: &Fill) -> Calls<'_> {
+    fn with_fill<'a>(fill: &'a Fill<'a>) -> Calls<'a> {
         Calls { of_trials: trial::right_calls(fill), find: &right_find }
     }
 

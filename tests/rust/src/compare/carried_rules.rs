@@ -334,7 +334,7 @@ fn facts_by(job: &[u32], starts: &[u32], rule: &Rule) -> Result<Vec<u32>, Refusa
     let starts = read_starts(&job, starts)?;
     let states = states_by(&job, &starts, rule);
     row_10(&job, &starts, &states)?;
-    Ok(fact_words(&states))
+    Ok(fact_words(&job.layout, &states))
 }
 
 /// Whether the plan tells the rule from the right one: other states are other facts, or a start without its needs.

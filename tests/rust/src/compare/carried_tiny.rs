@@ -89,7 +89,7 @@ fn facts(job: &Job, words: &[u32]) -> Result<Vec<u32>, Refusal> {
     let starts = read_starts(job, words)?;
     let states = states(job, &starts);
     row_10(job, &starts, &states)?;
-    Ok(fact_words(&states))
+    Ok(fact_words(&job.layout, &states))
 }
 
 /// What the buffer holds before each call.

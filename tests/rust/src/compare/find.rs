@@ -10,7 +10,7 @@ use crate::generate::finds::{self, FindCase};
 use crate::generate::{damage, plan_damage};
 use crate::random::Random;
 
-pub type Find = dyn Fn(&[u32], &[u32], &[u32], &mut [u32]) -> Answer;
+pub type Find<'a> = dyn Fn(&[u32], &[u32], &[u32], &mut [u32]) -> Answer + 'a;
 
 /// Task sets with more placements than this are left out of a run.
 const MOST_PLACEMENTS: usize = 300_000;
@@ -43,7 +43,7 @@ pub fn run_crowded(seed: u64, cases: usize, find: &Find) -> Report {
     let mut report = Report::new();
     while report.cases < cases {
         let case = finds::crowded(&mut random);
-        let facts = calls::fill(&case.job, &case.starts, calls::LEAST_BUFFER).1;
+        let facts = calls::facts(&case.job, &case.starts);
         let noise = random.words(calls::LEAST_BUFFER);
         judge(&case, &facts, noise, MOST_CROWDED, find, &mut report);
     }
@@ -53,7 +53,7 @@ pub fn run_crowded(seed: u64, cases: usize, find: &Find) -> Report {
 /// The case as it is, or now and then with something that an earlier row refuses.
 fn find_case(random: &mut Random, case: &FindCase, find: &Find, report: &mut Report) {
     let mut case = case.clone();
-    let mut facts = calls::fill(&case.job, &case.starts, calls::LEAST_BUFFER).1;
+    let mut facts = calls::facts(&case.job, &case.starts);
     let mut length = *random.pick(&[4_096, 4_096, 4_097, 5_000]);
     match random.below(40) {
         0 => case.job = damage::any(random, &case.job),

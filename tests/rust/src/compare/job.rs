@@ -31,7 +31,7 @@ pub fn run(seed: u64, rounds: usize, answer: &dyn Fn(&[u32]) -> Answer) -> Repor
 pub const COLUMNS: [&str; 6] = ["accepted", "1", "2", "3", "4", "5"];
 
 /// An accepted job counts for each kind and form in it, a refused one for the word or row refused.
-fn count(tally: &mut Tally, job: &[u32], answer: Answer) {
+pub fn count(tally: &mut Tally, job: &[u32], answer: Answer) {
     if answer.number == 0 {
         let sorts: BTreeSet<u32> = job.iter().map(|&word| sort(word)).collect();
         sorts.into_iter().for_each(|sort| tally.add(&label(sort), "accepted"));

@@ -8,13 +8,13 @@ use crate::generate::plans::{self, LawfulPlan};
 use crate::generate::{damage, plan_damage};
 use crate::random::Random;
 
-pub type Check = dyn Fn(&[u32], &[u32], &[u32]) -> Answer;
-pub type Fill = dyn Fn(&[u32], &[u32], &mut [u32]) -> Answer;
+pub type Check<'a> = dyn Fn(&[u32], &[u32], &[u32]) -> Answer + 'a;
+pub type Fill<'a> = dyn Fn(&[u32], &[u32], &mut [u32]) -> Answer + 'a;
 
 /// The two calls to be held against the checker.
 pub struct Calls<'a> {
-    pub check: &'a Check,
-    pub fill: &'a Fill,
+    pub check: &'a Check<'a>,
+    pub fill: &'a Fill<'a>,
 }
 
 /// One run; each round makes one lawful plan and some damages of it.
@@ -38,7 +38,7 @@ pub fn run(seed: u64, rounds: usize, calls: &Calls) -> Report {
 
 fn lawful_plan(random: &mut Random, plan: &LawfulPlan, calls: &Calls, report: &mut Report) {
     let job = plan.draft.words();
-    let facts = facts_of(&job, &plan.starts);
+    let facts = calls::facts(&job, &plan.starts);
     check_case(&job, &plan.starts, &facts, calls, report);
     let wrong = plan_damage::facts(random, &facts, plan.draft.last, plan.draft.fluents);
     check_case(&job, &plan.starts, &wrong, calls, report);
@@ -48,7 +48,7 @@ fn lawful_plan(random: &mut Random, plan: &LawfulPlan, calls: &Calls, report: &m
 fn damaged_starts(random: &mut Random, plan: &LawfulPlan, calls: &Calls, report: &mut Report) {
     let job = plan.draft.words();
     let starts = plan_damage::starts(random, &plan.starts, &plan.draft);
-    let facts = facts_of(&job, &starts);
+    let facts = calls::facts(&job, &starts);
     check_case(&job, &starts, &facts, calls, report);
     fill_case(random, &job, &starts, calls, report);
 }
@@ -56,24 +56,19 @@ fn damaged_starts(random: &mut Random, plan: &LawfulPlan, calls: &Calls, report:
 fn damaged_job(random: &mut Random, plan: &LawfulPlan, calls: &Calls, report: &mut Report) {
     let job = damage::any(random, &plan.draft.words());
     let starts = if random.chance(80) { plan.starts.clone() } else { random.words(3) };
-    let facts = facts_of(&job, &starts);
+    let facts = calls::facts(&job, &starts);
     check_case(&job, &starts, &facts, calls, report);
     fill_case(random, &job, &starts, calls, report);
 }
 
 fn long_lists(random: &mut Random, plan: &LawfulPlan, calls: &Calls, report: &mut Report) {
     let job = plan.draft.words();
-    let facts = plan_damage::very_long(random, &facts_of(&job, &plan.starts), 70_000);
+    let facts = plan_damage::very_long(random, &calls::facts(&job, &plan.starts), 70_000);
     check_case(&job, &plan.starts, &facts, calls, report);
     let length = *random.pick(&[4_096, 4_097, 70_000]);
     let starts = plan_damage::very_long(random, &plan.starts, length);
     check_case(&job, &starts, &[], calls, report);
     fill_case(random, &job, &starts, calls, report);
-}
-
-/// The list of the rules, or an empty one where the job or the starts are refused.
-fn facts_of(job: &[u32], starts: &[u32]) -> Vec<u32> {
-    calls::fill(job, starts, calls::LEAST_BUFFER).1
 }
 
 fn check_case(job: &[u32], starts: &[u32], facts: &[u32], calls: &Calls, report: &mut Report) {

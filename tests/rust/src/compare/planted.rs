@@ -15,17 +15,17 @@ pub fn right() -> Calls<'static> {
 }
 
 /// The checker's calls, with another check.
-pub fn checking(check: &Check) -> Calls<'_> {
+pub fn checking<'a>(check: &'a Check<'a>) -> Calls<'a> {
     Calls { of_trials: trial::Calls { check, ..trial::right_calls(&right_fill) }, ..right() }
 }
 
 /// With another start of trials.
-pub fn starting(start: &trial::Start) -> Calls<'_> {
+pub fn starting<'a>(start: &'a trial::Start<'a>) -> Calls<'a> {
     Calls { of_trials: trial::Calls { start, ..trial::right_calls(&right_fill) }, ..right() }
 }
 
 /// With another show of trials.
-pub fn showing(show: &trial::Show) -> Calls<'_> {
+pub fn showing<'a>(show: &'a trial::Show<'a>) -> Calls<'a> {
     Calls { of_trials: trial::Calls { show, ..trial::right_calls(&right_fill) }, ..right() }
 }
 

@@ -29,7 +29,7 @@ pub fn run(seed: u64, cases: usize, find: &Find) -> Report {
 fn judge(plan: &SetPlan, find: &Find, report: &mut Report) {
     assert_eq!(plan.root, Root::Set, "the root is a set");
     let case = plan.case();
-    let facts = calls::fill(&case.job, &case.starts, calls::LEAST_BUFFER).1;
+    let facts = calls::facts(&case.job, &case.starts);
     let given = find(&case.job, &case.starts, &facts, &mut vec![0; calls::LEAST_BUFFER]);
     let (reads, count) = all_placements(plan);
     let right = if reads { 0 } else { 13 };

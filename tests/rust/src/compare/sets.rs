@@ -43,7 +43,7 @@ pub fn run_triples(seed: u64, sets: usize, find: &Find) -> Report {
 
 fn judge(random: &mut Random, plan: &SetPlan, find: &Find, report: &mut Report) {
     let case = plan.case();
-    let facts = calls::fill(&case.job, &case.starts, calls::LEAST_BUFFER).1;
+    let facts = calls::facts(&case.job, &case.starts);
     let noise = random.words(calls::LEAST_BUFFER);
     if let Some(number) = find::judge(&case, &facts, noise, MOST_PLACEMENTS, find, report) {
         add(&mut report.tally, plan, &number.to_string());

@@ -12,23 +12,24 @@ use crate::generate::{damage, limits, noise};
 use crate::random::Random;
 use crate::words::start;
 
-pub type Begin = dyn Fn(&[u32], &mut [u32]) -> Answer;
-pub type Start = dyn Fn(&[u32], &mut [u32], u32) -> Answer;
-pub type On = dyn Fn(&[u32], &mut [u32]) -> Answer;
-pub type Show = dyn Fn(&[u32], &[u32], &mut [u32]) -> Answer;
+pub type Begin<'a> = dyn Fn(&[u32], &mut [u32]) -> Answer + 'a;
+pub type Start<'a> = dyn Fn(&[u32], &mut [u32], u32) -> Answer + 'a;
+pub type On<'a> = dyn Fn(&[u32], &mut [u32]) -> Answer + 'a;
+pub type Show<'a> = dyn Fn(&[u32], &[u32], &mut [u32]) -> Answer + 'a;
 
 /// The calls to be held against the checker, and the check and the filler that are asked after each move.
+#[derive(Clone, Copy)]
 pub struct Calls<'a> {
-    pub begin: &'a Begin,
-    pub start: &'a Start,
-    pub on: &'a On,
-    pub show: &'a Show,
-    pub check: &'a Check,
-    pub fill: &'a Fill,
+    pub begin: &'a Begin<'a>,
+    pub start: &'a Start<'a>,
+    pub on: &'a On<'a>,
+    pub show: &'a Show<'a>,
+    pub check: &'a Check<'a>,
+    pub fill: &'a Fill<'a>,
 }
 
 /// The checker's own calls.
-pub fn right_calls(fill: &Fill) -> Calls<'_> {
+pub fn right_calls<'a>(fill: &'a Fill<'a>) -> Calls<'a> {
     Calls {
         begin: &trial::trial_begin,
         start: &trial::trial_start,
@@ -294,11 +295,11 @@ mod tests {
         assert!(trial_moves::run(SEED, 400, &planted).differences > 0);
     }
 
-    fn with_start(start: &Start) -> Calls<'_> {
+    fn with_start<'a>(start: &'a Start<'a>) -> Calls<'a> {
         Calls { start, ..right_calls(&right_fill) }
     }
 
-    fn with_show(show: &Show) -> Calls<'_> {
+    fn with_show<'a>(show: &'a Show<'a>) -> Calls<'a> {
         Calls { show, ..right_calls(&right_fill) }
     }
 

@@ -18,7 +18,7 @@ pub fn run(seed: u64, cases: usize, find: &Find) -> Report {
     let mut report = Report::new();
     while report.cases < cases {
         let case = waits::any(&mut random);
-        let facts = calls::fill(&case.job, &case.starts, calls::LEAST_BUFFER).1;
+        let facts = calls::facts(&case.job, &case.starts);
         let outcome = calls::find_within(&case.job, &case.starts, &facts, calls::LEAST_BUFFER, MOST_PLACEMENTS);
         let Some(outcome) = outcome else {
             continue;

@@ -27,9 +27,12 @@ pub fn flipped(job: &[u32], word: usize, bit: usize) -> Vec<u32> {
     job
 }
 
-/// The bit ranges of each kind's fields, kind and form aside.
-fn fields(word: u32) -> &'static [(u32, u32)] {
+/// The bit ranges of each kind's fields, kind and form aside, in a wide job (L6) or a narrow one.
+fn fields(wide: bool, word: u32) -> &'static [(u32, u32)] {
     match kind(word) {
+        2 if wide => &[(8, 8), (7, 0)],
+        4 if wide => &[(9, 8), (7, 0)],
+        5 if wide && form(word) == 1 => &[(7, 0)],
         1 => &[(23, 16), (15, 8), (7, 0)],
         2 => &[(6, 6), (5, 0)],
         4 => &[(7, 6), (5, 0)],
@@ -50,7 +53,7 @@ pub fn one_field(random: &mut Random, job: &[u32]) -> Vec<u32> {
 
 pub fn one_field_of(random: &mut Random, job: &[u32], word: usize) -> Vec<u32> {
     let mut job = job.to_vec();
-    let &(high, low) = random.pick(fields(job[word]));
+    let &(high, low) = random.pick(fields(words::is_wide(&job), job[word]));
     job[word] = with_other(random, job[word], high, low);
     job
 }
@@ -157,11 +160,12 @@ pub fn named_again(random: &mut Random, job: &[u32]) -> Vec<u32> {
     let named = |word: u32| matches!(kind(word), 2 | 4 | 13 | 14);
     let places: Vec<usize> = (0..job.len()).filter(|&index| named(job[index])).collect();
     if let Some(&word) = places.get(random.below(places.len().max(1))) {
-        let value = (random.below(4) as u32) << 6;
+        let low = if words::is_wide(&job) { 8 } else { 6 };
+        let value = (random.below(4) as u32) << low;
         let again = match kind(job[word]) {
-            2 => job[word] & !words::bits(6, 6) | value & words::bits(6, 6),
+            2 => job[word] & !words::bits(low, low) | value & words::bits(low, low),
             13 | 14 => job[word],
-            _ => job[word] & !words::bits(7, 6) | value,
+            _ => job[word] & !words::bits(low + 1, low) | value,
         };
         job.insert(word + 1, again);
     }

@@ -97,7 +97,7 @@ fn narrow_condition(random: &mut Random, formulas: usize, members: usize) -> u32
     }
 }
 
-/// The case with some fields or starts changed, still well formed and lawful.
+/// The case with some fields or starts changed, still well formed and lawful, and of the same layout (L6).
 pub fn perturbed(random: &mut Random, case: &FindCase) -> FindCase {
     let mut case = case.clone();
     for _ in 0..random.between(1, 4) {
@@ -117,7 +117,8 @@ fn perturbed_once(random: &mut Random, case: &FindCase) -> FindCase {
             2 => other.job = damage::kind_or_form(random, &case.job),
             _ => other.job = damage::one_field_of(random, &case.job, word),
         }
-        if other != *case && read_plan(&other.job, &other.starts).is_ok() {
+        let same_layout = words::is_wide(&other.job) == words::is_wide(&case.job);
+        if other != *case && same_layout && read_plan(&other.job, &other.starts).is_ok() {
             return other;
         }
     }

@@ -19,5 +19,8 @@ pub mod set_draws;
 pub mod sets;
 pub mod trials;
 pub mod waits;
+pub mod wide_damage;
+pub mod wide_plans;
+pub mod widen;
 pub mod window_plans;
 pub mod windows;

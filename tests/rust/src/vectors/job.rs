@@ -1,6 +1,6 @@
 //! The job rows, word by word: the paper's sentences and the settled open points 1 to 9.
 
-use crate::vectors::{group_jobs, proved, window_jobs};
+use crate::vectors::{group_jobs, proved, wide_jobs, window_jobs};
 use crate::words::*;
 
 pub struct Vector {
@@ -30,6 +30,7 @@ pub fn vectors() -> Vec<Vector> {
         order(),
         window_jobs::vectors(),
         group_jobs::vectors(),
+        wide_jobs::vectors(),
     ];
     all.extend(groups.into_iter().flatten());
     all
@@ -75,9 +76,9 @@ fn heads() -> Vec<Vector> {
         vector("65 actions", headed(0x10014100), 3, 0),
         vector("n = 64", headed(0x10010140), 3, 0),
         vector("n = 255", headed(0x100101ff), 3, 0),
-        vector("point 4: bit 24 of a head is spare", headed(0x11010100), 2, 0),
+        vector("point 4: bit 25 of a head is spare", headed(0x12010100), 2, 0),
         vector("point 4: bit 27 of a head is spare", headed(0x18010100), 2, 0),
-        vector("point 4: spare before range", headed(0x11000000), 2, 0),
+        vector("point 4: spare before range", headed(0x12000000), 2, 0),
         vector("point 3: word 0 of kind 0", headed(0x00010100), 2, 0),
         vector("point 3: word 0 of kind 3", vec![action(0, 1), ACT], 2, 0),
         vector("point 3: a second head", vec![head(1, 1, 0), head(1, 1, 0), action(0, 1), ACT], 2, 1),

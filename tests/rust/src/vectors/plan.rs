@@ -1,6 +1,6 @@
 //! The rows on starts and facts: the paper's sentences and the settled open points 10 to 15.
 
-use crate::vectors::{carried, groups, windows};
+use crate::vectors::{carried, groups, wide_plans, windows};
 use crate::words::*;
 
 pub struct Vector {
@@ -16,7 +16,8 @@ pub struct Vector {
 
 pub fn vectors() -> Vec<Vector> {
     let rows = [row_6(), row_7_and_8(), row_9(), row_10(), lists(), row_11(), largest(), calls()];
-    let groups = rows.into_iter().chain([carried::vectors(), windows::vectors(), groups::vectors()]);
+    let groups =
+        rows.into_iter().chain([carried::vectors(), windows::vectors(), groups::vectors(), wide_plans::vectors()]);
     groups.flatten().collect()
 }
 

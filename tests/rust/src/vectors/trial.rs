@@ -2,7 +2,7 @@
 
 use crate::generate::trials::{self, Call};
 use crate::vectors::plan::{job, DROP, FOLD, LIFT, PRESS};
-use crate::vectors::{group_trials, window_trials};
+use crate::vectors::{group_trials, wide_buffers, window_trials};
 use crate::words::*;
 
 /// What comes back; after a refusal all words are as they were.
@@ -40,6 +40,7 @@ pub fn vectors() -> Vec<Vector> {
         limits(),
         window_trials::vectors(),
         group_trials::vectors(),
+        wide_buffers::trials(),
     ];
     groups.into_iter().flatten().collect()
 }
