@@ -533,13 +533,14 @@ static void door(void)
     if (known != all) fault("door, all facts of plan.w32");
 }
 
-/* The largest plan, its last start by hand. */
-static void large(void)
+/* Takes the job with this head whose first fluents are true, with 64 actions of duration 1, and a trial at moment 62 in which each action has
+ * started at every moment, but for action 0 at 62. */
+static void take_largest(uint32_t head, uint32_t fluents)
 {
-    static uint32_t words[64 + 64 * 2 + 3], list[64 * 63];
+    static uint32_t words[1 + 256 + 64 + 1], list[64 * 63];
     size_t n = 0, s = 0;
-    words[n++] = 0x1040403fu;
-    for (uint32_t f = 0; f < 64; f++) words[n++] = 0x20000000u | f;
+    words[n++] = head;
+    for (uint32_t f = 0; f < fluents; f++) words[n++] = 0x20000000u | f;
     for (uint32_t a = 0; a < 64; a++) words[n++] = 0x30000001u | a << 6;
     words[n++] = 0x60000000u;
     for (uint32_t u = 0; u < 63; u++)
@@ -547,6 +548,12 @@ static void large(void)
             if (u != 62 || a != 0) list[s++] = 0x90000000u | u << 6 | a;
     take_job(words, n);
     take_trial(62, list, (uint32_t)s);
+}
+
+/* The largest plan, its last start by hand. */
+static void large(void)
+{
+    take_largest(0x1040403fu, 64);
     shows_len("large, show at 62", TRIAL, BUFFER, 0, 0, 63 * 64);
     starts("large, the last start", 0, 0);
     starts("large, once more", 0, 8);
@@ -606,17 +613,7 @@ static void wide(void)
 /* The largest plan of a wide job, its last start by hand: 256 fluents, all true, at 64 moments. */
 static void wide_large(void)
 {
-    static uint32_t words[1 + 256 + 64 + 1], list[64 * 63];
-    size_t n = 0, s = 0;
-    words[n++] = 0x1100403fu;
-    for (uint32_t f = 0; f < 256; f++) words[n++] = 0x20000000u | f;
-    for (uint32_t a = 0; a < 64; a++) words[n++] = 0x30000001u | a << 6;
-    words[n++] = 0x60000000u;
-    for (uint32_t u = 0; u < 63; u++)
-        for (uint32_t a = 0; a < 64; a++)
-            if (u != 62 || a != 0) list[s++] = 0x90000000u | u << 6 | a;
-    take_job(words, n);
-    take_trial(62, list, (uint32_t)s);
+    take_largest(0x1100403fu, 256);
     shows_len("wide and large, show at 62", TRIAL, WIDE_BUFFER, 0, 0, 63 * 256);
     starts("wide and large, the last start", 0, 0);
     goes_on("wide and large, on", 0);
