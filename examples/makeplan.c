@@ -4,8 +4,8 @@
  *     cc -std=c11 -Iinclude examples/makeplan.c lib/libplanreader.a -o makeplan
  *     ./makeplan examples/door/job.w32 examples/door/starts.w32 plan.w32
  *
- * Exit status: 0 if the plan was written, 1 for a refusal, 2 for files that can't be used, or a plan that is too long for one. Then no file is
- * written, and one of that name stays as it was. */
+ * Exit status: 0 if the plan was written, 1 for a refusal, 2 for files that can't be used, or a plan that is too long for one. After a refusal,
+ * and for a plan that is too long, no file is written, and one of that name stays as it was. */
 #include "explain.h"
 
 static struct list job, starts;

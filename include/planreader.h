@@ -27,6 +27,8 @@
  * Each call returns one 64-bit number: refusal number, 0 for success, in bits 63..56; position, counted from 0 within the list
  * concerned, in 55..40; length in 39..24; count in 23..0.
  *
+ * For a job that is not wide (see below):
+ *
  *     uint32_t facts[PLANREADER_BUFFER_WORDS] = {0};
  *     uint64_t filled = fill(job, job_len, starts, starts_len, facts, PLANREADER_BUFFER_WORDS);
  *     if (planreader_number(filled) == 0)
@@ -48,8 +50,8 @@
  * libplanreader-prefixed.a, the same code: the calls are then planreader_check, planreader_fill, planreader_find, planreader_trial_begin
  * and so on, and the short names are free.
  *
- * A job whose head has 1 in bits 27..24 is wide: it has up to 256 fluents, and other fields in the words that name one. Its laws, its words of
- * what is initially known and its formulas of form 1 are made and read by the planreader_wide_ functions, and so are the facts of its plans;
+ * A job whose head has 1 in bits 27..24 is wide: it has up to 256 fluents, and other fields in the words that name one. Its head, its laws, its
+ * words of what is initially known and its formulas of form 1 are made and read by the planreader_wide_ functions, and so are the facts of its plans;
  * all other words are those of other jobs. fill and trial_show need a buffer of PLANREADER_WIDE_BUFFER_WORDS words for it, which serves every
  * job; find does not. A host that is given jobs looks at their heads:
  *

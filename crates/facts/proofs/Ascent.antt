@@ -7,12 +7,13 @@ use native.Mathlib.Omega.{arith}
 use lib.Dec.{eqb}
 use lib.ListN.{length, getD}
 use Rattle.words.specs.Scan.{concatBelow}
-use Rattle.words.specs.Fields.{unknown, holds, wide, mostFluents}
+use Rattle.words.specs.Fields.{unknown, holds, factMoment}
 use Rattle.job.specs.Parts.{headWord, fluents, lastMoment}
 use Rattle.job.specs.Code.WellFormed.{WellFormed}
 use Rattle.history.specs.Values.{valueAt}
 use Rattle.facts.specs.Facts.{factOf, factsAt, factsUpto, factsOf}
 use Rattle.words.proofs.Choices.{cond-all}
+use Rattle.words.proofs.Wide.{moments-apart}
 
 -- the words ascend strictly, and lie from low to below high
 data Climbs : ℕ → List ℕ → ℕ → Type 0 where
@@ -49,16 +50,7 @@ climbs-ascends (next h c) (suc i) (suc j) l m = climbs-ascends c i j (omega arit
 
 -- the least word on moment t and fluent f
 abbrev least : ℕ → ℕ → ℕ → ℕ
-least head t f = 10 * 2 ^ 28 + cond (wide head) (t * 2 ^ 9) (t * 2 ^ 7) + f * 2
-
--- the fluents of a moment leave room for those of the next
-next-moment : (head t : ℕ) {n : ℕ} → n ≤ mostFluents head → least head t n ≤ least head (suc t) 0
-next-moment head t {n} = cases (wide head)
-  where
-    cases : (b : Bool) → n ≤ cond b 256 64
-        → 10 * 2 ^ 28 + cond b (t * 2 ^ 9) (t * 2 ^ 7) + n * 2 ≤ 10 * 2 ^ 28 + cond b (suc t * 2 ^ 9) (suc t * 2 ^ 7) + 0 * 2
-    cases true l = omega arith
-    cases false l = omega arith
+least head t f = 10 * 2 ^ 28 + factMoment head t + f * 2
 
 fact-climbs : (head t f value : ℕ) → Climbs (least head t f) (factOf head t f value) (least head t (suc f))
 fact-climbs head t f value = cases (eqb value unknown) (eqb value holds)
@@ -75,7 +67,8 @@ module _ {job : List ℕ} (w : WellFormed job) (starts : List ℕ) where
   moment-climbs : (t : ℕ) → Climbs (least (headWord job) t 0) (factsAt job starts t) (least (headWord job) (suc t) 0)
   unfolding factsAt
   moment-climbs t =
-      to-higher (next-moment (headWord job) t (w .fluents-by-head))
+      let low : least (headWord job) t (fluents job) ≤ least (headWord job) (suc t) 0 = omega (arith, moments-apart (headWord job) t (fluents job) (w .fluents-by-head)) in
+      to-higher low
       (climbs-gather (least (headWord job) t) (λ f. factOf (headWord job) t f (valueAt job starts t f)) (fluents job) (λ f l. fact-climbs (headWord job) t f (valueAt job starts t f)))
 
   pub upto-ascend : (t i j : ℕ) → i < j → j < length (factsUpto job starts t) → getD (factsUpto job starts t) i 0 < getD (factsUpto job starts t) j 0

@@ -23,15 +23,15 @@ abbrev pub trialIn : List ℕ → Trial
 trialIn words = record { moment = getD words 0 0; starts = firstWords (getD words 1 0) (take 4096 (drop 2 words)) }
 
 -- fewer than 4,098 words are a trial that no moves could give
-abbrev pub roomRefusal : ℕ → Refusal
-roomRefusal room = row (ltb room 4098) 14 0
+abbrev pub trialRoomRefusal : ℕ → Refusal
+trialRoomRefusal room = row (ltb room 4098) 14 0
 
 -- beginning, a move, showing: each call's rows from the top. Beginning and moves answer as check does, showing as fill does.
 unfoldable pub beginAnswer : ℕ → List ℕ → Answer
-beginAnswer room job = answerOf (firstRow (jobRefusal job ∷ roomRefusal room ∷ [])) 0 0
+beginAnswer room job = answerOf (firstRow (jobRefusal job ∷ trialRoomRefusal room ∷ [])) 0 0
 
 unfoldable pub moveAnswer : List ℕ → List ℕ → Move → Answer
-moveAnswer job words m = answerOf (firstRow (jobRefusal job ∷ roomRefusal (length words) ∷ moveRefusal job (trialIn words) m ∷ [])) 0 0
+moveAnswer job words m = answerOf (firstRow (jobRefusal job ∷ trialRoomRefusal (length words) ∷ moveRefusal job (trialIn words) m ∷ [])) 0 0
 
 -- the facts that a trial shows: those of moments 0 to the present one
 abbrev pub shownFacts : List ℕ → Trial → List ℕ
@@ -41,7 +41,7 @@ unfoldable pub showAnswer : ℕ → List ℕ → List ℕ → Answer
 showAnswer room job words =
     answerOf
     (firstRow
-    (bufferRefusal room ∷ jobRefusal job ∷ factRoomRefusal room job ∷ roomRefusal (length words) ∷ trialRefusal job (trialIn words) ∷ []))
+    (bufferRefusal room ∷ jobRefusal job ∷ factRoomRefusal room job ∷ trialRoomRefusal (length words) ∷ trialRefusal job (trialIn words) ∷ []))
     (length (shownFacts job (trialIn words)))
     0
 

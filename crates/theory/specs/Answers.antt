@@ -16,8 +16,8 @@ use Rattle.job.specs.Refusal.{jobRefusal}
 use Rattle.facts.specs.Facts.{factsOf}
 use Rattle.starts.specs.Rows.{startsRefusal}
 
--- row 12: the lent buffer is shorter than 4,096 words; the same again, after the job's rows, where facts are written: it is shorter than the
--- facts of a plan may be that has a head like the job's
+-- row 12: the lent buffer is shorter than 4,096 words; again, after the job's rows and where facts are written: it is shorter than the facts
+-- of the job's plans may be
 abbrev pub bufferRefusal : ℕ → Refusal
 bufferRefusal room = row (ltb room 4096) 12 0
 

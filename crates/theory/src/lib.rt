@@ -213,7 +213,7 @@ pub fn check_plan(job: &[u32], starts: &[u32], facts: &[u32]) -> Answer
 // The words that a lent buffer has at least: more than a reading has, and as many as there can be facts, if the head is not wide.
 pub const BUFFER_WORDS: usize = 4096;
 
-// Row 12, of fill and of find.
+// The first row 12, of fill, find and trial_show.
 pub fn buffer_refusal(room: usize) -> Refusal
     ensures { λ r. ⌜ r ≡ bufferRefusal room ⌝ }
 {

@@ -67,11 +67,11 @@ module _ (job : List ℕ) (t : Trial) where
   pub inside-few : length (t .starts) ≡ 4096 → outside job (trialOf t) ≡ false → t .length ≤ 4096
   inside-few size e = rw (firstWords-length (t .length) (t .starts)) at (in-bounds job (trialOf t) e .few)
 
-  module _ (good : jobRefusal job .number ≡ 0) where
-    pub row-14 : (rows : Refusal) → rows .number ≡ 0 → outside job (trialOf t) ≡ true → refusal 14 0 ≡ firstRefusal rows (trialRefusal job (trialOf t))
-    unfolding trialRefusal
-    row-14 rows n e = rw (eq-eqb (rows .number) 0 n, e)
+  pub row-14 : (rows : Refusal) → rows .number ≡ 0 → outside job (trialOf t) ≡ true → refusal 14 0 ≡ firstRefusal rows (trialRefusal job (trialOf t))
+  unfolding trialRefusal
+  row-14 rows n e = rw (eq-eqb (rows .number) 0 n, e)
 
+  module _ (good : jobRefusal job .number ≡ 0) where
     module _ (size : length (t .starts) ≡ 4096) (within : outside job (trialOf t) ≡ false) where
       -- the number of the rows on the starts, at position 0
       pub start-rows : {r : Refusal} (rows : Refusal) → rows .number ≡ 0 → r ≡ planRefusal job (take (t .length) (t .starts))

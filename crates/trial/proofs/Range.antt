@@ -21,10 +21,10 @@ use Rattle.starts.proofs.RefusalFits.{starts-number}
 use Rattle.facts.proofs.Lists.{upto-fit}
 use Rattle.theory.specs.Answers.{bufferRefusal, factRoomRefusal}
 use Rattle.moves.specs.Trials.{Trial, Move, Start, On, outside, busy, trialRefusal, startRefusal, onRefusal, ownRefusal, moveRefusal}
-use Rattle.moves.specs.Calls.{trialIn, roomRefusal, beginAnswer, moveAnswer, showAnswer}
+use Rattle.moves.specs.Calls.{trialIn, trialRoomRefusal, beginAnswer, moveAnswer, showAnswer}
 use Rattle.moves.proofs.Passing.{bounds}
 
-room-fits : (room : ℕ) → Fitting (roomRefusal room)
+room-fits : (room : ℕ) → Fitting (trialRoomRefusal room)
 room-fits room = row-fits (ltb room 4098) 14 0 (omega arith) (omega arith)
 
 trial-fits : (job : List ℕ) (T : Trial) → Fitting (trialRefusal job T)
@@ -47,14 +47,14 @@ own-fits job T On = row-fits (leb (lastMoment job) (T .moment)) 14 0 (omega arit
 
 pub begin-range : (room : ℕ) (job : List ℕ) → InRange (beginAnswer room job)
 unfolding beginAnswer
-begin-range room job = answer-fits _ 0 0 (or-fits (jobRefusal job) (roomRefusal room) (job-fits job) (room-fits room)) (λ e. (omega arith, omega arith))
+begin-range room job = answer-fits _ 0 0 (or-fits (jobRefusal job) (trialRoomRefusal room) (job-fits job) (room-fits room)) (λ e. (omega arith, omega arith))
 
 pub move-range : (job words : List ℕ) (m : Move) → InRange (moveAnswer job words m)
 unfolding moveAnswer moveRefusal
 move-range job words m =
     answer-fits _ 0 0
     (or-fits (jobRefusal job) _ (job-fits job)
-    (or-fits (roomRefusal (length words)) _ (room-fits (length words))
+    (or-fits (trialRoomRefusal (length words)) _ (room-fits (length words))
     (or-fits (jobRefusal job) _ (job-fits job)
     (or-fits (trialRefusal job (trialIn words)) (ownRefusal job (trialIn words) m) (trial-fits job (trialIn words)) (own-fits job (trialIn words) m)))))
     (λ e. (omega arith, omega arith))
@@ -66,12 +66,12 @@ show-range room job words =
     (or-fits (bufferRefusal room) _ (row-fits (ltb room 4096) 12 0 (omega arith) (omega arith))
     (or-fits (jobRefusal job) _ (job-fits job)
     (or-fits (factRoomRefusal room job) _ (row-fits (ltb room (factRoom (headWord job))) 12 0 (omega arith) (omega arith))
-    (or-fits (roomRefusal (length words)) (trialRefusal job (trialIn words)) (room-fits (length words)) (trial-fits job (trialIn words))))))
+    (or-fits (trialRoomRefusal (length words)) (trialRefusal job (trialIn words)) (room-fits (length words)) (trial-fits job (trialIn words))))))
     (λ e.
     let late = or-none (bufferRefusal room) _ e .1 in
     let jobs = or-none (jobRefusal job) _ late in
     let formed = well-formed job (jobs .0) in
     let later = or-none (factRoomRefusal room job) _ (jobs .1) .1 in
-    let trial = or-none (roomRefusal (length words)) (trialRefusal job (trialIn words)) later .1 in
+    let trial = or-none (trialRoomRefusal (length words)) (trialRefusal job (trialIn words)) later .1 in
     let few = upto-fit job (trialIn words .starts) formed (trialIn words .moment) (omega (arith, bounds job (trialIn words) trial .present, formed .few-moments)) in
     (omega (arith, few, room-most (headWord job)), omega arith))

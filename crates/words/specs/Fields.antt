@@ -154,9 +154,13 @@ startAction s = field s 5 0
 abbrev pub startWord : ℕ → ℕ → ℕ
 startWord u a = 9 * 2 ^ 28 + u * 2 ^ 6 + a
 
--- kind 10, fact: the word that fluent f has a value, other than open, at moment t; how many words the facts of a plan may need
+-- kind 10, fact: the moment, in its place; the word that fluent f has a value, other than open, at moment t; how many words the facts of a
+-- plan may need
+abbrev pub factMoment : ℕ → ℕ → ℕ
+factMoment head t = cond (wide head) (t * 2 ^ 9) (t * 2 ^ 7)
+
 abbrev pub factWord : ℕ → ℕ → ℕ → ℕ → ℕ
-factWord head t f value = 10 * 2 ^ 28 + cond (wide head) (t * 2 ^ 9) (t * 2 ^ 7) + f * 2 + cond (eqb value holds) 0 1
+factWord head t f value = 10 * 2 ^ 28 + factMoment head t + f * 2 + cond (eqb value holds) 0 1
 
 abbrev pub factRoom : ℕ → ℕ
 factRoom head = cond (wide head) 16384 4096

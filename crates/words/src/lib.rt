@@ -1,5 +1,5 @@
 // The fields of the words, each read here alone, by the definitions of specs/Fields.antt; the kinds and the values by name.
-ghost use mathlib.Core.Bool.{Bool, cond};
+ghost use mathlib.Core.Bool.{cond};
 ghost use mathlib.Core.Path.{_≡_};
 ghost use Prim.Native.Nat.{_<_, _≤_};
 ghost use lib.ListN.{length, drop};
@@ -118,13 +118,13 @@ pub fn spare_5_0(w: u32) -> bool
 pub fn head_shape(head: u32) -> bool
     ensures { λ r. ⌜ r ≡ headShape head ⌝ }
 {
-    (head >> 24) % 16 <= 1
+    form_of(head) <= 1
 }
 
 fn is_wide(head: u32) -> bool
     ensures { λ r. ⌜ r ≡ wide head ⌝ }
 {
-    (head >> 24) % 16 == 1
+    form_of(head) == 1
 }
 
 // What a wide head has, or what the other has: of numbers, and of tests.

@@ -1,6 +1,5 @@
 -- `theory::judge_facts` meets its contract: a row before refuses, or it is left to the facts. Assumes nothing.
 use mathlib.Core.Path.{_≡_, sym, _∙_, ap}
-use Prim.Native.Nat.{ℕ}
 use Rattle.answers.specs.declared.Refusal.{Refusal}
 use Rattle.answers.specs.Rows.{firstRefusal}
 use Rattle.starts.specs.Rows.{startsRefusal}

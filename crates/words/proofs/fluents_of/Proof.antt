@@ -1,7 +1,5 @@
 -- `words::fluents_of` meets its contract. Assumes nothing.
 use native.Mathlib.Omega.{arith}
-use Rattle.words.proofs.Wide.{fluents-most}
-use mathlib.Core.Path.{_≡_}
 use borrow.Author.Needs.{needs}
 use Rattle.words.proofs.fluents_of.Statement.{statement}
 use Rattle.words.proofs.fluents_of.Tie as tie

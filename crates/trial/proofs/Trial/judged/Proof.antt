@@ -51,7 +51,7 @@ returns-2 c =
     let refused : c .refused2 .result .refusal .number ≡ 0 → ⊥ = λ z.
     let e = sym (ap (λ (r : Refusal). r .number) made) ∙ z in omega arith in
     record {
-      refusal = made ∙ row-14 (s .args .job .now) (s .args .self) (good (passed o)) (s .args .checked .refusal) (passed o .if1 .left) (sym (o .is-outside .ensures .bounds) ∙ c .before .before .if2 .taken);
+      refusal = made ∙ row-14 (s .args .job .now) (s .args .self) (s .args .checked .refusal) (passed o .if1 .left) (sym (o .is-outside .ensures .bounds) ∙ c .before .before .if2 .taken);
       passed = λ z. absurd (refused z);
       sized = λ z. absurd (refused z);
     }
