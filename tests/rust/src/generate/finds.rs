@@ -126,7 +126,7 @@ fn perturbed_once(random: &mut Random, case: &FindCase) -> FindCase {
 }
 
 /// A plan of that last moment whose job has formulas; formula 0 always holds.
-fn plan_with_formulas(random: &mut Random, last: usize) -> (Draft, Vec<u32>) {
+pub fn plan_with_formulas(random: &mut Random, last: usize) -> (Draft, Vec<u32>) {
     let mut draft = plans::plan_job_until(random, last);
     let flags = random.below(3);
     let first_stop = draft.actions.len();
