@@ -1,7 +1,9 @@
 //! Formulas that look back (L7, form 5): among those of jobs that are drawn otherwise, and in cases of their own; and damage to
 //! their words.
 
+use crate::checker::calls::read_plan;
 use crate::checker::formulas::Value;
+use crate::checker::readings::world::World;
 use crate::generate::draft::Draft;
 use crate::generate::finds::{self, FindCase};
 use crate::generate::histories::{self, History};
@@ -46,9 +48,10 @@ pub fn any(random: &mut Random) -> FindCase {
     draft.formulas = formulas(random, &draft);
     let nodes = *random.pick(&[3, 7, 10, 10, 15, 15, 20, 30, 64]);
     draft.nodes.clear();
-    match random.chance(80) {
-        true => programs::add_readable(random, &mut draft, &starts, nodes),
-        false => jobs::add_nodes(random, &mut draft, nodes),
+    match random.below(10) {
+        0 => jobs::add_nodes(random, &mut draft, nodes),
+        1..=3 if draft.last <= 12 => add_set(random, &mut draft, &starts),
+        _ => programs::add_readable(random, &mut draft, &starts, nodes),
     }
     let case = FindCase { job: draft.words(), starts };
     match random.chance(40) {
@@ -57,10 +60,59 @@ pub fn any(random: &mut Random) -> FindCase {
     }
 }
 
+/// A set of one or two waits between tests, with conditions 2 to 4 on formulas that look back.
+fn add_set(random: &mut Random, draft: &mut Draft, starts: &[u32]) {
+    let asked = looking_back(draft, starts);
+    let members = *random.pick(&[1, 2, 2, 2]);
+    let mut set = vec![words::node(8, 0, 0, 0, 0)];
+    for _ in 0..members {
+        let x = draft.nodes.len();
+        for _ in 0..2 {
+            let formula = if random.chance(70) { 0 } else { random.below(draft.formulas.len()) };
+            draft.nodes.push(vec![words::node(1, formula, 0, 0, 0)]);
+        }
+        let m = random.below(6);
+        draft.nodes.push(vec![words::node(6, x, x + 1, m, m + *random.pick(&[0, 0, 1, 3, 8]))]);
+        set.push(words::member(x + 2));
+    }
+    for _ in 0..random.between(1, 2) {
+        let formula = *random.pick(&asked);
+        set.extend(conditions(random, formula, members));
+    }
+    draft.nodes.push(set);
+}
+
+/// The formulas of form 5 that hold somewhere, or else 'always'.
+fn looking_back(draft: &Draft, starts: &[u32]) -> Vec<usize> {
+    let with_node = Draft { nodes: vec![vec![words::node(0, 0, 0, 0, 0)]], ..draft.clone() };
+    let world = World::new(read_plan(&with_node.words(), starts).unwrap_or_else(|_| panic!("starts are lawful")));
+    let holds = |&number: &usize| (0..=draft.last).any(|t| world.holds(number, t));
+    let of_form_5 = (0..draft.formulas.len()).filter(|&number| form(draft.formulas[number]) == 5);
+    let asked: Vec<usize> = of_form_5.filter(holds).collect();
+    match asked.is_empty() {
+        true => vec![0],
+        false => asked,
+    }
+}
+
+/// Condition 2, 3 or 4, and before a condition 4 one by which j begins after i.
+fn conditions(random: &mut Random, formula: usize, members: usize) -> Vec<u32> {
+    let i = random.below(members);
+    let j = (i + 1) % members;
+    let m = random.below(2);
+    match *random.pick(&[2, 3, 4, 4]) {
+        4 => {
+            let between = words::condition(4, formula, i, j, m * random.below(2), random.below(3) / 2);
+            vec![words::condition(1, 0, i, j, 0, random.between(1, 3)), between]
+        }
+        form => vec![words::condition(form, formula, i, 0, m, m + random.below(3))],
+    }
+}
+
 /// Mostly fluents with a drawn history, else a plan as find gets it.
 fn plan(random: &mut Random) -> (Draft, Vec<u32>) {
     let last = *random.pick(&[0, 1, 2, 3, 4, 5, 6, 7, 8, 9, 10, 12, 16, 24, 63]);
-    if random.chance(25) {
+    if random.chance(20) {
         return finds::plan_with_formulas(random, last);
     }
     let histories: Vec<History> = (0..random.between(1, 4)).map(|_| drawn_history(random, last)).collect();
@@ -70,8 +122,28 @@ fn plan(random: &mut Random) -> (Draft, Vec<u32>) {
     (made.draft, made.starts)
 }
 
-/// Known for a while, often for long, and open for a few moments between.
+/// Runs of values, or the same value at all moments but one.
 fn drawn_history(random: &mut Random, last: usize) -> History {
+    let mut history = match random.chance(30) {
+        true => one_value(random, last),
+        false => runs(random, last),
+    };
+    limit_open(&mut history);
+    if !histories::can_be(&history) {
+        history[last] = Value::Holds;
+    }
+    history
+}
+
+fn one_value(random: &mut Random, last: usize) -> History {
+    let mut history = vec![*random.pick(&[Value::Holds, Value::Holds, Value::Fails]); last + 1];
+    let other = random.below(last + 1);
+    history[other] = *random.pick(&[Value::Holds, Value::Fails, Value::Open]);
+    history
+}
+
+/// Known for a while, often for long, and open for a few moments between.
+fn runs(random: &mut Random, last: usize) -> History {
     let longest = *random.pick(&[2, 3, 6, 12, 64]);
     let mut history = vec![];
     while history.len() <= last {
@@ -83,10 +155,6 @@ fn drawn_history(random: &mut Random, last: usize) -> History {
         history.extend(vec![value; random.between(1, most)]);
     }
     history.truncate(last + 1);
-    limit_open(&mut history);
-    if !histories::can_be(&history) {
-        history[last] = Value::Holds;
-    }
     history
 }
 
@@ -118,31 +186,35 @@ fn free_action(random: &mut Random, last: usize) -> (usize, Vec<usize>) {
     (duration, moments)
 }
 
-/// Formula 0 always holds, the next are fluents; of the others half are of form 5, many of these on one another.
+/// Formula 0 always holds, the next are fluents; of the others most are of form 5. In one job of six each is on the one before.
 fn formulas(random: &mut Random, draft: &Draft) -> Vec<u32> {
-    let how_many = *random.pick(&[3, 5, 8, 8, 12, 12, 20, 64]);
-    let fluents = draft.fluents.min(random.between(1, 4));
+    let how_many = *random.pick(&[4, 6, 8, 10, 12, 16, 20, 64]);
+    let fluents = draft.fluents.min(random.between(1, 2));
+    let deep = random.chance(16);
     let mut formulas = vec![words::formula(0, 0, 0)];
     for number in 1..how_many {
         let form = match number <= fluents {
             true => 1,
-            false => *random.pick(&[1, 2, 2, 3, 4, 5, 5, 5, 5, 5]),
+            false => *random.pick(&[2, 3, 4, 5, 5, 5, 5, 5]),
         };
         formulas.push(match form {
-            5 => held(random, number, fluents, draft.last),
+            1 => words::formula(1, random.below(draft.fluents), 0),
+            _ if deep && random.chance(20) => words::formula(2, number - 1, 0),
+            _ if deep => words::formula(5, number - 1, *random.pick(&[0, 1, 1, 1, 2, 3])),
+            5 => words::formula(5, lower(random, number, fluents), moments(random, draft.last)),
             _ => jobs::formula_word(random, draft.fluents, number, form),
         });
     }
     formulas
 }
 
-fn held(random: &mut Random, number: usize, fluents: usize, last: usize) -> u32 {
-    let x = match random.below(4) {
+/// X: the formula before, 'always' or one of the first fluents, or any.
+fn lower(random: &mut Random, number: usize, fluents: usize) -> usize {
+    match random.below(4) {
         0 => number - 1,
         1 => random.between(0, fluents.min(number - 1)),
         _ => random.below(number),
-    };
-    words::formula(5, x, moments(random, last))
+    }
 }
 
 /// Where the job's formulas stand.
