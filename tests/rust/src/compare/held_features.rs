@@ -62,8 +62,11 @@ const SPANS: [(&str, fn(&Span) -> bool); 15] = [
     ("a span of ten or more holds", |span| span.now == Holds && span.x.len() >= 10),
 ];
 
-/// What stands on form 5, and how many of it on one another.
-const JOINED: [&str; 6] = ["under not", "under and", "under or", "two deep", "five deep", "ten deep"];
+/// What stands on form 5.
+const JOINED: [&str; 3] = ["under not", "under and", "under or"];
+
+/// How many of form 5 stand on one another.
+const DEPTHS: [(&str, usize); 3] = [("two deep", 2), ("five deep", 5), ("ten deep", 10)];
 
 /// Uses of a formula that looks back.
 const USES: [&str; 6] = ["in a test", "in an if", "in a loop", "in condition 2", "in condition 3", "in condition 4"];
@@ -72,12 +75,11 @@ const USES: [&str; 6] = ["in a test", "in an if", "in a loop", "in condition 2",
 pub fn add(tally: &mut Tally, world: &World, reads: bool) {
     let job = &world.job;
     let looks_back: Vec<usize> = (0..job.formulas.len()).map(|number| depth(job, number)).collect();
-    let uses: Vec<(&str, usize)> = job.nodes.iter().flat_map(uses).filter(|&(_, named)| looks_back[named] > 0).collect();
-    let mut names: Names = uses.iter().map(|&(name, _)| name).collect();
-    for (_, named) in &uses {
-        let deep = looks_back[*named];
-        names.extend([(2, JOINED[3]), (5, JOINED[4]), (10, JOINED[5])].iter().filter(|(least, _)| deep >= *least).map(|at| at.1));
-        below(job, *named).into_iter().for_each(|number| add_formula(&mut names, world, number));
+    let mut names = Names::new();
+    for (name, named) in job.nodes.iter().flat_map(uses).filter(|&(_, named)| looks_back[named] > 0) {
+        names.insert(name);
+        names.extend(DEPTHS.iter().filter(|(_, least)| looks_back[named] >= *least).map(|(name, _)| name));
+        below(job, named).into_iter().for_each(|number| add_formula(&mut names, world, number));
     }
     let column = if reads { "0" } else { "13" };
     names.into_iter().for_each(|name| tally.add(name, column));
@@ -185,7 +187,7 @@ pub fn needed(cases: usize) -> Vec<Needed> {
     need("check", &["0"], 1);
     need("fill", &["0"], 1);
     let sizes = SIZES.iter().map(|(name, _)| name);
-    let spans = SPANS.iter().map(|(name, _)| name);
+    let spans = SPANS.iter().map(|(name, _)| name).chain(DEPTHS.iter().map(|(name, _)| name));
     sizes.chain(&FORMS).chain(&USES).for_each(|name| need(name, &both, 200));
     spans.chain(&JOINED).for_each(|name| need(name, &both, 800));
     need("kind 5 form 5", &["2", "3"], 20);

@@ -114,7 +114,9 @@ fn at_once(job: &[u32], nodes: &[usize], conditions: &[usize]) -> Result<Job, Re
     for node in &mut job.nodes {
         let looks_now = nodes.contains(&node.form());
         match node {
-            Node::Test(formula) | Node::If { formula, .. } | Node::While { formula, .. } if looks_now => *formula += own,
+            Node::Test(formula) | Node::If { formula, .. } | Node::While { formula, .. } if looks_now => {
+                *formula += own
+            }
             Node::TaskSet { conditions: all, .. } => {
                 let named = all.iter_mut().filter(|condition| conditions.contains(&condition.form));
                 named.for_each(|condition| condition.formula += own);

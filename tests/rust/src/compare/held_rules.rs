@@ -108,7 +108,11 @@ const SPANS: [Rule; 12] = [
     Rule { name: "two values at most", held: |asked| least(&asked.with(asked.y.min(1)).span(Open)), ..RIGHT },
     Rule { name: "the values to come, t to t + Y", held: to_come, ..RIGHT },
     Rule { name: "all values from 0 to t", held: |asked| least(&asked.x[..=asked.t]), ..RIGHT },
-    Rule { name: "Y above n is taken as n", held: |asked| least(&asked.with(asked.y.min(asked.last())).span(Open)), ..RIGHT },
+    Rule {
+        name: "Y above n is taken as n",
+        held: |asked| least(&asked.with(asked.y.min(asked.last())).span(Open)),
+        ..RIGHT
+    },
     Rule { name: "Y = 0 always holds", held: |asked| if asked.y == 0 { Holds } else { right(asked) }, ..RIGHT },
 ];
 

@@ -161,11 +161,10 @@ fn joined() -> Vec<Vector> {
 
 /// n = 63; and as many formulas as there can be, each on the one before.
 fn longest() -> Vec<Vector> {
-    let letters = |runs: &[(&str, usize)]| -> String { runs.iter().map(|(letter, times)| letter.repeat(*times)).collect() };
+    let letters =
+        |runs: &[(&str, usize)]| -> String { runs.iter().map(|(letter, times)| letter.repeat(*times)).collect() };
     let open = "o".repeat(64);
-    let always = |name, y: usize| {
-        told(name, &[&open], &[ALWAYS, held(0, y)], &letters(&[("o", y), ("h", 64 - y)]))
-    };
+    let always = |name, y: usize| told(name, &[&open], &[ALWAYS, held(0, y)], &letters(&[("o", y), ("h", 64 - y)]));
     let fluent = |name, fluent: &[(&str, usize)], y, values: &[(&str, usize)]| {
         told(name, &[&letters(fluent)], &[FLUENT_0, held(0, y)], &letters(values))
     };
@@ -244,9 +243,8 @@ fn branches() -> Vec<Vector> {
 
 /// A loop until the glue has set: action 0 at 0, 1 and 2 while X has not held for Y moments; n = 3.
 fn loops() -> Vec<Vector> {
-    let case = |fluent, y| {
-        plan(&[(1, &[0, 1, 2])], fluent, &[FLUENT_0, held(0, y), 0x52000040, act(0), node(5, 2, 0, 0, 0)])
-    };
+    let case =
+        |fluent, y| plan(&[(1, &[0, 1, 2])], fluent, &[FLUENT_0, held(0, y), 0x52000040, act(0), node(5, 2, 0, 0, 0)]);
     let reading: &[(usize, usize, usize)] = &[(1, 0, 3), (0, 0, 1), (0, 1, 2), (0, 2, 3)];
     vec![
         case("fhhh", 2).reads("glue at 1 has set at 3, the end of the loop", reading, 7),
