@@ -11,7 +11,7 @@ use crate::generate::finds::FindCase;
 use crate::generate::held;
 use crate::generate::trials::Trial;
 
-pub const COLUMNS: [&str; 9] = ["0", "2", "3", "11", "13", "6", "accepted", "told", "14"];
+pub const COLUMNS: [&str; 9] = ["0", "2", "3", "5", "11", "13", "14", "accepted", "told"];
 
 /// Cases with a set of more placements than this are not given to find.
 const MOST_PLACEMENTS: usize = 20_000;

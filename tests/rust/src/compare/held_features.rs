@@ -71,13 +71,16 @@ const DEPTHS: [(&str, usize); 3] = [("two deep", 2), ("five deep", 5), ("ten dee
 /// Uses of a formula that looks back.
 const USES: [&str; 6] = ["in a test", "in an if", "in a loop", "in condition 2", "in condition 3", "in condition 4"];
 
+/// Of a case with any such use.
+const ANY: &str = "a formula that looks back is named";
+
 /// Counts a lawful case, by whether it has a reading.
 pub fn add(tally: &mut Tally, world: &World, reads: bool) {
     let job = &world.job;
     let looks_back: Vec<usize> = (0..job.formulas.len()).map(|number| depth(job, number)).collect();
     let mut names = Names::new();
     for (name, named) in job.nodes.iter().flat_map(uses).filter(|&(_, named)| looks_back[named] > 0) {
-        names.insert(name);
+        names.extend([ANY, name]);
         names.extend(DEPTHS.iter().filter(|(_, least)| looks_back[named] >= *least).map(|(name, _)| name));
         below(job, named).into_iter().for_each(|number| add_formula(&mut names, world, number));
     }
@@ -186,6 +189,7 @@ pub fn needed(cases: usize) -> Vec<Needed> {
     need("find", &both, 4);
     need("check", &["0"], 1);
     need("fill", &["0"], 1);
+    need(ANY, &both, 6);
     let sizes = SIZES.iter().map(|(name, _)| name);
     let spans = SPANS.iter().map(|(name, _)| name).chain(DEPTHS.iter().map(|(name, _)| name));
     sizes.chain(&FORMS).chain(&USES).for_each(|name| need(name, &both, 200));
