@@ -116,7 +116,7 @@ fn below(job: &Job, number: usize) -> BTreeSet<usize> {
 }
 
 /// The formulas that a node names, each with its use.
-fn uses(node: &Node) -> Vec<(&'static str, usize)> {
+pub fn uses(node: &Node) -> Vec<(&'static str, usize)> {
     match node {
         Node::Test(formula) => vec![(USES[0], *formula)],
         Node::If { formula, .. } => vec![(USES[1], *formula)],

@@ -4,7 +4,7 @@
 //! No case can tell the order in which 'and' is taken: with its table the least of the values comes out in any order.
 
 use crate::checker::answer::{Answer, Refusal};
-use crate::checker::calls::{no_reading, plan_of};
+use crate::checker::calls::{no_reading, plan_of, Plan};
 use crate::checker::facts::{row_11, State};
 use crate::checker::formulas::{value_of, Value};
 use crate::checker::job::{read_job, Formula, Job};
@@ -12,6 +12,7 @@ use crate::checker::readings::build::readings;
 use crate::checker::readings::decision::decide_within;
 use crate::checker::readings::literal::Triple;
 use crate::checker::readings::world::World;
+use crate::compare::held_features::uses;
 use crate::compare::held_job_rules::{USES, WORDS};
 use Value::{Fails, Holds, Open};
 
@@ -225,13 +226,23 @@ fn row(columns: &[Vec<Value>], t: usize) -> Vec<Value> {
 /// Sets with more placements than this are not decided.
 const MOST_PLACEMENTS: usize = 20_000;
 
-/// Find by a rule: its answer, without the length, and a reading; none where a set has too many placements.
-pub fn found_by(rule: &Rule, job: &[u32], starts: &[u32], facts: &[u32]) -> Option<(Answer, Vec<u32>)> {
-    let read = (rule.reads)(job).and_then(|job| plan_of(job, starts));
-    let plan = match read.and_then(|plan| row_11(&plan.facts, facts).map(|()| plan)) {
-        Ok(plan) => plan,
-        Err(refusal) => return Some((Answer::refused(refusal), vec![])),
-    };
+fn plan_by(rule: &Rule, job: &[u32], starts: &[u32], facts: &[u32]) -> Result<Plan, Refusal> {
+    let plan = plan_of((rule.reads)(job)?, starts)?;
+    row_11(&plan.facts, facts)?;
+    Ok(plan)
+}
+
+/// What the nodes and conditions of a plan hear of the formulas that they name, at all moments.
+fn heard(rule: &Rule, plan: &Plan) -> Vec<Vec<Value>> {
+    let values = values_by(rule, &plan.job, &plan.states);
+    let column = |(_, formula)| values.iter().map(|row| row[formula]).collect();
+    plan.job.nodes.iter().flat_map(uses).map(column).collect()
+}
+
+/// The answer without its length, and a reading; none where a set has too many placements.
+type Found = Option<(Answer, Vec<u32>)>;
+
+fn found(rule: &Rule, plan: Plan) -> Found {
     let world = World::by(plan, &|job, states| values_by(rule, job, states));
     let decision = decide_within(&world, MOST_PLACEMENTS)?;
     let root = Triple { node: world.root(), begin: 0, end: world.last() };
@@ -241,9 +252,25 @@ pub fn found_by(rule: &Rule, job: &[u32], starts: &[u32], facts: &[u32]) -> Opti
     })
 }
 
-/// The slips that a case tells from the right rule by number, position or count.
+/// Find by a rule.
+pub fn found_by(rule: &Rule, job: &[u32], starts: &[u32], facts: &[u32]) -> Found {
+    match plan_by(rule, job, starts, facts) {
+        Ok(plan) => found(rule, plan),
+        Err(refusal) => Some((Answer::refused(refusal), vec![])),
+    }
+}
+
+/// The slips that a case tells from the right rule by number, position or count. Where all nodes and conditions hear the same by
+/// both, the answers are the same.
 pub fn told(job: &[u32], starts: &[u32], facts: &[u32]) -> Vec<&'static str> {
-    let answer = |rule: &Rule| found_by(rule, job, starts, facts).map(|(answer, _)| answer);
-    let right = answer(&RIGHT);
-    slips().iter().filter(|slip| answer(slip) != right).map(|slip| slip.name).collect()
+    let by = |rule: &Rule| plan_by(rule, job, starts, facts);
+    let answer = |found: Found| found.map(|(answer, _)| answer);
+    let right_heard = by(&RIGHT).map(|plan| heard(&RIGHT, &plan));
+    let right_answer = answer(found_by(&RIGHT, job, starts, facts));
+    let tells = |slip: &Rule| match (by(slip), &right_heard) {
+        (Ok(plan), Ok(right)) => heard(slip, &plan) != *right && answer(found(slip, plan)) != right_answer,
+        (Err(refusal), Err(right)) => refusal != *right,
+        _ => true,
+    };
+    slips().iter().filter(|slip| tells(slip)).map(|slip| slip.name).collect()
 }
