@@ -5,12 +5,13 @@ ghost use Prim.Native.Nat.{ℕ, _+_, _*_, _<_, _≤_};
 ghost use lib.ListN.{getD};
 ghost use Rattle.history.specs.Values.{valueAt};
 ghost use Rattle.history.specs.Code.Tables.{History};
-ghost use Rattle.formulas.specs.Values.{andTable, orTable, byTable, formValue};
+ghost use Rattle.formulas.specs.Values.{andTable, orTable, byTable, ago, heldFor, formValue};
 ghost use Rattle.formulas.specs.Code.Table.{Small, Connectives, tabled, Grounds, ColumnsBefore, ColumnReady, FormulaTable};
 use words::FAILS;
 use words::FLUENTS;
 use words::HOLDS;
 use words::MOMENTS;
+use words::OPEN;
 use words::atom_fluent;
 use words::form_of;
 use words::formula_x;
@@ -32,6 +33,31 @@ fn by_table(table: &[u8; 9], a: u8, b: u8) -> u8
     table[a as usize * VALUES + b as usize]
 }
 
+// The value of formula `x` at `k` moments before `t`: open before moment 0.
+fn ago(values: &[u8; 4096], x: usize, t: usize, k: usize) -> u8
+    requires { ⌜ (x < 64) × (t < 64) ⌝ }
+    ensures { λ r. ⌜ r ≡ ago (λ u. getD (now (values .entry)) (x * 64 + u) 0) t k ⌝ }
+{
+    if t < k {
+        return OPEN;
+    }
+    values[x * MOMENTS + (t - k)]
+}
+
+// Whether formula `x` has held for `y` moments at moment `t`: 'and' over its values, oldest first.
+fn held_for(and: &[u8; 9], values: &[u8; 4096], x: usize, y: usize, t: usize) -> u8
+    requires { ⌜ Small (now and) × Small (now values) × (x < 64) × (t < 64) ⌝ }
+    ensures { λ r. ⌜ r ≡ heldFor (now (and .entry)) (λ u. getD (now (values .entry)) (x * 64 + u) 0) y t ⌝ }
+{
+    let mut k = y;
+    let mut r = ago(values, x, t, k);
+    while 0 < k {
+        k -= 1;
+        r = by_table(and, r, ago(values, x, t, k));
+    }
+    r
+}
+
 // The value of the formula word `w` at moment `t`, by the history and the table so far.
 fn form_value(
     and: &[u8; 9],
@@ -42,7 +68,7 @@ fn form_value(
     values: &[u8; 4096],
     t: usize,
 ) -> u8
-    requires { ⌜ Small (now values) × (t < 64) ⌝ }
+    requires { ⌜ Small (now and) × Small (now values) × (t < 64) ⌝ }
     ensures { λ r. ⌜ r ≡ formValue (now (and .entry)) (now (or .entry)) head w
         (tabled (now (history .entry))) (λ k u. getD (now (values .entry)) (k * 64 + u) 0) t ⌝ }
 {
@@ -54,7 +80,8 @@ fn form_value(
         1 => history[t * FLUENTS + atom_fluent(head, w)],
         2 => HOLDS - values[x * MOMENTS + t],
         3 => by_table(and, values[x * MOMENTS + t], values[y * MOMENTS + t]),
-        _ => by_table(or, values[x * MOMENTS + t], values[y * MOMENTS + t]),
+        4 => by_table(or, values[x * MOMENTS + t], values[y * MOMENTS + t]),
+        _ => held_for(and, values, x, y, t),
     }
 }
 
