@@ -14,13 +14,13 @@ ago-most value t most k = cond-all (λ v. v ≤ 2) (leb k t) (most (t - k) (omeg
 
 module _ (conj : List ℕ) (value : ℕ → ℕ) (t : ℕ) where
   -- the next value after those that end k moments before t
-  pub throughout-more : (y k : ℕ) → 0 < k → k ≤ y
-      → throughout conj value t (k - 1) (y - (k - 1)) ≡ byTable conj (throughout conj value t k (y - k)) (ago value t (k - 1))
+  pub throughout-more : (y k : ℕ) {r v next : ℕ} → 0 < k → k ≤ y → r ≡ throughout conj value t k (y - k) → v ≡ ago value t (k - 1)
+      → next ≡ byTable conj r v → next ≡ throughout conj value t (k - 1) (y - (k - 1))
   unfolding throughout
-  throughout-more y k l m =
-      let one : y - (k - 1) ≡ suc (y - k) = omega arith in
-      let next : suc (k - 1) ≡ k = omega arith in
-      rw (one, next)
+  throughout-more y k l m so-far v-is e =
+      let one-more : y - (k - 1) ≡ suc (y - k) = omega arith in
+      let back : suc (k - 1) ≡ k = omega arith in
+      rw (one-more, back, ← so-far, ← v-is) e
 
   pub held-most : Small conj → ((u : ℕ) → u ≤ t → value u ≤ 2) → (y : ℕ) → heldFor conj value y t ≤ 2
   unfolding throughout

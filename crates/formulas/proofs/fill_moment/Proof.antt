@@ -1,6 +1,6 @@
 -- `formulas::fill_moment` meets its contract. The invariant: the entries of the formulas below `k` are written. Assumes nothing.
 use mathlib.Core.List.{List}
-use mathlib.Core.Path.{_≡_, _∙_}
+use mathlib.Core.Path.{_≡_}
 use Prim.Native.Nat.{ℕ, _-_, _<_, _≤_}
 use Rattle.job.specs.Parts.{headWord, formulaWord}
 use Rattle.job.specs.Code.Parts.{formulaCount}
@@ -71,7 +71,7 @@ loop-again c =
       few = old .few;
       soon = old .soon;
       filled = fill-entry (old .soon) (turn .k) (omega arith) (turn .values) (c .form-value .result) most (old .filled)
-          (given ∙ formula-found (a .and .now) (a .or .now) (p .grounds .well) (tabled (a .history .now)) (turn .k) (a .t) l (turn .values) (filled-columns (old .filled) (omega arith)));
+          (rw given (formula-found (a .and .now) (a .or .now) (p .grounds .well) (tabled (a .history .now)) (turn .k) (a .t) l (turn .values) (filled-columns (old .filled) (omega arith))));
     }
 
 returns : tie.Need-returns Inv-loop μ-loop

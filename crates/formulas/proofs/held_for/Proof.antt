@@ -54,8 +54,8 @@ loop-again c =
       bound = omega (arith, turn .inv .bound);
       most = rw (c .by-table .ensures) (start .pre .0 .most _);
       so-far =
-          rw (throughout-more (a .and .now) (row (a .values .now) (a .x)) (a .t) (a .y) (turn .k) (c .before .before .loop-test .taken) (turn .inv .bound), ← turn .inv .so-far, ← c .before .ago2 .ensures)
-          (c .by-table .ensures);
+          throughout-more (a .and .now) (row (a .values .now) (a .x)) (a .t) (a .y) (turn .k) (omega (arith, c .before .before .loop-test .taken)) (turn .inv .bound)
+          (turn .inv .so-far) (c .before .ago2 .ensures) (c .by-table .ensures);
     }
 
 returns : tie.Need-returns Inv-loop μ-loop
