@@ -42,7 +42,7 @@ fn hold_to_limits() {
 }
 
 /// Whether instructions are within each of their limits.
-fn instruction_limits() -> [bool; 6] {
+fn instruction_limits() -> [bool; 7] {
     [
         walks::instructions_within_limits(),
         walks::windows_within_limit(),
@@ -50,6 +50,7 @@ fn instruction_limits() -> [bool; 6] {
         walks::fluents_within_limits(),
         trials::instructions_are_within(),
         finds::instructions_within_limits(),
+        held::instructions_within_limit(),
     ]
 }
 
