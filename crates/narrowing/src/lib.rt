@@ -203,7 +203,7 @@ fn beyond(state: Open, found: u64) -> Open
     }
 }
 
-// The set with member i begun at x, to ends that are not found yet.
+// The set with member i begun at x, to ends that are not found yet. Where no end is left for `last`, the bounds are not asked.
 pub fn placed(
     ends: &[u64; 1024],
     goes: &[u64; 1024],
@@ -218,7 +218,12 @@ pub fn placed(
     requires { ⌜ PutReady count state i x ⌝ }
     ensures { λ r. ⌜ (r .from ≡ state .from) × (r .last ≡ state .last) × IsSetOf (r .left) (λ k. has (state .left) k && not (eqb k i)) × ((bs es : ℕ → ℕ) → InTables (now (ends .entry)) (now (goes .entry)) (now (later .entry)) count (state .from) bs es → BoundsHave count (now (bounds .entry)) bs es → InDomains count state bs es → bs i ≡ x → In found (es (state .last)) ⊎ InDomains count r bs es) ⌝ }
 {
+    let last = state.last;
     let next = put(ends, goes, later, count, beyond(state, found), i, x);
+    let left = next.ends;
+    if left[last] == 0 {
+        return next;
+    }
     bounds::tighten(bounds, count, next)
 }
 

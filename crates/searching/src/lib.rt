@@ -154,7 +154,8 @@ fn tries(
     r
 }
 
-// `found` with the ends of `goal` from a where member `first` begins at a and `last` ends last.
+// `found` with the ends of `goal` from a where member `first` begins at a and `last` ends last. Nothing is placed where `last` has none that is
+// not found yet.
 fn from_first(
     conds: &[u32],
     allow: &[u64; 512],
@@ -172,6 +173,10 @@ fn from_first(
     requires { ⌜ SearchReady (now conds) (now ends) count a (found .upto) × (first < count) × (last < count) ⌝ }
     ensures { λ r. ⌜ Grown (now (conds .entry)) (now (allow .entry)) (now (ends .entry)) count a found r × ((e : ℕ) (bs es : ℕ → ℕ) → Masked (now (conds .entry)) (now (allow .entry)) (now (ends .entry)) count a e bs es → InTables (now (ends .entry)) (now (goes .entry)) (now (later .entry)) count a bs es → BoundsHave count (now (bounds .entry)) bs es → e ≤ found .upto → bs first ≡ a → es last ≡ e → In goal e → In (r .ends) e) ⌝ }
 {
+    let sought = bitset::minus(goal, found.ends);
+    if bitset::inter(later[last * MOMENTS + a as usize], sought) == 0 {
+        return found;
+    }
     let state = narrowing::unplaced(later, count, a, found.upto, last, goal);
     let next = narrowing::placed(
         ends,
