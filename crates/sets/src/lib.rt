@@ -2,6 +2,7 @@
 // members), bounds (on begins, by the ends of others), rows (the ends of a set from each begin) and placing (begins and ends of the members).
 mod bounds;
 mod conditions;
+mod firsts;
 pub mod placing;
 pub mod rows;
 mod tables;
