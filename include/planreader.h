@@ -230,14 +230,15 @@ enum planreader_role {
     PLANREADER_MAKES_FALSE = 3
 };
 
-/* Forms, bits 27..24: of formulas (the value of one at a moment t depends on what is known at the moments up to t, and on nothing later), */
+/* Forms, bits 27..24: of formulas, */
 enum planreader_formula_form {
     PLANREADER_ALWAYS = 0,
     PLANREADER_FLUENT = 1, /* fluent X */
     PLANREADER_NOT = 2, /* not formula X */
     PLANREADER_AND = 3, /* formulas X and Y */
     PLANREADER_OR = 4,
-    PLANREADER_HELD_FOR = 5 /* formula X has held for Y moments: at t, 'and' over X at t - Y to t, where X counts as open before moment 0 */
+    PLANREADER_HELD_FOR = 5 /* formula X has held for Y moments: at t, 'and' over X at t - Y to t, where X counts as open before moment 0.
+                               So the value of a formula at t depends on what is known at the moments up to t, and on nothing later. */
 };
 
 /* of nodes, */
@@ -386,7 +387,7 @@ static inline uint32_t planreader_wide_fluent(unsigned fluent)
 static inline uint32_t planreader_not(unsigned formula) { return planreader_formula(PLANREADER_NOT, formula, 0); }
 static inline uint32_t planreader_and(unsigned x, unsigned y) { return planreader_formula(PLANREADER_AND, x, y); }
 static inline uint32_t planreader_or(unsigned x, unsigned y) { return planreader_formula(PLANREADER_OR, x, y); }
-/* A lower formula, then for how many moments it has held: a number from 0 to 63, no formula. With 0 it is that formula itself. */
+/* A lower formula, then for how many moments it has held: a number from 0 to 63, no formula. With 0 its value is that of the formula. */
 static inline uint32_t planreader_held_for(unsigned formula, unsigned moments)
 {
     return planreader_formula(PLANREADER_HELD_FOR, formula, moments);

@@ -18,6 +18,8 @@ pub fn shapes() -> Vec<Shape> {
     // the last member begins before the second, ends by the begin of the first, and not at 63
     let bound = [condition(0, 0, 3, 1, 0, 63), condition(3, 0, 3, 0, 1, 1), condition(1, 0, 3, 0, 0, 63)];
     let later = [condition(0, 0, 2, 1, 1, 63), condition(0, 0, 1, 3, 1, 63)];
+    let alone: Vec<u32> = (0..8).map(|c| condition(2 + c % 2, 1, c / 2 % 2, 0, 0, 0)).collect();
+    let together: Vec<u32> = (0..8).map(|c| condition(4, 1, c % 2, (c + 1) % 2, 0, 0)).collect();
     vec![
         shape("eight nested sets of four, acts", nested(0, 0, &[]), NEST),
         shape("eight nested sets of four, ends up to b + 1, begins in order", nested(1, 1, &later), NEST),
@@ -25,6 +27,8 @@ pub fn shapes() -> Vec<Shape> {
         shape("eight nested sets of four, all ends, the last member by the first", nested(2, 63, &bound), NEST),
         shape("62 sets of one with 8 conditions", sets_of_one(false), LOOP),
         shape("62 sets of one with 8 conditions, in a loop", sets_of_one(true), LOOP),
+        shape("a set of two in a loop, 8 conditions on one member each", set_of_two(&alone), LOOP),
+        shape("a set of two in a loop, 8 conditions on both members", set_of_two(&together), LOOP),
     ]
 }
 
@@ -45,11 +49,9 @@ fn nested(spans: usize, span: usize, conditions: &[u32]) -> (Vec<u32>, Vec<u32>)
     (nodes.words, (0..63).map(|u| start(u, 0)).collect())
 }
 
-/// An act within 62 sets, each of which has eight conditions that it meets; alone, or as the body of a loop of 63 passes.
+/// An act within 62 sets, each of which has eight conditions that it meets; alone, or as the body of a loop.
 fn sets_of_one(looped: bool) -> (Vec<u32>, Vec<u32>) {
-    let formulas = [formula(1, 0, 0), formula(0, 0, 0)];
-    let actions = [action(0, 1), action(1, 1), law(3, 0)];
-    let mut nodes = Nodes::after([&[head(1, 2, 63), initially(0, true)], &actions[..], &formulas].concat());
+    let (mut nodes, starts) = before_loop();
     let mut conditions = vec![condition(0, 0, 0, 0, 0, 63), condition(2, 1, 0, 0, 0, 0), condition(3, 1, 0, 0, 0, 0)];
     conditions.extend((0..5).map(|c| condition(4, 1, 0, 0, c, c)));
     let mut inside = nodes.act(0);
@@ -59,7 +61,23 @@ fn sets_of_one(looped: bool) -> (Vec<u32>, Vec<u32>) {
     if looped {
         nodes.add(node(5, 0, inside, 0, 0), &[]);
     }
+    (nodes.words, starts)
+}
+
+/// Two acts in a set, as the body of a loop.
+fn set_of_two(conditions: &[u32]) -> (Vec<u32>, Vec<u32>) {
+    let (mut nodes, starts) = before_loop();
+    let members = [nodes.act(0), nodes.act(0)];
+    let set = nodes.set(&members, conditions);
+    nodes.add(node(5, 0, set, 0, 0), &[]);
+    (nodes.words, starts)
+}
+
+/// For a loop of 63 passes: action 0 starts at every moment but the last, and formula 0 holds at these; formula 1 holds always.
+fn before_loop() -> (Nodes, Vec<u32>) {
+    let formulas = [formula(1, 0, 0), formula(0, 0, 0)];
+    let actions = [action(0, 1), action(1, 1), law(3, 0)];
     let mut starts: Vec<u32> = (0..63).map(|u| start(u, 0)).collect();
     starts.push(start(62, 1));
-    (nodes.words, starts)
+    (Nodes::after([&[head(1, 2, 63), initially(0, true)], &actions[..], &formulas].concat()), starts)
 }

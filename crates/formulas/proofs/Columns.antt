@@ -48,7 +48,7 @@ module _ {conj disj job : List ℕ} {fluent : ℕ → ℕ → ℕ} where
     -- the columns up to t, as far as that of t is filled
     pub filled-columns : {k : ℕ} {values : List ℕ} → Filling conj disj job fluent t k values → k ≤ formulaCount job
         → (u : ℕ) → u ≤ t → ColumnAt conj disj job fluent u k values
-    filled-columns {k} {values} h l u b =
+    filled-columns h l u b =
         by-cases (decLt u t) (λ m. record { entry = λ x q. h .others u m .entry x (omega arith) })
         (λ m. let same : u ≡ t = omega arith in rw same (h .here))
 

@@ -9,8 +9,8 @@ use Rattle.words.proofs.Choices.{cond-all}
 use Rattle.formulas.specs.Values.{byTable, ago, throughout, heldFor}
 use Rattle.formulas.specs.Code.Table.{Small}
 
-pub ago-most : (value : ℕ → ℕ) (t : ℕ) → ((u : ℕ) → u ≤ t → value u ≤ 2) → (k : ℕ) → ago value t k ≤ 2
-ago-most value t most k = cond-all (λ v. v ≤ 2) (leb k t) (most (t - k) (omega arith)) (omega arith)
+pub ago-most : (value : ℕ → ℕ) (t : ℕ) → ((u : ℕ) → value u ≤ 2) → (k : ℕ) → ago value t k ≤ 2
+ago-most value t most k = cond-all (λ v. v ≤ 2) (leb k t) (most (t - k)) (omega arith)
 
 module _ (conj : List ℕ) (value : ℕ → ℕ) (t : ℕ) where
   -- the next value after those that end k moments before t
@@ -22,7 +22,7 @@ module _ (conj : List ℕ) (value : ℕ → ℕ) (t : ℕ) where
       let back : suc (k - 1) ≡ k = omega arith in
       rw (one-more, back, ← so-far, ← v-is) e
 
-  pub held-most : Small conj → ((u : ℕ) → u ≤ t → value u ≤ 2) → (y : ℕ) → heldFor conj value y t ≤ 2
+  pub held-most : Small conj → ((u : ℕ) → value u ≤ 2) → (y : ℕ) → heldFor conj value y t ≤ 2
   unfolding throughout
   held-most s most zero = ago-most value t most 0
   held-most s most (suc y) = s .most _

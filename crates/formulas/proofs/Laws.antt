@@ -1,4 +1,4 @@
--- Laws of the values of formulas: they are three, and follow from those of lower formulas and of the fluents at the moments up to theirs.
+-- Laws of the values of formulas: each is one of the three, and follow from those of lower formulas and of the fluents at the moments up to theirs.
 -- Assumes nothing.
 use mathlib.Core.Bool.{Bool, true, false, cond}
 use mathlib.Core.List.{List}
@@ -7,7 +7,6 @@ use Prim.Native.Nat.{ℕ, zero, suc, _+_, _*_, _≤_, _<_}
 use native.Mathlib.Omega.{arith}
 use borrow.Author.Tests.{eqb-true, eqb-false, eq-eqb}
 use lib.Dec.{eqb}
-use lib.ListN.{getD}
 use Rattle.words.proofs.Choices.{cond-when, cond-all, cond-same}
 use Rattle.words.specs.Fields.{form, formulaX, formulaY, atomFluent}
 use Rattle.job.specs.Parts.{headWord, lastMoment, formulaWord}
@@ -17,7 +16,7 @@ use Rattle.history.specs.Values.{valueAt}
 use Rattle.history.specs.Code.Tables.{History}
 use Rattle.history.proofs.Values.{value-most}
 use Rattle.formulas.specs.Values.{formValue, formulaBelow, formulaAt, ValueUpTo}
-use Rattle.formulas.specs.Code.Table.{Connectives, tabled, Grounds, ColumnAt, FormulaTable}
+use Rattle.formulas.specs.Code.Table.{Connectives, tabled, tabulated, Grounds, ColumnAt, FormulaTable}
 use Rattle.formulas.proofs.Held.{held-most, held-same}
 
 module _ (conj disj : List ℕ) (head w : ℕ) where
@@ -30,7 +29,7 @@ module _ (conj disj : List ℕ) (head w : ℕ) where
       (λ e. cond-all (λ v. v ≤ 2) (eqb (form w) 2) (omega arith)
       (cond-all (λ v. v ≤ 2) (eqb (form w) 3) (c .conjunction .most _)
       (cond-all (λ v. v ≤ 2) (eqb (form w) 4) (c .disjunction .most _)
-      (held-most conj (lower (formulaX w)) t (c .conjunction) (λ u m. l (formulaX w) u) (formulaY w))))))
+      (held-most conj (lower (formulaX w)) t (c .conjunction) (l (formulaX w)) (formulaY w))))))
 
   -- only what the form refers to matters: of X, its values up to t
   pub form-agree : (fluent fluent' lower lower' : ℕ → ℕ → ℕ) (t : ℕ) → (form w ≡ 1 → fluent t (atomFluent head w) ≡ fluent' t (atomFluent head w))
@@ -41,13 +40,13 @@ module _ (conj disj : List ℕ) (head w : ℕ) where
   form-agree fluent fluent' lower lower' t a b c =
       cond-same (eqb (form w) 0) (λ e. refl)
       (λ e₀. cond-same (eqb (form w) 1) (λ e. a (eqb-true (form w) 1 e))
-      (λ e₁. cond-same (eqb (form w) 2) (λ e. rw (now (omega (arith, eqb-true (form w) 2 e))))
-      (λ e₂. cond-same (eqb (form w) 3) (λ e. let h = eqb-true (form w) 3 e in rw (now (omega arith), c (omega arith) (omega arith)))
-      (λ e₃. cond-same (eqb (form w) 4) (λ e. let h = eqb-true (form w) 4 e in rw (now (omega arith), c (omega arith) (omega arith)))
+      (λ e₁. cond-same (eqb (form w) 2) (λ e. rw (at-t (omega (arith, eqb-true (form w) 2 e))))
+      (λ e₂. cond-same (eqb (form w) 3) (λ e. let h = eqb-true (form w) 3 e in rw (at-t (omega arith), c (omega arith) (omega arith)))
+      (λ e₃. cond-same (eqb (form w) 4) (λ e. let h = eqb-true (form w) 4 e in rw (at-t (omega arith), c (omega arith) (omega arith)))
       (λ e₄. held-same conj (lower (formulaX w)) t (lower' (formulaX w)) (b (omega (arith, eqb-false (form w) 0 e₀, eqb-false (form w) 1 e₁))) (formulaY w))))))
     where
-      now : 2 ≤ form w → lower (formulaX w) t ≡ lower' (formulaX w) t
-      now l = b l t (omega arith)
+      at-t : 2 ≤ form w → lower (formulaX w) t ≡ lower' (formulaX w) t
+      at-t l = b l t (omega arith)
 
 module _ (conj disj job : List ℕ) (fluent : ℕ → ℕ → ℕ) where
   -- the rule of formula k, by the values of lower ones
@@ -91,14 +90,14 @@ module _ (conj disj : List ℕ) {job : List ℕ} (p : WellFormed job) where
   -- what is found from the fluents, the columns before t and that of t so far is the value
   pub formula-found : (fluent : ℕ → ℕ → ℕ) (k t : ℕ) → k < formulaCount job → (values : List ℕ)
       → ((u : ℕ) → u ≤ t → ColumnAt conj disj job fluent u k values)
-      → formValue conj disj (headWord job) (formulaWord job k) fluent (λ x u. getD values (x * 64 + u) 0) t ≡ formulaAt conj disj job fluent k t
+      → formValue conj disj (headWord job) (formulaWord job k) fluent (tabulated values) t ≡ formulaAt conj disj job fluent k t
   formula-found fluent k t l values h =
       form-agree conj disj (headWord job) (formulaWord job k) _ _ _ _ t (λ e. refl)
       (λ e. lower _ (p .formula k l .lower-x e))
       (λ e m. lower _ (p .formula k l .lower-y e m) t (omega arith))
       ∙ sym (formula-rule conj disj job fluent k t)
     where
-      lower : (x : ℕ) → x < k → (u : ℕ) → u ≤ t → getD values (x * 64 + u) 0 ≡ formulaBelow conj disj job fluent k x u
+      lower : (x : ℕ) → x < k → (u : ℕ) → u ≤ t → tabulated values x u ≡ formulaBelow conj disj job fluent k x u
       lower x m u b = h u b .entry x m ∙ sym (below-is conj disj job fluent k x u m)
 
   -- by the history of a plan: the plan's values

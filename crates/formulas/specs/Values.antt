@@ -1,4 +1,4 @@
--- The value of formula k at moment t, over the whole history of states. 'And' and 'or' come in as two tables of three by three.
+-- The value of formula k at moment t, by the history of states up to t. 'And' and 'or' come in as two tables of three by three.
 use mathlib.Core.Bool.{cond}
 use mathlib.Core.List.{List, [], _∷_}
 use mathlib.Core.Path.{_≡_}
@@ -22,17 +22,18 @@ byTable table a b = getD table (a * 3 + b) 0
 abbrev pub ago : (ℕ → ℕ) → ℕ → ℕ → ℕ
 ago value t k = cond (leb k t) (value (t - k)) unknown
 
--- 'and' over the y + 1 values that end k moments before t, oldest first
+-- 'and' over the values from k + y to k moments before t, oldest first
 unfoldable pub throughout : List ℕ → (ℕ → ℕ) → ℕ → ℕ → ℕ → ℕ
 throughout conj value t k zero = ago value t k
 throughout conj value t k (suc y) = byTable conj (throughout conj value t (suc k) y) (ago value t k)
 
--- a formula with these values has held for y moments at t: 'and' over its values at t - y to t (bounded 'historically', of past temporal logic)
+-- a formula with these values has held for y moments at t: 'and' over its values at t - y to t. It is bounded 'historically' of metric temporal
+-- logic, where moments before the first do not count; here they are open.
 abbrev pub heldFor : List ℕ → (ℕ → ℕ) → ℕ → ℕ → ℕ
 heldFor conj value y t = throughout conj value t 0 y
 
--- the value of a formula word at moment t: by the fluents' values at any moment, and the lower formulas' values at any moment. The forms
--- are always, a fluent, not, and, or, has held for Y moments; a job that passes has no other.
+-- the value of a formula word at moment t, by the values of the fluents and of the lower formulas: those of X up to t for form 5, those at t for
+-- all others. The forms are always, a fluent, not, and, or, has held for Y moments; a job that passes has no other.
 unfoldable pub formValue : List ℕ → List ℕ → ℕ → ℕ → (ℕ → ℕ → ℕ) → (ℕ → ℕ → ℕ) → ℕ → ℕ
 formValue conj disj head w fluent lower t =
     cond (eqb (form w) 0) holds

@@ -2,11 +2,10 @@
 ghost use mathlib.Core.List.{List};
 ghost use mathlib.Core.Path.{_≡_};
 ghost use Prim.Native.Nat.{ℕ, _+_, _*_, _<_, _≤_};
-ghost use lib.ListN.{getD};
 ghost use Rattle.history.specs.Values.{valueAt};
 ghost use Rattle.history.specs.Code.Tables.{History};
 ghost use Rattle.formulas.specs.Values.{andTable, orTable, byTable, ago, heldFor, formValue};
-ghost use Rattle.formulas.specs.Code.Table.{Small, Connectives, tabled, Grounds, ColumnsBefore, ColumnReady, FormulaTable};
+ghost use Rattle.formulas.specs.Code.Table.{Small, Connectives, tabled, tabulated, Grounds, ColumnsBefore, ColumnReady, FormulaTable};
 use words::FAILS;
 use words::FLUENTS;
 use words::HOLDS;
@@ -36,7 +35,7 @@ fn by_table(table: &[u8; 9], a: u8, b: u8) -> u8
 // The value of formula `x` at `k` moments before `t`: open before moment 0.
 fn ago(values: &[u8; 4096], x: usize, t: usize, k: usize) -> u8
     requires { ⌜ (x < 64) × (t < 64) ⌝ }
-    ensures { λ r. ⌜ r ≡ ago (λ u. getD (now (values .entry)) (x * 64 + u) 0) t k ⌝ }
+    ensures { λ r. ⌜ r ≡ ago (tabulated (now (values .entry)) x) t k ⌝ }
 {
     if t < k {
         return OPEN;
@@ -44,10 +43,10 @@ fn ago(values: &[u8; 4096], x: usize, t: usize, k: usize) -> u8
     values[x * MOMENTS + (t - k)]
 }
 
-// Whether formula `x` has held for `y` moments at moment `t`: 'and' over its values, oldest first.
+// The value of 'formula `x` has held for `y` moments' at moment `t`: 'and' over the values of `x`, oldest first.
 fn held_for(and: &[u8; 9], values: &[u8; 4096], x: usize, y: usize, t: usize) -> u8
     requires { ⌜ Small (now and) × Small (now values) × (x < 64) × (t < 64) ⌝ }
-    ensures { λ r. ⌜ r ≡ heldFor (now (and .entry)) (λ u. getD (now (values .entry)) (x * 64 + u) 0) y t ⌝ }
+    ensures { λ r. ⌜ r ≡ heldFor (now (and .entry)) (tabulated (now (values .entry)) x) y t ⌝ }
 {
     let mut k = y;
     let mut r = ago(values, x, t, k);
@@ -70,7 +69,7 @@ fn form_value(
 ) -> u8
     requires { ⌜ Small (now and) × Small (now values) × (t < 64) ⌝ }
     ensures { λ r. ⌜ r ≡ formValue (now (and .entry)) (now (or .entry)) head w
-        (tabled (now (history .entry))) (λ k u. getD (now (values .entry)) (k * 64 + u) 0) t ⌝ }
+        (tabled (now (history .entry))) (tabulated (now (values .entry))) t ⌝ }
 {
     let form = form_of(w);
     let x = formula_x(w);

@@ -49,7 +49,7 @@ formulaShape head w =
     || (eqb (form w) 2 && (spare w 23 12 && spare w 5 0))
     || (within 3 5 (form w) && spare w 23 12)
 
--- its fluent is the job's; the formulas that it refers to are declared. The Y of form 5 is a number of moments, and may be any
+-- its fluent is the job's; the formulas that it refers to are declared. The Y of form 5 is a number of moments, and any is lawful
 abbrev pub formulaRange : ℕ → ℕ → ℕ → Bool
 formulaRange head formulas w =
     implies (eqb (form w) 1) (ltb (atomFluent head w) (fluentsOf head))

@@ -4,11 +4,10 @@ ghost use mathlib.Core.Path.{_≡_};
 ghost use mathlib.Core.Logic.{_↔_, _⊎_};
 ghost use mathlib.Core.Bool.{not, _&&_};
 ghost use mathlib.Core.List.{List};
-ghost use Prim.Native.Nat.{ℕ, _+_, _*_, _<_, _≤_};
+ghost use Prim.Native.Nat.{ℕ, _<_, _≤_};
 ghost use lib.Dec.{eqb};
-ghost use lib.ListN.{getD};
 ghost use Rattle.bitset.specs.Code.Members.{has, In, IsSetOf};
-ghost use Rattle.narrowing.specs.Code.Tables.{pairAt, InTables, BoundsHave};
+ghost use Rattle.narrowing.specs.Code.Tables.{InTables, BoundsHave};
 ghost use Rattle.narrowing.specs.Code.Open.{UnplacedReady, PutReady, InDomains};
 
 pub mod bounds;
@@ -22,40 +21,6 @@ pub struct Open {
     pub left: u64,
     pub begins: [u64; 4],
     pub ends: [u64; 4],
-}
-
-// The begins and ends that one member may still have.
-pub struct Choice {
-    pub begins: u64,
-    pub ends: u64,
-}
-
-// What member j keeps where member i begins at x, within a window of moments.
-fn narrowed(
-    ends: &[u64; 1024],
-    goes: &[u64; 1024],
-    later: &[u64; 256],
-    i: usize,
-    x: u32,
-    j: usize,
-    old: Choice,
-    window: u64,
-) -> Choice
-    requires { ⌜ (i < 4) × (j < 4) × (x < 64) ⌝ }
-    ensures { λ r. ⌜ ((y e : ℕ) → In (old .begins) y → In (pairAt (now (goes .entry)) i j x) y → In window y → In (old .ends) e → In (pairAt (now (ends .entry)) j i x) e → In window e → ((z : ℕ) → In window z → z ≤ y → In (getD (now (later .entry)) (j * 64 + z) 0) e) → In (r .begins) y × In (r .ends) e) × ((y : ℕ) → In (r .begins) y → In (old .begins) y) ⌝ }
-{
-    let there = bitset::inter(goes[(i * 4 + j) * MOMENTS + x as usize], window);
-    let begins = bitset::inter(old.begins, there);
-    if begins == 0 {
-        return Choice { begins, ends: 0 };
-    }
-    let low = bitset::lowest(begins) as usize;
-    let then = bitset::inter(ends[(j * 4 + i) * MOMENTS + x as usize], window);
-    let after = bitset::inter(then, later[j * MOMENTS + low]);
-    Choice {
-        begins,
-        ends: bitset::inter(old.ends, after),
-    }
 }
 
 // The set with member i begun at x. It has no end for `last` where nothing is left.
@@ -81,11 +46,11 @@ fn put(
     let window = bitset::inter(bitset::from(from), bitset::upto_highest(sought));
     let mut j = 0;
     while j < count {
-        let old = Choice {
+        let old = keeping::Choice {
             begins: begins[j],
             ends: masks[j],
         };
-        let new = narrowed(ends, goes, later, i, x, j, old, window);
+        let new = keeping::narrowed(ends, goes, later, i, x, j, old, window);
         begins[j] = new.begins;
         masks[j] = new.ends;
         sought = bitset::inter(sought, bitset::from_lowest(new.ends));

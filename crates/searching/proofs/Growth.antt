@@ -11,11 +11,11 @@ use Rattle.bitset.specs.Code.Members.{has, In, IsSetOf, popCount, Lowest, Dropp
 use Rattle.bitset.proofs.Counts.{count-but}
 use Rattle.bitset.proofs.In.{in-dropped, in-zero}
 use Rattle.covering.specs.Code.Cover.{entryAt}
-use Rattle.searching.specs.Code.Search.{Masked, SearchReady, Grown, SoughtPlacement, FindsAll}
+use Rattle.ending.specs.Code.Search.{Masked, SearchReady, Grown, SoughtPlacement, FindsAll}
 use Rattle.narrowing.specs.Code.Tables.{InTables, BoundsHave}
 use Rattle.narrowing.specs.Code.Open.{InDomains}
 use Rattle.narrowing.specs.declared.Open.{Open}
-use Rattle.searching.specs.declared.Found.{Found}
+use Rattle.ending.specs.declared.Found.{Found}
 
 -- one member fewer is left
 pub fewer : (x r i : ℕ) → IsSetOf r (λ k. has x k && not (eqb k i)) → In x i → i < 64 → popCount r + 1 ≡ popCount x

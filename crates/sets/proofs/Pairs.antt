@@ -16,12 +16,12 @@ use Rattle.model.specs.Code.Table.{InTable}
 use Rattle.sets.specs.Set.{TaskSet, memberCount, MetAs, MetAt}
 use Rattle.sets.specs.Code.Set.{member, Formed}
 use Rattle.sets.specs.Code.Rows.{taskSetOf, Placed}
-use Rattle.searching.specs.Code.Ends.{asked, partner, partnerOf, MetAtMask, MetByMask}
+use Rattle.ending.specs.Code.Ends.{asked, partner, partnerOf, MetAtMask, MetByMask}
 use Rattle.narrowing.specs.Code.Tables.{pairAt, EndsHave, GoesHave, InTables}
-use Rattle.searching.specs.Code.Search.{Masked}
+use Rattle.ending.specs.Code.Search.{Masked}
 use Rattle.sets.specs.Code.Masks.{Allowed}
 use Rattle.sets.specs.Code.Tables.{Have, Fewer, Cut, InSpan, Unpruned, OwnRow, OwnRows, Tables}
-use Rattle.searching.proofs.Conditions.{partner-less}
+use Rattle.ending.proofs.Conditions.{partner-less}
 
 -- ---- one mask of an array more
 

@@ -13,10 +13,10 @@ use Rattle.bitset.specs.Code.Members.{In, IsSetOf}
 use Rattle.sets.specs.Set.{TaskSet, memberCount}
 use Rattle.sets.specs.Code.Set.{member, SetRule}
 use Rattle.sets.specs.Code.Rows.{SetRows, Placed}
-use Rattle.searching.specs.Code.Search.{Masked, SearchReady, Grown}
+use Rattle.ending.specs.Code.Search.{Masked, SearchReady, Grown}
 use Rattle.narrowing.specs.Code.Tables.{EndsHave, BoundsHave, InTables}
 use Rattle.sets.specs.Code.Tables.{InSpan, Unpruned, Tables}
-use Rattle.searching.specs.declared.Found.{Found}
+use Rattle.ending.specs.declared.Found.{Found}
 use Rattle.bitset.proofs.In.{in-zero, in-from, empty-entry}
 use Rattle.model.specs.Code.Table.{InTable}
 

@@ -5,6 +5,7 @@ ghost use Rattle.sets.specs.Code.Rows.{taskSetOf, Placed, Placeable};
 ghost use Rattle.covering.specs.Code.Cover.{entryAt};
 ghost use Rattle.model.specs.Code.Table.{InTable};
 use crate::bounds;
+use crate::firsts;
 use crate::tables;
 
 pub struct Placement {
@@ -72,7 +73,7 @@ fn place_by_tables(
     let count = members.len();
     bounds::fill(conds, &ends, count, b, e, &mut bounds);
     let goal = bitset::single(e);
-    let found = searching::row(
+    let found = firsts::row(
         conds,
         &allow,
         &ends,
@@ -85,7 +86,7 @@ fn place_by_tables(
         goal,
     );
     let begins = found.begins;
-    let masks = searching::ends::ends_at(conds, &allow, &ends, count, begins);
+    let masks = ending::ends::ends_at(conds, &allow, &ends, count, begins);
     let last = greatest_ends(masks, count, e);
     Placement { begins, ends: last }
 }

@@ -2,6 +2,7 @@
 ghost use lib.ListN.{length};
 ghost use Rattle.sets.specs.Code.Rows.{taskSetOf, SetReady, SetRows};
 use crate::bounds;
+use crate::firsts;
 use crate::tables;
 use words::MOMENTS;
 
@@ -41,7 +42,7 @@ pub fn set_rows(
     let mut b = 0;
     while b <= n {
         let goal = bitset::between(b, n);
-        let found = searching::row(
+        let found = firsts::row(
             conds,
             &allow,
             &ends,

@@ -10,7 +10,7 @@ ghost use Rattle.words.specs.Fields.{memberNode, conditionI, conditionJ};
 ghost use Rattle.sets.specs.Code.Rows.{taskSetOf};
 ghost use Rattle.model.specs.Code.Table.{InTable};
 ghost use Rattle.narrowing.specs.Code.Tables.{pairAt};
-ghost use Rattle.searching.specs.Code.Ends.{MetAtMask, MetByMask};
+ghost use Rattle.ending.specs.Code.Ends.{MetAtMask, MetByMask};
 ghost use Rattle.sets.specs.Code.Tables.{Have, Fewer, Cut, ConditionReady, ConditionsReady, InSpan, OwnRow, OwnRows, LaterReady, TablesReady, Tables};
 use crate::conditions;
 use words::MOMENTS;
@@ -42,7 +42,7 @@ fn cut_for(
 {
     let form = words::form_of(w);
     let i = words::condition_i(w);
-    let j = searching::ends::partner(form, i, words::condition_j(w));
+    let j = ending::ends::partner(form, i, words::condition_j(w));
     match form {
         0 => cut(goes, j * 4 + i, allow, c, a, z),
         2 => cut(goes, j * 4 + i, allow, c, a, z),
@@ -216,7 +216,7 @@ fn constrained(conds: &[u32]) -> u64 {
     while c < conds.len() {
         let w = conds[c];
         let i = words::condition_i(w);
-        let j = searching::ends::partner(words::form_of(w), i, words::condition_j(w));
+        let j = ending::ends::partner(words::form_of(w), i, words::condition_j(w));
         pairs = bitset::union(pairs, bitset::single((i * 4 + j) as u32));
         pairs = bitset::union(pairs, bitset::single((j * 4 + i) as u32));
         c += 1;

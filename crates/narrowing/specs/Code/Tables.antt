@@ -1,12 +1,10 @@
--- Between functions: tables of begins and ends, at (i * 4 + j) * 64 + x for the members i and j. bs and es are begins and ends of all members.
+-- Between functions: tables of begins and ends by pairs of members. bs and es are begins and ends of all members.
 -- Of the tables a search needs one direction only: what a placement has is in them.
 use Prim.Native.Nat.{ℕ, _+_, _*_, _≤_, _<_}
 use mathlib.Core.List.{List}
 use lib.ListN.{getD}
 use Rattle.bitset.specs.Code.Members.{In}
-
-abbrev pub pairAt : List ℕ → ℕ → ℕ → ℕ → ℕ
-pairAt t i j x = getD t ((i * 4 + j) * 64 + x) 0
+pub use Rattle.keeping.specs.Code.Tables.{pairAt}
 
 -- ends of i where j begins, as the tables have them
 abbrev pub EndsHave : ℕ → List ℕ → (ℕ → ℕ) → (ℕ → ℕ) → Type 0

@@ -13,9 +13,9 @@ use Rattle.bitset.specs.Code.Members.{In as In-mask, popCount}
 use Rattle.bitset.proofs.In.{in-both, in-zero, in-without, in-dropped}
 use Rattle.covering.specs.Code.Cover.{entryAt}
 use Rattle.narrowing.specs.Code.Tables.{pairAt}
-use Rattle.searching.specs.Code.Search.{Grown, SoughtPlacement}
+use Rattle.ending.specs.Code.Search.{Grown, SoughtPlacement}
 use Rattle.narrowing.specs.declared.Open.{Open}
-use Rattle.searching.specs.declared.Found.{Found}
+use Rattle.ending.specs.declared.Found.{Found}
 use Rattle.searching.proofs.Growth.{fewer, grown-none, grown-more, grown-as, ready-as, Untried, Begin, tried, skipped, Over, over-both, tried-over, all-tried, finds-none}
 use Rattle.searching.proofs.search.Reads as search′
 use Rattle.searching.proofs.search.Kinds as search-kinds
@@ -29,7 +29,8 @@ use Rattle.bitset.proofs.lowest.Reads as lowest
 use Rattle.narrowing.proofs.choose.Reads as choose
 use Rattle.narrowing.proofs.gaps.Reads as gaps
 use Rattle.narrowing.proofs.last_gap.Reads as last-gap
-use Rattle.searching.proofs.leaf.Reads as leaf
+use Rattle.ending.proofs.ends.own_at.Reads as own-at
+use Rattle.ending.proofs.leaf.Reads as leaf
 use Rattle.narrowing.proofs.over.Reads as over
 use Rattle.narrowing.proofs.placed.Reads as placed
 use Rattle.searching.proofs.+search+tries.{statement}
@@ -77,6 +78,8 @@ abbrev tries-calls : ℕ → tries-lts.Claims
 tries-calls t = (
   lowest.Asked,
   lowest.Learnt,
+  own-at.Asked,
+  own-at.Learnt,
   drop-lowest.Asked,
   drop-lowest.Learnt,
   inter.Asked,
@@ -257,8 +260,11 @@ module _ (t : ℕ) where
       let v = round k .loop .inv in (
         v .0,
         skipped (k .before .before .before .lowest .ensures) (k .before .drop-lowest .ensures)
-            (λ bs es h f q. in-zero (c .if1 .taken) (in-both (k .inter .ensures) (es (a .i)) .1
-            (f .ends (a .i) l, subst (λ (x : ℕ). In-mask (pairAt (a .ends .now) (a .i) (a .i) x) (es (a .i))) q (h .ends (a .i) (a .i) l l)))) (v .1),
+            (λ bs es h f q. in-zero (c .if1 .taken) (in-both (k .inter .ensures) (es (a .i)) .1 (
+              f .ends (a .i) l,
+              subst (λ (m : ℕ). In-mask m (es (a .i))) (sym (k .before .before .own-at .ensures))
+                  (subst (λ (x : ℕ). In-mask (pairAt (a .ends .now) (a .i) (a .i) x) (es (a .i))) q (h .ends (a .i) (a .i) l l)),
+            ))) (v .1),
       )
 
   placed-requires : tries-lts.Need-placed-requires (tries-calls t) (tries-at t) tries.Post Inv-tries μ-loop-tries
@@ -322,8 +328,7 @@ pub +search+tries-spec : {M : Type 1} → statement M
     (λ c κs. search needs) (λ c. search needs) (over-requires t) (tries-requires-2 t) (λ c κs. search needs) (λ c. search needs) (loop-again t) (returns-3 t))
     (λ t. tries-lts.spec (tries-calls t) (tries-at t) tries.Post Inv-tries μ-loop-tries
     (λ c. omega (arith, small t (c .before .before .before))) (λ c. omega (arith, small t (c .before .before .before))) (loop-holds-tries t) (λ c κs. search needs)
-    (λ c. omega (arith, index t c)) (λ c. omega (arith, index t c)) (λ c. omega (arith, index t c)) (λ c. search needs) (λ c. omega (arith, index t c))
-    (λ c. omega (arith, index t c)) (λ c. omega (arith, index t c)) (λ c κs. search needs) (λ c. omega (arith, index t (c .before .before)))
+    (λ c κs. index t c) (λ c κs. search needs) (λ c. omega (arith, index t (c .before .before)))
     (λ c. omega (arith, index t (c .before .before))) (λ c κs. search needs) (λ c. omega (arith, c .before .before .drop-lowest .ensures .fewer)) (loop-again-tries t) (placed-requires t)
     (λ c. omega (arith, small t (begun t (round t (kept t (c .before)))))) (λ c. omega (arith, small t (begun t (round t (kept t (c .before)))))) (search-requires t)
     (λ c. omega (arith, kept t (c .before .before .before) .before .drop-lowest .ensures .fewer)) (loop-again-2-tries t)

@@ -7,7 +7,7 @@ use Rattle.bitset.specs.Code.Members.{In}
 use Rattle.words.specs.Fields.{memberNode, conditionI, conditionJ}
 use Rattle.model.specs.Code.Table.{InTable}
 use Rattle.narrowing.specs.Code.Tables.{pairAt, EndsHave, GoesHave, InTables}
-use Rattle.searching.specs.Code.Search.{Masked, SearchReady}
+use Rattle.ending.specs.Code.Search.{Masked, SearchReady}
 use Rattle.sets.specs.Set.{TaskSet, memberCount}
 use Rattle.sets.specs.Code.Set.{member, Formed}
 use Rattle.sets.specs.Code.Rows.{Placed}

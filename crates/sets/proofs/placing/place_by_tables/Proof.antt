@@ -10,8 +10,8 @@ use Rattle.words.specs.Fields.{memberNode}
 use Rattle.bitset.specs.Code.Members.{In}
 use Rattle.bitset.proofs.In.{in-single, in-zero, empty-entry}
 use Rattle.covering.specs.Code.Cover.{entryAt}
-use Rattle.searching.specs.Code.Search.{SearchReady, ReadsWith, Masked}
-use Rattle.searching.proofs.Leaves.{ends-ready, top-ends}
+use Rattle.ending.specs.Code.Search.{SearchReady, ReadsWith, Masked}
+use Rattle.ending.proofs.Leaves.{ends-ready, top-ends}
 use Rattle.sets.proofs.Stored.{row-found, every-unpruned, no-begins}
 use borrow.Author.Needs.{needs}
 use Rattle.sets.proofs.placing.place_by_tables.Statement.{statement}

@@ -12,7 +12,7 @@ use Rattle.bitset.proofs.In.{in-between, empty-entry}
 use Rattle.model.specs.Code.Table.{InTable}
 use Rattle.sets.specs.Code.Set.{SetRule}
 use Rattle.sets.specs.Code.Rows.{taskSetOf}
-use Rattle.searching.specs.Code.Search.{SearchReady}
+use Rattle.ending.specs.Code.Search.{SearchReady}
 use Rattle.sets.proofs.Stored.{RowsTo, no-rows-yet, rows-more, rows-done, ready-from, row-found, every-unpruned}
 use borrow.Author.Needs.{needs}
 use Rattle.sets.proofs.rows.set_rows.Statement.{statement}

@@ -4,7 +4,7 @@ use mathlib.Core.Path.{sym, subst}
 use native.Mathlib.Omega.{arith}
 use lib.ListN.{length}
 use Rattle.model.specs.Forms.{conditionNumber}
-use Rattle.searching.proofs.Conditions.{partner-less}
+use Rattle.ending.proofs.Conditions.{partner-less}
 use borrow.Author.Needs.{needs}
 use Rattle.sets.proofs.tables.constrained.Statement.{statement}
 use Rattle.sets.proofs.tables.constrained.Tie as tie

@@ -3,7 +3,7 @@ use Prim.Native.Nat.{ℕ, _-_, _≤_, _<_}
 use native.Mathlib.Omega.{arith}
 use lib.ListN.{length, getD}
 use Rattle.words.specs.Fields.{conditionI, conditionJ}
-use Rattle.searching.specs.Code.Ends.{MetByMask}
+use Rattle.ending.specs.Code.Ends.{MetByMask}
 use Rattle.sets.specs.Code.Tables.{Have, InSpan}
 use borrow.Author.Needs.{needs}
 use Rattle.sets.proofs.tables.cut_all.Statement.{statement}

@@ -4,8 +4,8 @@ use mathlib.Core.Path.{_≡_, sym, ap, _∙_, subst}
 use native.Mathlib.Omega.{arith}
 use Rattle.words.specs.Fields.{conditionI}
 use Rattle.model.specs.Forms.{conditionNumber}
-use Rattle.searching.specs.Code.Ends.{asked, partnerOf}
-use Rattle.searching.proofs.Conditions.{partner-less, end-asked}
+use Rattle.ending.specs.Code.Ends.{asked, partnerOf}
+use Rattle.ending.proofs.Conditions.{partner-less, end-asked}
 use Rattle.sets.proofs.Pairs.{partner-is, cut-goes, cut-ends}
 use borrow.Author.Needs.{needs}
 use Rattle.sets.proofs.tables.cut_for.Statement.{statement}

@@ -1,0 +1,2 @@
+-- What passes between functions, and no public contract reaches: Tables (by pairs of members).
+pub mod Tables

@@ -1,0 +1,40 @@
+// What one member of a task set keeps where another begins, by the set's tables.
+ghost use Prim.Native.Nat.{ℕ, _+_, _*_, _<_, _≤_};
+ghost use lib.ListN.{getD};
+ghost use Rattle.bitset.specs.Code.Members.{In};
+ghost use Rattle.keeping.specs.Code.Tables.{pairAt};
+use words::MOMENTS;
+
+// The begins and ends that one member may still have.
+pub struct Choice {
+    pub begins: u64,
+    pub ends: u64,
+}
+
+// What member j keeps where member i begins at x, within a window of moments.
+pub fn narrowed(
+    ends: &[u64; 1024],
+    goes: &[u64; 1024],
+    later: &[u64; 256],
+    i: usize,
+    x: u32,
+    j: usize,
+    old: Choice,
+    window: u64,
+) -> Choice
+    requires { ⌜ (i < 4) × (j < 4) × (x < 64) ⌝ }
+    ensures { λ r. ⌜ ((y e : ℕ) → In (old .begins) y → In (pairAt (now (goes .entry)) i j x) y → In window y → In (old .ends) e → In (pairAt (now (ends .entry)) j i x) e → In window e → ((z : ℕ) → In window z → z ≤ y → In (getD (now (later .entry)) (j * 64 + z) 0) e) → In (r .begins) y × In (r .ends) e) × ((y : ℕ) → In (r .begins) y → In (old .begins) y) ⌝ }
+{
+    let there = bitset::inter(goes[(i * 4 + j) * MOMENTS + x as usize], window);
+    let begins = bitset::inter(old.begins, there);
+    if begins == 0 {
+        return Choice { begins, ends: 0 };
+    }
+    let low = bitset::lowest(begins) as usize;
+    let then = bitset::inter(ends[(j * 4 + i) * MOMENTS + x as usize], window);
+    let after = bitset::inter(then, later[j * MOMENTS + low]);
+    Choice {
+        begins,
+        ends: bitset::inter(old.ends, after),
+    }
+}

@@ -1,2 +1,0 @@
--- The definitions that the contracts of `searching` cite: all in Code, since no public contract reaches them.
-pub mod Code
