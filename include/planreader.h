@@ -236,7 +236,9 @@ enum planreader_formula_form {
     PLANREADER_FLUENT = 1, /* fluent X */
     PLANREADER_NOT = 2, /* not formula X */
     PLANREADER_AND = 3, /* formulas X and Y */
-    PLANREADER_OR = 4
+    PLANREADER_OR = 4,
+    PLANREADER_HELD_FOR = 5 /* formula X has held for Y moments: at t, 'and' over X at t - Y to t, where X counts as open before moment 0.
+                               So the value of a formula at t depends on what is known at the moments up to t, and on nothing later. */
 };
 
 /* of nodes, */
@@ -385,6 +387,11 @@ static inline uint32_t planreader_wide_fluent(unsigned fluent)
 static inline uint32_t planreader_not(unsigned formula) { return planreader_formula(PLANREADER_NOT, formula, 0); }
 static inline uint32_t planreader_and(unsigned x, unsigned y) { return planreader_formula(PLANREADER_AND, x, y); }
 static inline uint32_t planreader_or(unsigned x, unsigned y) { return planreader_formula(PLANREADER_OR, x, y); }
+/* A lower formula, then for how many moments it has held: a number from 0 to 63, no formula. With 0 its value is that of the formula. */
+static inline uint32_t planreader_held_for(unsigned formula, unsigned moments)
+{
+    return planreader_formula(PLANREADER_HELD_FOR, formula, moments);
+}
 /* Nodes: of an action, of a formula, of lower nodes in their order; a window's least and greatest offset or pause last. */
 static inline uint32_t planreader_act(unsigned action) { return planreader_node(PLANREADER_ACT, action, 0, 0, 0); }
 static inline uint32_t planreader_test(unsigned formula) { return planreader_node(PLANREADER_TEST, formula, 0, 0, 0); }

@@ -3,7 +3,7 @@
 #     Head FLUENTS ACTIONS LAST     WideHead FLUENTS ACTIONS LAST   Known FLUENT true|false
 #     Action NUMBER DURATION        Needs FLUENT true|false   Makes FLUENT true|false   ShiftWindow ACTION FROM TO
 #     Group GROUP LIMIT             GroupMember GROUP ACTION
-#     Always   Fluent FLUENT   Not FORMULA   And FORMULA FORMULA   Or FORMULA FORMULA
+#     Always   Fluent FLUENT   Not FORMULA   And FORMULA FORMULA   Or FORMULA FORMULA   HeldFor FORMULA MOMENTS
 #     Act ACTION   Test FORMULA   Sequence NODE NODE   Choice NODE NODE   If FORMULA NODE NODE   While FORMULA NODE
 #     StartWindow NODE NODE M N   EndWindow NODE NODE M N   TaskSet   Member NODE
 #     BeginAfterBegin I J M N   BeginAfterEnd I J M N   HoldsBefore FORMULA I M N   HoldsAfter FORMULA I M N   HoldsBetween FORMULA I J M N
@@ -76,6 +76,7 @@ Fluent() { words_line 'Fluent FLUENT' '5 << 28 | 1 << 24' "$words_formula:$words
 Not() { words_line 'Not FORMULA' '5 << 28 | 2 << 24' '6:63' "$@"; }
 And() { words_line 'And FORMULA FORMULA' '5 << 28 | 3 << 24' '6:63 0:63' "$@"; }
 Or() { words_line 'Or FORMULA FORMULA' '5 << 28 | 4 << 24' '6:63 0:63' "$@"; }
+HeldFor() { words_line 'HeldFor FORMULA MOMENTS' '5 << 28 | 5 << 24' '6:63 0:63' "$@"; }
 
 Act() { words_line 'Act ACTION' '6 << 28' '18:63' "$@"; }
 Test() { words_line 'Test FORMULA' '6 << 28 | 1 << 24' '18:63' "$@"; }

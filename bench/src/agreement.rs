@@ -11,12 +11,14 @@ use planreader_tests::generate::finds::{self, FindCase};
 use planreader_tests::generate::{set_draws, waits};
 use planreader_tests::host;
 use planreader_tests::random::Random;
+use planreader_tests::words::{formula, kind};
 
 const SEED: u64 = 0x5e3a_1071_000a;
 
-/// How many plans of all forms are compared, of these with a wide head, of end windows, of sets with few moments, and of sets with n = 63.
+/// How many plans of all forms are compared, of these with a wide head, with forms 5 in the place of other formulas, of end windows, of sets with few moments, and of sets with n = 63.
 const ANY: usize = 2_000;
 const WIDE: usize = 1_000;
+const HELD: usize = 2_000;
 const WAITS: usize = 4_000;
 const SMALL: usize = 4_000;
 const LONG: usize = 300;
@@ -29,12 +31,13 @@ pub fn within_limits() -> bool {
     let any = (0..ANY).filter(|_| agrees(&any_case(&mut random)).is_some()).count();
     let waits = (0..WAITS).filter(|_| agrees(&waits::any(&mut random)).is_some()).count();
     let wide = (0..WIDE).filter(|_| agrees(&wide_case(&mut random)).is_some()).count();
+    let held = (0..HELD).filter(|_| agrees(&held_case(&mut random)).is_some()).count();
     let slowest = long.iter().copied().fold(0.0, f64::max);
-    let all = any == ANY && wide == WIDE && waits == WAITS && small == SMALL && long.len() == LONG;
+    let all = any == ANY && wide == WIDE && held == HELD && waits == WAITS && small == SMALL && long.len() == LONG;
     let within = all && is_within(slowest, SET);
     let told = if within { "" } else { "  FAILED" };
     println!("generated plans on which find and the yardstick agree: {any} of {ANY} of all forms,");
-    println!("  {wide} of {WIDE} with a wide head, {waits} of {WAITS} of end windows");
+    println!("  {wide} of {WIDE} with a wide head, {held} of {HELD} with forms 5, {waits} of {WAITS} of end windows");
     println!(
         "generated sets on which find and the yardstick agree: {small} of {SMALL}, with n = 63 {} of {LONG}",
         long.len()
@@ -58,6 +61,19 @@ fn any_case(random: &mut Random) -> FindCase {
 fn wide_case(random: &mut Random) -> FindCase {
     let FindCase { job, starts } = any_case(random);
     FindCase { job: widened(&job), starts }
+}
+
+/// A plan of all forms with forms 5 in the place of half its formulas but the first.
+fn held_case(random: &mut Random) -> FindCase {
+    let FindCase { mut job, starts } = any_case(random);
+    let formulas = job.iter_mut().filter(|word| kind(**word) == 5);
+    for (number, word) in formulas.enumerate().skip(1) {
+        if random.chance(50) {
+            let most = *random.pick(&[1, 3, 8, 63]);
+            *word = formula(5, random.below(number), random.between(0, most));
+        }
+    }
+    FindCase { job, starts }
 }
 
 /// The time of find, where both give the same number and count, and readings.

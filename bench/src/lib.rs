@@ -3,6 +3,7 @@ pub mod agreement;
 pub mod calls;
 pub mod figures;
 pub mod finds;
+pub mod held;
 pub mod instructions;
 pub mod masks;
 pub mod plain;

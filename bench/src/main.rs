@@ -1,6 +1,6 @@
 //! Times of check, fill, trials and find, beside the independent checker and the yardstick, and instructions counted by callgrind. Exits
 //! with 1 where a limit is broken or answers differ.
-use planreader_bench::{agreement, calls, figures, finds, instructions, plain, time, trials, walks};
+use planreader_bench::{agreement, calls, figures, finds, held, instructions, plain, time, trials, walks};
 
 /// The argument of a run that holds instructions alone to their limits.
 const LIMITS: &str = "instructions";
@@ -35,13 +35,14 @@ fn hold_to_limits() {
         trials::within_limits(),
         plain::agrees(),
         finds::within_limits(),
+        held::within_limit(),
         agreement::within_limits(),
     ];
     exit_unless_all(&[&times[..], &instruction_limits()].concat());
 }
 
 /// Whether instructions are within each of their limits.
-fn instruction_limits() -> [bool; 6] {
+fn instruction_limits() -> [bool; 7] {
     [
         walks::instructions_within_limits(),
         walks::windows_within_limit(),
@@ -49,6 +50,7 @@ fn instruction_limits() -> [bool; 6] {
         walks::fluents_within_limits(),
         trials::instructions_are_within(),
         finds::instructions_within_limits(),
+        held::instructions_within_limit(),
     ]
 }
 

@@ -1,5 +1,5 @@
 //! Find beside the independent checker, which tries each split and each placement, where that ends.
-use crate::shapes::{crowds, doors, facts, windows, Shape};
+use crate::shapes::{crowds, doors, facts, held, windows, Shape};
 use crate::time::best;
 use planreader_tests::checker::calls::{self, Outcome};
 use planreader_tests::checker::readings::literal::{is_reading, Triple};
@@ -18,7 +18,7 @@ pub fn agrees() -> bool {
         ..Shape::default()
     };
     let crowds = [(3, 63), (2, 63), (3, 3)].map(crowd);
-    let shapes = doors::shapes().into_iter().chain(windows::shapes()).chain(crowds);
+    let shapes = doors::shapes().into_iter().chain(windows::shapes()).chain(held::with_forms_5()).chain(crowds);
     shapes.map(|shape| shape_agrees(&shape)).fold(true, |all, same| all & same)
 }
 

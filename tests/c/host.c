@@ -3,6 +3,7 @@
 #define _POSIX_C_SOURCE 200809L
 #include "planreader.h"
 #include "example3.h"
+#include "held.h"
 #include "plan.h"
 #include <pthread.h>
 #include <stdio.h>
@@ -369,6 +370,7 @@ int main(void)
     wide_buffers();
     wide_words();
     wide_plans();
+    faults += held();
     make_plan(large_job, large_starts);
     large_words = JOB_WORDS, large_known = 4096, large_head = 0x10010100u;
     measure_all("");

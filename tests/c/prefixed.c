@@ -79,6 +79,7 @@ static void try_forms(void)
         planreader_law(PLANREADER_MAKES_FALSE, 0), planreader_law(PLANREADER_MAKES_TRUE, 1),
         planreader_formula(PLANREADER_ALWAYS, 0, 0), planreader_formula(PLANREADER_FLUENT, 0, 0),
         planreader_formula(PLANREADER_NOT, 1, 0), planreader_formula(PLANREADER_AND, 0, 1), planreader_formula(PLANREADER_OR, 2, 3),
+        planreader_formula(PLANREADER_HELD_FOR, 1, 0), /* formula 5: as formula 1 */
         planreader_node(PLANREADER_TEST, 4, 0, 0, 0), /* 0 */
         planreader_node(PLANREADER_ACT, 0, 0, 0, 0),
         planreader_node(PLANREADER_CHOICE, 1, 0, 0, 0), /* 2 */
@@ -87,7 +88,7 @@ static void try_forms(void)
         planreader_node(PLANREADER_TEST, 2, 0, 0, 0),
         planreader_node(PLANREADER_IF, 2, 5, 2, 0), /* 6 */
         planreader_node(PLANREADER_SEQUENCE, 4, 6, 0, 0), /* 7 */
-        planreader_node(PLANREADER_TEST, 1, 0, 0, 0),
+        planreader_node(PLANREADER_TEST, 5, 0, 0, 0),
         planreader_node(PLANREADER_TASK_SET, 0, 0, 0, 0), planreader_member(7), planreader_member(8), /* 9 */
         planreader_condition(PLANREADER_BEGIN_AFTER_BEGIN, 0, 0, 1, 0, 0),
         planreader_condition(PLANREADER_BEGIN_AFTER_END, 0, 0, 1, 0, 1),

@@ -157,6 +157,7 @@ static void try_listed(void)
         {planreader_formula(PLANREADER_FLUENT, 3, 0), 0x510000c0u},
         {planreader_formula(PLANREADER_NOT, 1, 0), 0x52000040u},
         {planreader_formula(PLANREADER_AND, 3, 4), 0x530000c4u},
+        {planreader_formula(PLANREADER_HELD_FOR, 0, 2), 0x55000002u},
         {planreader_node(PLANREADER_TEST, 5, 0, 0, 0), 0x61140000u},
         {planreader_node(PLANREADER_SEQUENCE, 0, 16, 0, 0), 0x62010000u},
         {planreader_node(PLANREADER_IF, 0, 5, 4, 0), 0x64005100u},
@@ -190,6 +191,7 @@ static void try_short(void)
         {planreader_not(x), 5, {2, x}},
         {planreader_and(x, y), 5, {3, x, y}},
         {planreader_or(x, y), 5, {4, x, y}},
+        {planreader_held_for(x, y), 5, {5, x, y}},
         {planreader_act(x), 6, {0, x}},
         {planreader_test(x), 6, {1, x}},
         {planreader_sequence(x, y), 6, {2, x, y}},
@@ -202,8 +204,8 @@ static void try_short(void)
     };
     for (size_t i = 0; i < sizeof made_short / sizeof *made_short; i++)
         if (made_short[i].word != word_laid(made_short[i].kind, made_short[i].fields)) fault("short", made_short[i].kind, (int)i, made_short[i].word);
-    const uint32_t none[] = {planreader_needs(64, 1), planreader_makes(64, 0), planreader_fluent(64), planreader_or(0, 64), planreader_act(64),
-                             planreader_if(0, 0, 64), planreader_end_window(0, 0, 0, 64)};
+    const uint32_t none[] = {planreader_needs(64, 1), planreader_makes(64, 0), planreader_fluent(64), planreader_or(0, 64), planreader_held_for(64, 0),
+                             planreader_held_for(0, 64), planreader_act(64), planreader_if(0, 0, 64), planreader_end_window(0, 0, 0, 64)};
     for (size_t i = 0; i < sizeof none / sizeof *none; i++)
         if (none[i] != 0) fault("short of too much", 0, (int)i, none[i]);
 }
@@ -276,7 +278,7 @@ static void try_wide_readers(void)
 /* Forms that no listing has, and refusals: in the scope's order. */
 static void try_numbers(void)
 {
-    const int formulas[] = {PLANREADER_ALWAYS, PLANREADER_FLUENT, PLANREADER_NOT, PLANREADER_AND, PLANREADER_OR};
+    const int formulas[] = {PLANREADER_ALWAYS, PLANREADER_FLUENT, PLANREADER_NOT, PLANREADER_AND, PLANREADER_OR, PLANREADER_HELD_FOR};
     const int nodes[] = {PLANREADER_ACT, PLANREADER_TEST, PLANREADER_SEQUENCE, PLANREADER_CHOICE, PLANREADER_IF,
                          PLANREADER_WHILE, PLANREADER_START_WINDOW, PLANREADER_END_WINDOW, PLANREADER_TASK_SET};
     const int conditions[] = {PLANREADER_BEGIN_AFTER_BEGIN, PLANREADER_BEGIN_AFTER_END, PLANREADER_HOLDS_BEFORE,
@@ -286,8 +288,10 @@ static void try_numbers(void)
                             PLANREADER_START_IN_HAND, PLANREADER_START_CLASHES, PLANREADER_START_NEEDS, PLANREADER_FACTS_DIFFER,
                             PLANREADER_BUFFER_SHORT, PLANREADER_NO_READING, PLANREADER_TRIAL_BOUNDS, PLANREADER_START_OUTSIDE_WINDOWS,
                             PLANREADER_GROUP_OVER_LIMIT};
+    for (int i = 0; i < 6; i++)
+        if (formulas[i] != i) fault("form", 5, i, 0);
     for (int i = 0; i < 5; i++)
-        if (formulas[i] != i || conditions[i] != i) fault("form", 5, i, 0);
+        if (conditions[i] != i) fault("form", 8, i, 0);
     for (int i = 0; i < 9; i++)
         if (nodes[i] != i) fault("form", 6, i, 0);
     for (int i = 0; i < 17; i++)

@@ -1,5 +1,5 @@
 # How the fuzzer and the replayer are built; read by the scripts beside it, from the top of the repository.
-sources='tests/fuzz/input.c tests/fuzz/guard.c tests/fuzz/reading.c tests/fuzz/generate.c tests/fuzz/mutate.c tests/fuzz/counters.c tests/fuzz/shift.c tests/fuzz/group.c tests/fuzz/wide.c tests/fuzz/trial.c tests/fuzz/harness.c'
+sources='tests/fuzz/input.c tests/fuzz/guard.c tests/fuzz/reading.c tests/fuzz/generate.c tests/fuzz/mutate.c tests/fuzz/counters.c tests/fuzz/shift.c tests/fuzz/group.c tests/fuzz/wide.c tests/fuzz/held.c tests/fuzz/trial.c tests/fuzz/harness.c'
 strict='-std=c11 -Wall -Wextra -Wpedantic -Werror -Iinclude -O2 -g'
 
 # Compiles sources to target/fuzz/FOLDER, and prints the objects' names.

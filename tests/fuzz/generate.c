@@ -90,10 +90,13 @@ static void add_groups(struct input *in, struct dice *dice, unsigned actions)
             if (chance(dice, 2)) add_job_word(in, pair_word((first + i * 3) % GROUPS, a));
 }
 
+uint32_t some_held(struct dice *dice, unsigned formulas) { return held_word(roll(dice, formulas), roll(dice, chance(dice, 8) ? 64 : 4)); }
+
 uint32_t some_formula(struct dice *dice, unsigned formulas, uint32_t head, uint32_t fluent)
 {
-    uint32_t form = formulas ? roll(dice, 5) : roll(dice, 2), word = (uint32_t)FORMULA << 28 | form << 24;
+    uint32_t form = formulas ? roll(dice, HELD + 1) : roll(dice, 2), word = (uint32_t)FORMULA << 28 | form << 24;
     if (form == 1) return atom_word(head, fluent);
+    if (form == HELD) return some_held(dice, formulas);
     if (form >= 2) word |= roll(dice, formulas) << 6;
     if (form >= 3) word |= roll(dice, formulas);
     return word;

@@ -30,6 +30,9 @@ void sort_starts(struct input *in);
 void add_start(struct input *in, uint32_t word);
 void add_job_word(struct input *in, uint32_t word);
 
+/* A formula of form 5, mostly one that looks back a few moments. */
+uint32_t some_held(struct dice *dice, unsigned formulas);
+
 /* A formula word, with this fluent if it is of form 1, a leaf, a condition: each with references to what the job has. */
 uint32_t some_formula(struct dice *dice, unsigned formulas, uint32_t head, uint32_t fluent);
 uint32_t some_leaf(struct dice *dice, unsigned actions, unsigned formulas);

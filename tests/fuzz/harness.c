@@ -8,6 +8,7 @@
 #include "harness.h"
 #include "counters.h"
 #include "group.h"
+#include "held.h"
 #include "hold.h"
 #include "input.h"
 #include "planreader.h"
@@ -376,6 +377,7 @@ static uint64_t hold_find(struct lists in, uint64_t checked, uint32_t choices)
     plan_of(&plan, &parts, in.starts, in.facts);
     hold_found(&parts, &plan, reading, found);
     drop(reading);
+    hold_held(in.job, in.starts, in.facts, &parts, &plan);
     hold_wrapped(in, found);
     return found;
 }

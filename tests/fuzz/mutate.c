@@ -184,6 +184,15 @@ static void add_declaration(struct input *in, struct dice *dice)
     }
 }
 
+/* A formula of form 5 in the place of any but the first. */
+static void change_formula(struct input *in, struct dice *dice)
+{
+    unsigned formulas = number_of(in, FORMULA), wanted = 1 + roll(dice, formulas - 1), number = 0;
+    if (formulas < 2) return;
+    for (size_t i = 0; i < in->job_len; i++)
+        if (kind_of(in->job[i]) == FORMULA && number++ == wanted) in->job[i] = some_held(dice, wanted & 63u);
+}
+
 /* A law for some action, not only the last. */
 static void add_law(struct input *in, struct dice *dice)
 {
@@ -388,7 +397,8 @@ static mutation *const mutations[] = {
     swap_words,   add_declaration, add_law,   wrap_root,     wrap_root,    add_condition,  add_condition,   change_form,
     put_start,    put_start,    shift_starts, change_last,   write_facts,  facts_by_fill,  change_choices,  carry_out_again,
     carry_out_again, repair_numbers, repair_plan, repair_job, lengthen_job, change_trial, change_trial,   add_shift,
-    add_shift,    add_group,    add_group,    add_pair,      add_pair,     change_layout,  change_layout,
+    add_shift,    add_group,    add_group,    add_pair,      add_pair,     change_layout,  change_layout,   change_formula,
+    change_formula,
 };
 enum { MUTATIONS = sizeof mutations / sizeof *mutations };
 

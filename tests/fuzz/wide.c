@@ -56,11 +56,12 @@ static unsigned formula_number(struct list job, size_t at)
 {
     uint32_t word = job.words[at], head = job.words[0], before = kind_before(job, at), form = form_of(word), number = 0;
     bool placed = (before >= HEAD && before <= FORMULA) || before == SHIFT_WINDOW || before == GROUP || before == GROUP_MEMBER;
-    if (!placed || form > 4 || formula_spare(head, word)) return 2;
+    if (!placed || form > HELD || formula_spare(head, word)) return 2;
     for (size_t i = 0; i < at; i++) number += kind_of(job.words[i]) == FORMULA;
     if (number >= FORMULAS_MOST) return 3;
     if (form == 1) return atom_fluent(head, word) < fluents_of(head) ? 0 : 3;
-    return (form >= 2 && field(word, 11, 6) >= number) || (form >= 3 && field(word, 5, 0) >= number) ? 3 : 0;
+    bool two = form == 3 || form == 4;
+    return (form >= 2 && field(word, 11, 6) >= number) || (two && field(word, 5, 0) >= number) ? 3 : 0;
 }
 
 void hold_layout(struct list job, uint64_t answer)

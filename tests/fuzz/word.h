@@ -6,6 +6,7 @@
 #include <stdint.h>
 
 enum kind { HEAD = 1, INITIALLY, ACTION, LAW, FORMULA, NODE, MEMBER, CONDITION, START, FACT, READING, SHIFT_WINDOW, GROUP, GROUP_MEMBER };
+enum { HELD = 5 }; /* the form of a formula that request L7 brings */
 enum form { ACT, TEST, SEQUENCE, CHOICE, BRANCH, LOOP, START_WINDOW, END_WINDOW, TASK_SET };
 
 struct list {
@@ -69,6 +70,9 @@ static inline uint32_t fact_word(uint32_t head, uint32_t moment, uint32_t fluent
 {
     return (uint32_t)FACT << 28 | moment << (fluent_bits(head) + 1) | fitting(head, fluent) << 1 | value;
 }
+
+/* "X has held for Y moments" */
+static inline uint32_t held_word(uint32_t x, uint32_t y) { return (uint32_t)FORMULA << 28 | (uint32_t)HELD << 24 | x << 6 | y; }
 
 /* The buffer that fill and trial_show need. */
 static inline size_t filler_words(uint32_t head) { return is_wide(head) ? WIDE_FILLER : NARROW_FILLER; }

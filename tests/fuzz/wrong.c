@@ -38,6 +38,7 @@ uint64_t check(const uint32_t *job, size_t job_len, const uint32_t *starts, size
 {
     if (group_fault()) return group_check((struct list){job, job_len}, (struct list){starts, starts_len}, (struct list){facts, facts_len});
     if (wide_fault()) return wide_check((struct list){job, job_len}, (struct list){starts, starts_len}, (struct list){facts, facts_len});
+    if (held_fault()) return held_check((struct list){job, job_len}, (struct list){starts, starts_len}, (struct list){facts, facts_len});
     static unsigned calls;
     job = shifted(job, job_len);
     uint64_t refusal = shift_refusal(job, job_len), answer = right_check(job, job_len, starts, starts_len, facts, facts_len);
@@ -128,6 +129,7 @@ uint64_t fill(const uint32_t *job, size_t job_len, const uint32_t *starts, size_
 {
     if (group_fault()) return group_fill((struct list){job, job_len}, (struct list){starts, starts_len}, buffer, buffer_len);
     if (wide_fault()) return wide_fill((struct list){job, job_len}, (struct list){starts, starts_len}, buffer, buffer_len);
+    if (held_fault()) return held_fill((struct list){job, job_len}, (struct list){starts, starts_len}, buffer, buffer_len);
     static uint32_t room[4096];
     job = shifted(job, job_len);
     uint64_t refusal = buffer_len < 4096 ? 0 : shift_refusal(job, job_len);
@@ -235,6 +237,7 @@ uint64_t find(const uint32_t *job, size_t job_len, const uint32_t *starts, size_
 {
     if (group_fault()) return group_find((struct list){job, job_len}, (struct list){starts, starts_len}, (struct list){facts, facts_len}, buffer, buffer_len);
     if (wide_fault()) return wide_find((struct list){job, job_len}, (struct list){starts, starts_len}, (struct list){facts, facts_len}, buffer, buffer_len);
+    if (held_fault()) return held_find((struct list){job, job_len}, (struct list){starts, starts_len}, (struct list){facts, facts_len}, buffer, buffer_len);
     uint32_t first = buffer_len ? buffer[0] : 0;
     job = shifted(job, job_len);
     uint64_t refusal = buffer_len < 4096 ? 0 : shift_refusal(job, job_len);
@@ -268,6 +271,7 @@ uint64_t trial_begin(const uint32_t *job, size_t job_len, uint32_t *trial, size_
 {
     if (group_fault()) return group_begin((struct list){job, job_len}, trial, trial_len);
     if (wide_fault()) return wide_begin((struct list){job, job_len}, trial, trial_len);
+    if (held_fault()) return held_begin((struct list){job, job_len}, trial, trial_len);
     uint32_t moment = trial_len ? trial[0] : 0;
     job = shifted(job, job_len);
     if (fault() == BEGIN_14_BEFORE_JOB && trial_len < TRIAL_LEAST) return UINT64_C(14) << 56;
@@ -323,6 +327,7 @@ uint64_t trial_start(const uint32_t *job, size_t job_len, uint32_t *trial, size_
 {
     if (group_fault()) return group_start((struct list){job, job_len}, trial, trial_len, action);
     if (wide_fault()) return wide_start((struct list){job, job_len}, trial, trial_len, action);
+    if (held_fault()) return held_start((struct list){job, job_len}, trial, trial_len, action);
     bool whole = copied(trial, trial_len);
     job = shifted(job, job_len);
     if (fault() == START_READS_AFTER_TRIAL && trial_len) sink = trial[trial_len];
@@ -376,6 +381,7 @@ uint64_t trial_on(const uint32_t *job, size_t job_len, uint32_t *trial, size_t t
 {
     if (group_fault()) return group_on((struct list){job, job_len}, trial, trial_len);
     if (wide_fault()) return wide_on((struct list){job, job_len}, trial, trial_len);
+    if (held_fault()) return held_on((struct list){job, job_len}, trial, trial_len);
     job = shifted(job, job_len);
     uint64_t answer = right_trial_on(job, job_len, trial, trial_len);
     if (fault() == ON_SKIPS_SHIFTS && planreader_number(answer) == 15) return right_trial_on(freed(job, job_len), job_len, trial, trial_len);
@@ -412,6 +418,7 @@ uint64_t trial_show(const uint32_t *job, size_t job_len, const uint32_t *trial, 
 {
     if (group_fault()) return group_show((struct list){job, job_len}, trial, trial_len, buffer, buffer_len);
     if (wide_fault()) return wide_show((struct list){job, job_len}, trial, trial_len, buffer, buffer_len);
+    if (held_fault()) return held_show((struct list){job, job_len}, trial, trial_len, buffer, buffer_len);
     static uint32_t room[4096];
     job = shifted(job, job_len);
     uint64_t answer = right_trial_show(job, job_len, trial, trial_len, buffer, buffer_len);

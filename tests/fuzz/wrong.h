@@ -1,4 +1,4 @@
-/* The proved calls under other names, and the faults of wrong.c, wrong_shift.c, wrong_group.c and wrong_wide.c. */
+/* The proved calls under other names, and the faults of wrong.c, wrong_shift.c, wrong_group.c, wrong_wide.c and wrong_held.c. */
 #ifndef WRONG_H
 #define WRONG_H
 #include "planreader.h"
@@ -221,7 +221,51 @@ enum fault {
     WIDE_12_BY_FACTS,
     NARROW_NEEDS_16384,
     WIDE_FIND_NEEDS_16384,
-    FAULTS = WIDE_FIND_NEEDS_16384
+    HELD_REFUSED,
+    HELD_WIDE_REFUSED,
+    HELD_FORM_6,
+    HELD_FORMS_6_TO_15,
+    HELD_SPARE_BITS,
+    HELD_BIT_12,
+    HELD_BIT_23,
+    HELD_Y_SPARE,
+    HELD_X_ITSELF,
+    HELD_X_NOT_LOOKED_AT,
+    HELD_X_NOT_LOWER_2,
+    HELD_Y_LOWER,
+    HELD_Y_0_IS_3,
+    HELD_Y_63_IS_3,
+    HELD_Y_ABOVE_LAST_IS_3,
+    HELD_SWAPPED,
+    HELD_X_OF_5_BITS,
+    HELD_Y_OF_5_BITS,
+    HELD_Y_UP_TO_LAST,
+    HELD_Y_VALUES,
+    HELD_ONE_VALUE_MORE,
+    HELD_63_VALUES,
+    HELD_PRESENT_ALONE,
+    HELD_INNER_LEFT_OUT,
+    HELD_NOT_IN_TESTS,
+    HELD_NOT_IN_BRANCHES,
+    HELD_NOT_IN_LOOPS,
+    HELD_NOT_IN_CONDITIONS_2,
+    HELD_NOT_IN_CONDITIONS_3,
+    HELD_NOT_IN_CONDITIONS_4,
+    HELD_BEFORE_0_HOLDS,
+    HELD_BEFORE_0_FAILS,
+    HELD_BEFORE_0_AS_AT_0,
+    HELD_BEFORE_0_BY_X,
+    HELD_OPEN_UNTIL_Y,
+    HELD_WITHOUT_PRESENT,
+    HELD_OLDEST_ALONE,
+    HELD_ENDS_ALONE,
+    HELD_FROM_NOW_ON,
+    HELD_OR,
+    HELD_OPEN_HOLDS,
+    HELD_OPEN_FAILS,
+    HELD_FAILS_IS_OPEN,
+    HELD_FIRST_NOT_HOLDING,
+    FAULTS = HELD_FIRST_NOT_HOLDING
 };
 
 /* The fault that the environment's FAULT numbers. */
@@ -260,4 +304,14 @@ uint64_t wide_begin(struct list job, uint32_t *trial, size_t len);
 uint64_t wide_start(struct list job, uint32_t *trial, size_t len, uint32_t action);
 uint64_t wide_on(struct list job, uint32_t *trial, size_t len);
 uint64_t wide_show(struct list job, const uint32_t *trial, size_t trial_len, uint32_t *buffer, size_t len);
+
+/* wrong_held.c: is the fault one of form 5? Then these are the calls. */
+bool held_fault(void);
+uint64_t held_check(struct list job, struct list starts, struct list facts);
+uint64_t held_fill(struct list job, struct list starts, uint32_t *buffer, size_t len);
+uint64_t held_find(struct list job, struct list starts, struct list facts, uint32_t *buffer, size_t len);
+uint64_t held_begin(struct list job, uint32_t *trial, size_t len);
+uint64_t held_start(struct list job, uint32_t *trial, size_t len, uint32_t action);
+uint64_t held_on(struct list job, uint32_t *trial, size_t len);
+uint64_t held_show(struct list job, const uint32_t *trial, size_t trial_len, uint32_t *buffer, size_t len);
 #endif

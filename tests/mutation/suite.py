@@ -85,6 +85,7 @@ class Suite:
         self.tests += [Test("windows", [tests["windows"]], "theory")]
         self.tests += [Test("groups", [tests["groups"]], "trial")]
         self.tests += [Test("waits", [tests["waits"]], "finder")]
+        self.tests += [Test("held", [tests["held"]], "finder")]
         self.tests += [Test(name, [tests[name]], "planreader") for name in ("wide", "widened")]
         self.tests += [Test("planread", [tests["planread"]], "reader"), Test("bench", [bench["planreader-bench"]], "planreader")]
 

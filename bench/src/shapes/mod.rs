@@ -1,6 +1,7 @@
 //! The jobs on which find is timed.
 pub mod crowds;
 pub mod doors;
+pub mod held;
 pub mod nests;
 mod nodes;
 pub mod slowest;
@@ -33,9 +34,10 @@ pub const DOOR: f64 = 1.0;
 pub const WINDOWS: f64 = 1.0;
 pub const LARGEST: f64 = 5.0;
 pub const LARGEST_WIDE: f64 = 15.0;
+pub const HELD: f64 = 2.0;
 
 pub fn all() -> Vec<Shape> {
-    [doors::shapes(), windows::shapes(), nests::shapes(), crowds::shapes(), slowest::shapes()]
+    [doors::shapes(), windows::shapes(), held::shapes(), nests::shapes(), crowds::shapes(), slowest::shapes()]
         .into_iter()
         .flatten()
         .collect()

@@ -76,10 +76,18 @@ fn values(job: &Job, known: &[(u64, u64)]) -> (Vec<u64>, Vec<u64>) {
             1 => known[x],
             2 => (fails[x], holds[x]),
             3 => (holds[x] & holds[y], fails[x] | fails[y]),
-            _ => (holds[x] | holds[y], fails[x] & fails[y]),
+            4 => (holds[x] | holds[y], fails[x] & fails[y]),
+            _ => held(job.last, holds[x], fails[x], y),
         };
         holds.push(held);
         fails.push(failed);
     }
     (holds, fails)
+}
+
+/// The moments at which X has held at all of t - back to t, and at which it fails at one of them. Before 0 it does neither.
+fn held(last: usize, holds: u64, fails: u64, back: usize) -> (u64, u64) {
+    let both = |(held, failed): (u64, u64), ago: usize| (held & holds << ago, failed | fails << ago);
+    let (held, failed) = (0..=back).fold((u64::MAX, 0), both);
+    (held, failed & upto(last))
 }

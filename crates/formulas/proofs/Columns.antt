@@ -1,7 +1,9 @@
 -- A table on the way: all columns before moment t, and of that one the first k entries. Assumes nothing.
 use mathlib.Core.List.{List}
+use mathlib.Core.Logic.{by-cases}
 use mathlib.Core.Path.{_≡_}
 use Prim.Native.Nat.{ℕ, _+_, _*_, _≤_, _<_}
+use native.Mathlib.Decide.{decLt}
 use native.Mathlib.Omega.{arith}
 use borrow.Author.Count.{below-more}
 use lib.ListN.{length, set, replicate, length-set, length-replicate}
@@ -42,6 +44,13 @@ module _ {conj disj job : List ℕ} {fluent : ℕ → ℕ → ℕ} where
           small = h .small;
           column = below-more (λ (u : ℕ). ColumnAt conj disj job fluent u (formulaCount job) values) t (h .others) (h .here);
         }
+
+    -- the columns up to t, as far as that of t is filled
+    pub filled-columns : {k : ℕ} {values : List ℕ} → Filling conj disj job fluent t k values → k ≤ formulaCount job
+        → (u : ℕ) → u ≤ t → ColumnAt conj disj job fluent u k values
+    filled-columns h l u b =
+        by-cases (decLt u t) (λ m. record { entry = λ x q. h .others u m .entry x (omega arith) })
+        (λ m. let same : u ≡ t = omega arith in rw same (h .here))
 
     -- one entry more
     pub fill-entry : t < 64 → (k : ℕ) → k < 64 → (values : List ℕ) (v : ℕ) → v ≤ 2 → Filling conj disj job fluent t k values

@@ -2,15 +2,15 @@
 ghost use mathlib.Core.List.{List};
 ghost use mathlib.Core.Path.{_≡_};
 ghost use Prim.Native.Nat.{ℕ, _+_, _*_, _<_, _≤_};
-ghost use lib.ListN.{getD};
 ghost use Rattle.history.specs.Values.{valueAt};
 ghost use Rattle.history.specs.Code.Tables.{History};
-ghost use Rattle.formulas.specs.Values.{andTable, orTable, byTable, formValue};
-ghost use Rattle.formulas.specs.Code.Table.{Small, Connectives, tabled, Grounds, ColumnsBefore, ColumnReady, FormulaTable};
+ghost use Rattle.formulas.specs.Values.{andTable, orTable, byTable, ago, heldFor, formValue};
+ghost use Rattle.formulas.specs.Code.Table.{Small, Connectives, tabled, tabulated, Grounds, ColumnsBefore, ColumnReady, FormulaTable};
 use words::FAILS;
 use words::FLUENTS;
 use words::HOLDS;
 use words::MOMENTS;
+use words::OPEN;
 use words::atom_fluent;
 use words::form_of;
 use words::formula_x;
@@ -32,6 +32,31 @@ fn by_table(table: &[u8; 9], a: u8, b: u8) -> u8
     table[a as usize * VALUES + b as usize]
 }
 
+// The value of formula `x` at `k` moments before `t`: open before moment 0.
+fn ago(values: &[u8; 4096], x: usize, t: usize, k: usize) -> u8
+    requires { ⌜ (x < 64) × (t < 64) ⌝ }
+    ensures { λ r. ⌜ r ≡ ago (tabulated (now (values .entry)) x) t k ⌝ }
+{
+    if t < k {
+        return OPEN;
+    }
+    values[x * MOMENTS + (t - k)]
+}
+
+// The value of 'formula `x` has held for `y` moments' at moment `t`: 'and' over the values of `x`, oldest first.
+fn held_for(and: &[u8; 9], values: &[u8; 4096], x: usize, y: usize, t: usize) -> u8
+    requires { ⌜ Small (now and) × Small (now values) × (x < 64) × (t < 64) ⌝ }
+    ensures { λ r. ⌜ r ≡ heldFor (now (and .entry)) (tabulated (now (values .entry)) x) y t ⌝ }
+{
+    let mut k = y;
+    let mut r = ago(values, x, t, k);
+    while 0 < k {
+        k -= 1;
+        r = by_table(and, r, ago(values, x, t, k));
+    }
+    r
+}
+
 // The value of the formula word `w` at moment `t`, by the history and the table so far.
 fn form_value(
     and: &[u8; 9],
@@ -42,9 +67,9 @@ fn form_value(
     values: &[u8; 4096],
     t: usize,
 ) -> u8
-    requires { ⌜ Small (now values) × (t < 64) ⌝ }
+    requires { ⌜ Small (now and) × Small (now values) × (t < 64) ⌝ }
     ensures { λ r. ⌜ r ≡ formValue (now (and .entry)) (now (or .entry)) head w
-        (tabled (now (history .entry))) (λ k u. getD (now (values .entry)) (k * 64 + u) 0) t ⌝ }
+        (tabled (now (history .entry))) (tabulated (now (values .entry))) t ⌝ }
 {
     let form = form_of(w);
     let x = formula_x(w);
@@ -54,7 +79,8 @@ fn form_value(
         1 => history[t * FLUENTS + atom_fluent(head, w)],
         2 => HOLDS - values[x * MOMENTS + t],
         3 => by_table(and, values[x * MOMENTS + t], values[y * MOMENTS + t]),
-        _ => by_table(or, values[x * MOMENTS + t], values[y * MOMENTS + t]),
+        4 => by_table(or, values[x * MOMENTS + t], values[y * MOMENTS + t]),
+        _ => held_for(and, values, x, y, t),
     }
 }
 

@@ -29,17 +29,17 @@ use Rattle.job.proofs.WordPositions.{IsWord, is-word, positions-count, 
 use Rattle.job.proofs.ByPlace.{word-place}
 
 -- the forms that a shape allows
-formula-low : (hd w : ℕ) → formulaShape hd w ≡ true → form w ≤ 4
-formula-low hd w = true-upto 4 (form w) (formulaShape hd w) high
+formula-low : (hd w : ℕ) → formulaShape hd w ≡ true → form w ≤ 5
+formula-low hd w = true-upto 5 (form w) (formulaShape hd w) high
   where
-    high : 4 < form w → formulaShape hd w ≡ false
+    high : 5 < form w → formulaShape hd w ≡ false
     high h =
         rw (
           ne-eqb (form w) 0 (λ z. omega arith),
           ne-eqb (form w) 1 (λ z. omega arith),
           ne-eqb (form w) 2 (λ z. omega arith),
           le-leb 3 (form w) (omega arith),
-          lt-leb (form w) 4 h,
+          lt-leb (form w) 5 h,
         )
 
 node-low : (w : ℕ) → nodeShape w ≡ true → form w ≤ 8
@@ -115,15 +115,15 @@ module _ (job : List ℕ) (ok : jobRefusal job .number ≡ 0) where
       let g = within-limit 64 n (formulaShape (headWord job) w) (formulaRange (headWord job) n w) (rule 5 i (at .inside) (at .of-kind)) in
       let low = formula-low (headWord job) w (g .0) in
       let a = implies (eqb (form w) 1) (ltb (atomFluent (headWord job) w) (fluents job)) in
-      let x = implies (within 2 4 (form w)) (ltb (formulaX w) n) in
+      let x = implies (within 2 5 (form w)) (ltb (formulaX w) n) in
       let y = implies (within 3 4 (form w)) (ltb (formulaY w) n) in
       let axy = both-true (a && x) y (g .2) in
       let ax = both-true a x (axy .0) in
       record {
         forms = rw e low;
         fluent = rw e (λ f. ltb-true _ _ (implies-true (eqb (form w) 1) (ltb (atomFluent (headWord job) w) (fluents job)) (ax .0) (eq-eqb (form w) 1 f)));
-        lower-x = rw e (λ f. omega (arith, at .numbered, ltb-true (formulaX w) n (implies-true (within 2 4 (form w)) (ltb (formulaX w) n) (ax .1) (true-within 2 4 (form w) f low))));
-        lower-y = rw e (λ f. omega (arith, at .numbered, ltb-true (formulaY w) n (implies-true (within 3 4 (form w)) (ltb (formulaY w) n) (axy .1) (true-within 3 4 (form w) f low))));
+        lower-x = rw e (λ f. omega (arith, at .numbered, ltb-true (formulaX w) n (implies-true (within 2 5 (form w)) (ltb (formulaX w) n) (ax .1) (true-within 2 5 (form w) f low))));
+        lower-y = rw e (λ f l. omega (arith, at .numbered, ltb-true (formulaY w) n (implies-true (within 3 4 (form w)) (ltb (formulaY w) n) (axy .1) (true-within 3 4 (form w) f l))));
       }
 
   pub node : {p i : ℕ} → IsWord job 6 p i → NodeFormed job p

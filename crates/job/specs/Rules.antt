@@ -47,13 +47,13 @@ formulaShape head w =
     (eqb (form w) 0 && spare w 23 0)
     || (eqb (form w) 1 && atomSpare head w)
     || (eqb (form w) 2 && (spare w 23 12 && spare w 5 0))
-    || (within 3 4 (form w) && spare w 23 12)
+    || (within 3 5 (form w) && spare w 23 12)
 
--- its fluent is the job's; the formulas that it refers to are declared
+-- its fluent is the job's; the formulas that it refers to are declared. The Y of form 5 is a number of moments, and any is lawful
 abbrev pub formulaRange : ℕ → ℕ → ℕ → Bool
 formulaRange head formulas w =
     implies (eqb (form w) 1) (ltb (atomFluent head w) (fluentsOf head))
-    && implies (within 2 4 (form w)) (ltb (formulaX w) formulas)
+    && implies (within 2 5 (form w)) (ltb (formulaX w) formulas)
     && implies (within 3 4 (form w)) (ltb (formulaY w) formulas)
 
 -- how many formulas are declared

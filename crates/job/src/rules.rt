@@ -142,7 +142,7 @@ fn formula_shape(head: u32, w: u32) -> bool
     let atom = words::atom_spare(head, w);
     let high = words::spare_23_12(w);
     let low = words::spare_5_0(w);
-    ((f == 0) & none) | ((f == 1) & atom) | ((f == 2) & (high & low)) | ((3 <= f) & (f <= 4) & high)
+    ((f == 0) & none) | ((f == 1) & atom) | ((f == 2) & (high & low)) | ((3 <= f) & (f <= 5) & high)
 }
 
 fn formula_range(head: u32, formulas: usize, w: u32) -> bool
@@ -153,7 +153,7 @@ fn formula_range(head: u32, formulas: usize, w: u32) -> bool
     let y = words::formula_y(w);
     let atom = words::atom_fluent(head, w) < words::fluents_of(head);
     (!(f == 1) | atom)
-        & (!((2 <= f) & (f <= 4)) | (x < formulas))
+        & (!((2 <= f) & (f <= 5)) | (x < formulas))
         & (!((3 <= f) & (f <= 4)) | (y < formulas))
 }
 

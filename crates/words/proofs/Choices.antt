@@ -29,6 +29,11 @@ cond-when P false p q = q refl
 pub cond-all : {A : Type 0} (P : A → Type 0) (t : Bool) {a b : A} → P a → P b → P (cond t a b)
 cond-all P t p q = cond-when P t (λ e. p) (λ e. q)
 
+-- two choices by one test are equal if what is taken is equal in either case
+pub cond-same : {A : Type 0} (t : Bool) {a a' b b' : A} → (t ≡ true → a ≡ a') → (t ≡ false → b ≡ b') → cond t a b ≡ cond t a' b'
+cond-same true p q = p refl
+cond-same false p q = q refl
+
 pub indicator-le : (t : Bool) → indicator t ≤ 1
 indicator-le true = omega arith
 indicator-le false = omega arith

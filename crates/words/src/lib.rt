@@ -262,7 +262,7 @@ pub fn atom_spare(head: u32, w: u32) -> bool
     )
 }
 
-// Formula of forms 2 to 4: X and Y.
+// Formula of forms 2 to 5: X and Y; the Y of form 5 is a number of moments.
 pub fn formula_x(w: u32) -> usize
     ensures { λ r. ⌜ (r ≡ formulaX w) × (r < 64) ⌝ }
 {

@@ -14,7 +14,7 @@ use std::fs;
 use std::path::{Path, PathBuf};
 
 /// Each with the folder that lists its job.
-const FOLDERS: [(&str, &str); 11] = [
+const FOLDERS: [(&str, &str); 13] = [
     ("door", "door"),
     ("too-soon", "door"),
     ("no-pause", "door"),
@@ -26,6 +26,8 @@ const FOLDERS: [(&str, &str); 11] = [
     ("third-door", "grippers"),
     ("cabinet", "cabinet"),
     ("half-bent", "cabinet"),
+    ("glue", "glue"),
+    ("too-wet", "glue"),
 ];
 
 fn root() -> PathBuf {
@@ -195,6 +197,26 @@ fn cabinet_starts(shelf: usize) -> Vec<u32> {
     vec![start(0, 0), start(2, 1), start(3, 2), start(shelf, 3), start(6, 4)]
 }
 
+/// The job with glue that sets for so many moments, likewise.
+fn glue(moments: usize) -> Vec<u32> {
+    let facts = [0, 1, 2].map(|fluent| initially(fluent, false));
+    let actions = actions(&[
+        (1, &[(1, 0), (2, 0)]),
+        (2, &[(0, 0), (1, 1), (2, 1)]),
+        (2, &[(0, 1), (1, 2), (2, 2)]),
+        (1, &[(0, 2), (3, 0)]),
+    ]);
+    let formulas = [formula(1, 1, 0), formula(5, 0, moments)];
+    let folding = [act(0), act(1), node(7, 0, 1, 0, 1), node(1, 1, 0, 0, 0), act(2), sequence(3, 4)];
+    let rest = [node(7, 2, 5, 0, 4), act(3), sequence(6, 7)];
+    [&[head(3, 4, 8)], &facts[..], &actions, &formulas, &folding, &rest].concat()
+}
+
+/// Its starts, with the glue, action 1, at 1 or 2.
+fn glue_starts(moment: usize) -> Vec<u32> {
+    vec![start(0, 0), start(moment, 1), start(5, 2), start(7, 3)]
+}
+
 /// The job that an example is about.
 fn job(folder: &str) -> Vec<u32> {
     let (_, listing) = FOLDERS.into_iter().find(|&(name, _)| name == folder).expect("an example");
@@ -203,7 +225,8 @@ fn job(folder: &str) -> Vec<u32> {
         "curtain" => curtain(),
         "shift" => shift(),
         "grippers" => grippers(),
-        _ => cabinet(),
+        "cabinet" => cabinet(),
+        _ => glue(2),
     }
 }
 
@@ -253,8 +276,15 @@ fn the_cabinet_s_words_say_what_is_meant() {
 }
 
 #[test]
+fn the_glue_s_words_say_what_is_meant() {
+    assert_eq!(listed("glue", "job.txt"), glue(2));
+    assert_eq!(plan("glue").0, glue_starts(1));
+    assert_eq!(plan("too-wet").0, glue_starts(2));
+}
+
+#[test]
 fn the_facts_are_those_of_the_rules() {
-    for folder in ["door", "no-pause", "curtain", "in-pause", "shift", "grippers", "cabinet"] {
+    for folder in ["door", "no-pause", "curtain", "in-pause", "shift", "grippers", "cabinet", "glue", "too-wet"] {
         let (starts, facts) = plan(folder);
         assert_eq!(calls::facts(&job(folder), &starts), facts, "{folder}");
     }
@@ -273,7 +303,7 @@ fn the_program_and_the_checker_print_what_is_expected() {
 /// So that every run prints the same words.
 #[test]
 fn the_only_reading_is_the_listed_one() {
-    for folder in ["door", "curtain", "shift", "grippers", "cabinet"] {
+    for folder in ["door", "curtain", "shift", "grippers", "cabinet", "glue"] {
         let (starts, facts) = plan(folder);
         let Outcome::Read { world, decision } = calls::find(&job(folder), &starts, &facts, 4_096) else {
             panic!("{folder} has a reading");
@@ -314,5 +344,18 @@ fn the_third_door_begins_when_a_gripper_is_free() {
     for moment in 0..=4 {
         let refused = host::check(&grippers(), &grippers_starts(moment), &[]);
         assert_eq!((refused.number == 16) && (refused.position == 2), moment < 3, "door C at {moment}");
+    }
+}
+
+/// Glued on at 3 or 4, and folded at 5. The test holds Y moments later and on to 8, which is most of the count.
+#[test]
+fn the_fold_waits_until_the_glue_has_set() {
+    let late = [(2, 0, 0, 13), (2, 1, 0, 12), (2, 2, 13, 8), (2, 3, 13, 7)];
+    for (moment, y, number, count) in
+        [(1, 0, 0, 14), (1, 1, 0, 13), (1, 2, 0, 12), (1, 3, 13, 8)].into_iter().chain(late)
+    {
+        let (job, starts) = (glue(y), glue_starts(moment));
+        let found = host::find(&job, &starts, &calls::facts(&job, &starts), &mut vec![0; 4_096]);
+        assert_eq!((found.number, found.count), (number, count), "glue at {moment}, which sets for {y}");
     }
 }

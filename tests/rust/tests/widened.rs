@@ -121,6 +121,15 @@ fn groups_of_actions() {
 }
 
 #[test]
+fn formulas_that_look_back() {
+    let cases = 4_000;
+    let report = widened::with(&CALLS, |calls| held::run(SEED, cases, calls));
+    held(&report, "formulas that look back, by refusal number", &held::COLUMNS);
+    assert_eq!(report.tally.too_seldom(&held_features::needed(cases / 2)), [], "met too seldom");
+    held(&held_tiny::run(&[1, 2, 3], &widened::find(&host::find)), "tiny plans", &held_tiny::COLUMNS);
+}
+
+#[test]
 fn hand_written_jobs_and_plans() {
     for vector in vectors::job::vectors() {
         let right = match vector.number {

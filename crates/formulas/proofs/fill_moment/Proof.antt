@@ -1,13 +1,13 @@
 -- `formulas::fill_moment` meets its contract. The invariant: the entries of the formulas below `k` are written. Assumes nothing.
 use mathlib.Core.List.{List}
-use mathlib.Core.Path.{_≡_, _∙_}
+use mathlib.Core.Path.{_≡_}
 use Prim.Native.Nat.{ℕ, _-_, _<_, _≤_}
+use Rattle.job.specs.Parts.{headWord, formulaWord}
 use Rattle.job.specs.Code.Parts.{formulaCount}
 use Rattle.job.proofs.ByPlace.{formula-place}
-use Rattle.formulas.specs.Values.{formulaAt}
 use Rattle.formulas.specs.Code.Table.{tabled}
-use Rattle.formulas.proofs.Laws.{formula-found, formula-most}
-use Rattle.formulas.proofs.Columns.{Filling, fill-start, fill-entry, fill-end}
+use Rattle.formulas.proofs.Laws.{formula-found, form-most}
+use Rattle.formulas.proofs.Columns.{Filling, fill-start, filled-columns, fill-entry, fill-end}
 use native.Mathlib.Omega.{arith}
 use borrow.Author.Needs.{needs}
 use Rattle.formulas.proofs.fill_moment.Statement.{statement}
@@ -62,15 +62,16 @@ loop-again c =
     let turn = place (c .before) .before .before .loop in
     let old = turn .inv in
     let l : turn .k < formulaCount (a .job .now) = omega (arith, p .grounds .counted, place (c .before) .before .loop-test .taken) in
-    let e : c .form-value .result ≡ formulaAt (a .and .now) (a .or .now) (a .job .now) (tabled (a .history .now)) (turn .k) (a .t)
-    = rw (← formula-place (p .grounds .indexed) (turn .k) l) at (c .form-value .ensures)
-    ∙ formula-found (a .and .now) (a .or .now) (p .grounds .well) (tabled (a .history .now)) (turn .k) (a .t) l (turn .values) (old .filled .here) in
-    let most = formula-most (a .and .now) (a .or .now) (p .grounds .well) (p .connectives) (p .grounds .valued) (turn .k) (a .t) l (p .moment) in
+    let given = rw (← formula-place (p .grounds .indexed) (turn .k) l) at (c .form-value .ensures) in
+    let most : c .form-value .result ≤ 2
+    = rw given (form-most (a .and .now) (a .or .now) (headWord (a .job .now)) (formulaWord (a .job .now) (turn .k)) (p .connectives) _ _ (a .t)
+    (λ f. p .grounds .valued .most (a .t) _ (p .moment) (p .grounds .well .formula (turn .k) l .fluent f)) (λ x u. old .filled .small .most _)) in
     record {
       bound = omega arith;
       few = old .few;
       soon = old .soon;
-      filled = fill-entry (old .soon) (turn .k) (omega arith) (turn .values) (c .form-value .result) (omega (arith, e, most)) (old .filled) e;
+      filled = fill-entry (old .soon) (turn .k) (omega arith) (turn .values) (c .form-value .result) most (old .filled)
+          (rw given (formula-found (a .and .now) (a .or .now) (p .grounds .well) (tabled (a .history .now)) (turn .k) (a .t) l (turn .values) (filled-columns (old .filled) (omega arith))));
     }
 
 returns : tie.Need-returns Inv-loop μ-loop

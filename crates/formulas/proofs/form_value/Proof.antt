@@ -40,17 +40,24 @@ returns-4 c = rw (← formed (read-and c) .form-of .ensures .0, c .before .befor
 
 returns-5 : tie.Need-returns-5
 unfolding formValue
-returns-5 c =
-    let ((((rest, not-0), not-1), not-2), not-3) = c .before .before .before .match .rest in
-    rw (← formed (read-or c) .form-of .ensures .0, ne-eqb _ 0 not-0, ne-eqb _ 1 not-1, ne-eqb _ 2 not-2, ne-eqb _ 3 not-3, ← read-or c .before .formula-x .ensures .0, ← read-or c .formula-y .ensures .0) (c .by-table2 .ensures)
+returns-5 c = rw (← formed (read-or c) .form-of .ensures .0, c .before .before .before .match .keys5, ← read-or c .before .formula-x .ensures .0, ← read-or c .formula-y .ensures .0) (c .by-table2 .ensures)
+
+returns-6 : tie.Need-returns-6
+unfolding formValue
+returns-6 c =
+    let (((((rest, not-0), not-1), not-2), not-3), not-4) = c .before .match .rest in
+    let read = c .before .before in
+    rw (← formed read .form-of .ensures .0, ne-eqb _ 0 not-0, ne-eqb _ 1 not-1, ne-eqb _ 2 not-2, ne-eqb _ 3 not-3, ne-eqb _ 4 not-4, ← read .before .formula-x .ensures .0, ← read .formula-y .ensures .0)
+    (c .held-for .ensures)
 
 pub form-value-spec : {M : Type 1} → statement M
 form-value-spec =
     tie.close
     (tie.spec (λ c κs. search needs) (λ c κs. search needs) (λ c κs. search needs) (λ c. search needs) (λ c κs. search needs) (λ c. search needs)
-    (λ c. search needs) (λ c. search needs) (λ c. search needs) (λ c. search needs) (λ c. entry (c .before .before) .pre .0 .most _)
+    (λ c. search needs) (λ c. search needs) (λ c. search needs) (λ c. search needs) (λ c. entry (c .before .before) .pre .1 .most _)
     (λ c. search needs) (λ c. search needs) (λ c. search needs) (λ c. search needs) (λ c. search needs) (λ c. search needs)
-    (λ c κs. let small = entry (c .before .before .before) .pre .0 in (small .most _, small .most _)) (λ c. search needs) (λ c. search needs)
+    (λ c κs. let small = entry (c .before .before .before) .pre .1 in (small .most _, small .most _)) (λ c. search needs) (λ c. search needs)
     (λ c. search needs) (λ c. search needs) (λ c. search needs) (λ c. search needs)
-    (λ c κs. let small = entry (c .before .before .before) .pre .0 in (small .most _, small .most _)) returns returns-2 returns-3 returns-4
-    returns-5)
+    (λ c κs. let small = entry (c .before .before .before) .pre .1 in (small .most _, small .most _))
+    (λ c κs. let p = entry (c .before) .pre in (p .0, p .1, c .before .before .formula-x .ensures .1, p .2)) returns returns-2 returns-3 returns-4
+    returns-5 returns-6)

@@ -21,6 +21,10 @@ pub record Connectives (conj disj : List ℕ) : Type 0 where
 abbrev pub tabled : List ℕ → ℕ → ℕ → ℕ
 tabled history t f = getD history (t * 256 + f) 0
 
+-- formula k at moment t, by a table of values
+abbrev pub tabulated : List ℕ → ℕ → ℕ → ℕ
+tabulated values k t = getD values (k * 64 + t) 0
+
 pub record Valued (job history : List ℕ) : Type 0 where
   pub most : (t f : ℕ) → t ≤ lastMoment job → f < fluents job → tabled history t f ≤ 2
 

@@ -19,10 +19,10 @@ pub record Indexed (job : List ℕ) (k : ℕ) (places : List ℕ) : Type 0 where
 
 -- formula k: its fluent is the job's, and the formulas that it refers to are lower
 pub record FormulaFormed (job : List ℕ) (k : ℕ) : Type 0 where
-  pub forms : form (formulaWord job k) ≤ 4
+  pub forms : form (formulaWord job k) ≤ 5
   pub fluent : form (formulaWord job k) ≡ 1 → atomFluent (headWord job) (formulaWord job k) < fluents job
   pub lower-x : 2 ≤ form (formulaWord job k) → formulaX (formulaWord job k) < k
-  pub lower-y : 3 ≤ form (formulaWord job k) → formulaY (formulaWord job k) < k
+  pub lower-y : 3 ≤ form (formulaWord job k) → form (formulaWord job k) ≤ 4 → formulaY (formulaWord job k) < k
 
 -- node p: what its form refers to is there, and its children are lower
 pub record NodeFormed (job : List ℕ) (p : ℕ) : Type 0 where

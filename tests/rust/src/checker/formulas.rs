@@ -1,4 +1,5 @@
-//! Document 01: "A formula has three values: holds, fails, open."
+//! Document 01: "A formula has three values: holds, fails, open." Document 02, L7, "Has held for a while": a value "depends on
+//! the states up to t and no more on one state".
 
 use crate::checker::facts::State;
 use crate::checker::job::{Formula, Job};
@@ -11,19 +12,42 @@ pub enum Value {
     Holds,
 }
 
-/// The values of all the job's formulas in one state, by formula number.
-pub fn values(job: &Job, state: &State) -> Vec<Value> {
-    let mut values = vec![];
-    for &formula in &job.formulas {
-        let value = value_of(formula, state, &values);
-        values.push(value);
+/// The values of all the job's formulas at the moments of these states: by moment, then by formula number. Those of a moment go
+/// by its state and by the values of the moments before it.
+pub fn values(job: &Job, states: &[State]) -> Vec<Vec<Value>> {
+    let mut past = vec![];
+    for state in states {
+        let now = values_now(job, state, &past);
+        past.push(now);
     }
-    values
+    past
 }
 
-/// "A fluent holds if known true, fails if known false. Not swaps holds and fails.
+fn values_now(job: &Job, state: &State, past: &[Vec<Value>]) -> Vec<Value> {
+    let mut now = vec![];
+    for &formula in &job.formulas {
+        let value = match formula {
+            Formula::Held { x, moments } => held(moments, past.len(), &|t| past.get(t).unwrap_or(&now)[x]),
+            of_state => value_of(of_state, state, &now),
+        };
+        now.push(value);
+    }
+    now
+}
+
+/// "At t its value is 'and' taken over the values of X at t − Y to t, oldest first, counting moments before 0 as open."
+fn held(y: usize, t: usize, x_at: &dyn Fn(usize) -> Value) -> Value {
+    let ago = |moments: usize| t.checked_sub(moments).map_or(Value::Open, x_at);
+    let mut value = ago(y);
+    for moments in (0..y).rev() {
+        value = value.min(ago(moments));
+    }
+    value
+}
+
+/// The forms of one state. "A fluent holds if known true, fails if known false. Not swaps holds and fails.
 /// And is the lesser, or the greater".
-fn value_of(formula: Formula, state: &State, lower: &[Value]) -> Value {
+pub fn value_of(formula: Formula, state: &State, lower: &[Value]) -> Value {
     match formula {
         Formula::Always => Value::Holds,
         Formula::Fluent(fluent) => match state[fluent] {
@@ -38,5 +62,6 @@ fn value_of(formula: Formula, state: &State, lower: &[Value]) -> Value {
         },
         Formula::And(x, y) => lower[x].min(lower[y]),
         Formula::Or(x, y) => lower[x].max(lower[y]),
+        Formula::Held { .. } => unreachable!("form 5 has no value by one state"),
     }
 }

@@ -1,5 +1,5 @@
 //! Document 01, "Job words", and the rows on the job in "Where each check is made"; document 02, L4, "Shift windows", L5,
-//! "Grippers are few", and L6, "Two hundred and fifty-six facts".
+//! "Grippers are few", L6, "Two hundred and fifty-six facts", and L7, "Has held for a while".
 
 use crate::checker::answer::{refuse, Refusal};
 use crate::checker::layout::{mask, part, JobRule, Layout, RIGHT};
@@ -63,6 +63,11 @@ pub enum Formula {
     Not(usize),
     And(usize, usize),
     Or(usize, usize),
+    /// L7's form 5: "X has held for Y moments".
+    Held {
+        x: usize,
+        moments: usize,
+    },
 }
 
 /// M and N of a window or a condition.
@@ -135,7 +140,7 @@ fn not_allowed(layout: &Layout, before: Option<u32>, word: u32) -> bool {
 fn kind_and_form_allowed(word: u32) -> bool {
     match kind(word) {
         1 | 2 | 3 | 4 | 7 | 12 | 13 | 14 => true,
-        5 => form(word) <= 4,
+        5 => form(word) <= 5,
         6 => form(word) <= 8,
         8 => form(word) <= 4,
         _ => false,
@@ -223,7 +228,7 @@ fn wrong_action(job: &Job, word: u32) -> bool {
     field(word, 11, 6) != job.actions.len() || field(word, 5, 0) == 0
 }
 
-/// "In forms 2 to 4 the references are lower formula numbers."
+/// "In forms 2 to 4 the references are lower formula numbers." Form 5: "X a lower formula, Y from 0 to 63", which any field is.
 fn wrong_formula(job: &Job, word: u32) -> bool {
     let x = field(word, 11, 6);
     let y = field(word, 5, 0);
@@ -231,7 +236,7 @@ fn wrong_formula(job: &Job, word: u32) -> bool {
     match form(word) {
         0 => false,
         1 => part(word, job.layout.formula) >= job.fluents,
-        2 => x >= own,
+        2 | 5 => x >= own,
         _ => x >= own || y >= own,
     }
 }
@@ -465,7 +470,8 @@ fn formula_of(layout: &Layout, word: u32) -> Formula {
         1 => Formula::Fluent(part(word, layout.formula)),
         2 => Formula::Not(x),
         3 => Formula::And(x, y),
-        _ => Formula::Or(x, y),
+        4 => Formula::Or(x, y),
+        _ => Formula::Held { x, moments: y },
     }
 }
 

@@ -59,7 +59,7 @@ fn sort(word: u32) -> u32 {
 }
 
 fn label(word: u32) -> String {
-    let forms = [0, 0, 0, 0, 0, 5, 9, 0, 5];
+    let forms = [0, 0, 0, 0, 0, 6, 9, 0, 5];
     match kind(word) {
         kind @ (1..=4 | 7 | 12..=14) => format!("kind {kind}"),
         kind @ (5 | 6 | 8) if form(word) < forms[kind] => format!("kind {kind} form {}", form(word)),
@@ -95,7 +95,7 @@ pub fn possible() -> Vec<(String, String)> {
     let mut add = |row: &str, columns: &[&str]| {
         columns.iter().for_each(|column| places.push((row.to_string(), column.to_string())));
     };
-    for (kind, forms) in [(5, 5), (6, 9), (8, 5)] {
+    for (kind, forms) in [(5, 6), (6, 9), (8, 5)] {
         for form in 0..forms {
             add(&format!("kind {kind} form {form}"), &["accepted", "2", "3"]);
         }

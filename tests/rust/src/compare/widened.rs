@@ -77,7 +77,7 @@ mod tests {
     use super::*;
     use crate::compare::asker::Calls;
     use crate::compare::plan::tests::right_fill;
-    use crate::compare::{carried, find as finds, groups, job, plan, planted, sets, trial_moves, waits, windows};
+    use crate::compare::{carried, find as finds, groups, held, job, plan, planted, sets, trial_moves, waits, windows};
 
     const SEED: u64 = 101;
 
@@ -94,6 +94,7 @@ mod tests {
             carried::run(SEED, plans, calls),
             windows::run(SEED, plans, calls),
             groups::run(SEED, plans, calls),
+            held::run(SEED, plans, calls),
         ];
         runs.iter().map(|report| report.differences).sum()
     }

@@ -2,7 +2,7 @@
 
 use crate::checker::calls::read_plan;
 use crate::generate::draft::Draft;
-use crate::generate::{damage, jobs, plan_damage, plans, programs};
+use crate::generate::{damage, held, jobs, plan_damage, plans, programs};
 use crate::random::Random;
 use crate::words::{self, field, kind};
 
@@ -126,7 +126,7 @@ fn perturbed_once(random: &mut Random, case: &FindCase) -> FindCase {
 }
 
 /// A plan of that last moment whose job has formulas; formula 0 always holds.
-fn plan_with_formulas(random: &mut Random, last: usize) -> (Draft, Vec<u32>) {
+pub fn plan_with_formulas(random: &mut Random, last: usize) -> (Draft, Vec<u32>) {
     let mut draft = plans::plan_job_until(random, last);
     let flags = random.below(3);
     let first_stop = draft.actions.len();
@@ -138,6 +138,7 @@ fn plan_with_formulas(random: &mut Random, last: usize) -> (Draft, Vec<u32>) {
         let form = *random.pick(&[1, 1, 2, 3, 4]);
         draft.formulas.push(jobs::formula_word(random, draft.fluents, number, form));
     }
+    held::turn_some(&mut draft, 35);
     draft.nodes = vec![vec![words::node(0, 0, 0, 0, 0)]];
     let mut starts = plans::lawful_starts(random, &draft);
     for stop in first_stop..draft.actions.len() {

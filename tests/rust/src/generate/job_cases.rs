@@ -29,11 +29,14 @@ fn every_bit(random: &mut Random, visit: &mut dyn FnMut(&[u32])) {
     }
 }
 
+/// The stream that form 5 (L7) is drawn from.
+const SALT: u64 = 0x68;
+
 fn each_limit(random: &mut Random, visit: &mut dyn FnMut(&[u32])) {
     for extra in [false, true] {
-        for form in 0..5 {
-            visit(&limits::many_formulas(random, form, extra));
-        }
+        let of_forms: Vec<Vec<u32>> = (0..5).map(|form| limits::many_formulas(random, form, extra)).collect();
+        of_forms.iter().for_each(|job| visit(job));
+        visit(&limits::many_formulas(&mut Random::by_words(&of_forms[0], SALT), 5, extra));
         for form in 0..9 {
             visit(&limits::many_nodes(random, form, extra));
         }

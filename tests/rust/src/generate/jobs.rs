@@ -1,7 +1,7 @@
 //! Well-formed jobs of all kinds and forms.
 
 use crate::generate::draft::Draft;
-use crate::generate::{groups, windows};
+use crate::generate::{groups, held, windows};
 use crate::random::Random;
 use crate::words;
 
@@ -19,6 +19,7 @@ pub fn well_formed(random: &mut Random) -> Draft {
         let form = formula_form(random, number);
         draft.formulas.push(formula_word(random, draft.fluents, number, form));
     }
+    held::turn_some(&mut draft, 50);
     let nodes = size(random, 64);
     add_nodes(random, &mut draft, nodes);
     draft
@@ -66,6 +67,7 @@ pub fn formula_word(random: &mut Random, fluents: usize, number: usize, form: us
         0 => words::formula(0, 0, 0),
         1 => words::formula(1, random.below(fluents), 0),
         2 => words::formula(2, random.below(number), 0),
+        5 => words::formula(5, random.below(number), random.below(64)),
         _ => words::formula(form, random.below(number), random.below(number)),
     }
 }

@@ -1,6 +1,6 @@
 //! Readings form by form and condition by condition, with all the readings that the paper's sentences admit.
 
-use crate::vectors::waits;
+use crate::vectors::{held, waits};
 use crate::words::*;
 
 pub struct Vector {
@@ -16,7 +16,7 @@ pub struct Vector {
 pub fn vectors() -> Vec<Vector> {
     let groups = [plain(), branches(), loops(), start_windows(), end_windows(), waits::vectors(), sets(), largest()];
     let conditions = [begin_conditions(), end_conditions(), formula_conditions(), between_conditions()];
-    groups.into_iter().chain(conditions).flatten().collect()
+    groups.into_iter().chain(conditions).flatten().chain(held::vectors()).collect()
 }
 
 /// A plan of actions with these durations and no laws, and of the program words that follow them.

@@ -1,6 +1,6 @@
 //! The job rows, word by word: the paper's sentences and the settled open points 1 to 9.
 
-use crate::vectors::{group_jobs, proved, wide_jobs, window_jobs};
+use crate::vectors::{group_jobs, held_jobs, proved, wide_jobs, window_jobs};
 use crate::words::*;
 
 pub struct Vector {
@@ -31,6 +31,7 @@ pub fn vectors() -> Vec<Vector> {
         window_jobs::vectors(),
         group_jobs::vectors(),
         wide_jobs::vectors(),
+        held_jobs::vectors(),
     ];
     all.extend(groups.into_iter().flatten());
     all
@@ -160,7 +161,7 @@ fn formulas() -> Vec<Vector> {
         vector("form 2 with Y", with(&[0x50000000, 0x52000001]), 2, 3),
         vector("point 4: bit 12 spare", with(&[0x50001000]), 2, 2),
         vector("point 4: bit 23 spare", with(&[0x50000000, 0x53800000]), 2, 3),
-        vector("form 5", with(&[0x50000000, 0x55000000]), 2, 3),
+        vector("form 6", with(&[0x50000000, 0x56000000]), 2, 3),
         vector("form 15", with(&[0x5f000000]), 2, 2),
         vector("point 4: fluent 2 of 2", with(&[0x51000080]), 3, 2),
         vector("not of itself", with(&[0x52000000]), 3, 2),

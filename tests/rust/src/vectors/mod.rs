@@ -5,6 +5,8 @@ pub mod find;
 pub mod group_jobs;
 pub mod group_trials;
 pub mod groups;
+pub mod held;
+pub mod held_jobs;
 pub mod job;
 pub mod job_words;
 pub mod plan;

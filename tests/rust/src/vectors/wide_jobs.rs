@@ -166,7 +166,7 @@ fn formulas() -> Vec<Vector> {
         vector("form 2 of itself", of_formulas(256, &[ALWAYS, 0x52000040]), 3, 3),
         vector("forms 2 and 3 of high formulas", of_formulas(256, &far), 0, 0),
         vector("form 0 with a fluent", of_formulas(256, &[0x50000001]), 2, 2),
-        vector("form 5", of_formulas(256, &[ALWAYS, 0x55000000]), 2, 3),
+        vector("form 6", of_formulas(256, &[ALWAYS, 0x56000000]), 2, 3),
         vector("a 65th formula", of_formulas(256, &vec![0x510000ff; 65]), 3, 66),
         vector("64 formulas", of_formulas(256, &vec![0x510000ff; 64]), 0, 0),
         vector("2 before 3", of_formulas(2, &[0x51000102]), 2, 2),

@@ -1,6 +1,7 @@
 //! What readings are read from: the program, the starts, and the formulas' values at each moment.
 
 use crate::checker::calls::Plan;
+use crate::checker::facts::State;
 use crate::checker::formulas::{values, Value};
 use crate::checker::job::{Job, Node};
 use crate::checker::starts::Start;
@@ -12,9 +13,17 @@ pub struct World {
     values: Vec<Vec<Value>>,
 }
 
+/// The formulas' values, by the states of the moments 0..n. Tests put wrong rules in the place of `values`.
+pub type Valuing<'a> = dyn Fn(&Job, &[State]) -> Vec<Vec<Value>> + 'a;
+
 impl World {
     pub fn new(plan: Plan) -> World {
-        let values = plan.states.iter().map(|state| values(&plan.job, state)).collect();
+        World::by(plan, &values)
+    }
+
+    /// The same with any rule of the formulas' values.
+    pub fn by(plan: Plan, valuing: &Valuing) -> World {
+        let values = valuing(&plan.job, &plan.states);
         World { job: plan.job, starts: plan.starts, values }
     }
 

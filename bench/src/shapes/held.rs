@@ -1,0 +1,83 @@
+//! Request L7, "X has held for Y moments": jobs of 64 formulas, all of form 5 but the first, a fluent; and the same jobs with 'and'.
+use super::nodes::Nodes;
+use super::{Shape, HELD};
+use planreader_tests::words::{action, formula, head, initially, law, node, start};
+
+/// The most formulas that a job has, and the most moments that a formula looks back.
+const FORMULAS: usize = 64;
+const BACK: usize = 63;
+
+/// How many values 'and' is taken over in a job whose forms 5 all look so far back.
+pub const VALUES: usize = (FORMULAS - 1) * 64 * (BACK + 1);
+
+/// How the formulas refer to each other: X and Y of formula k.
+type Formulas = (&'static str, fn(usize) -> (usize, usize));
+const NESTED: Formulas = ("nested", |k| (k - 1, BACK));
+const OF_FLUENT: Formulas = ("of the fluent", |_| (0, BACK));
+const FURTHER: Formulas = ("of the fluent, 1 to 63 back", |k| (0, k));
+
+/// The values of the fluent: whether it is known true at 0, and the starts.
+type Fluent = (&'static str, bool, Vec<u32>);
+
+pub fn shapes() -> Vec<Shape> {
+    pairs().into_iter().flatten().collect()
+}
+
+/// The jobs with forms 5 alone.
+pub fn with_forms_5() -> impl Iterator<Item = Shape> {
+    pairs().into_iter().map(|[held, _]| held)
+}
+
+/// A job with forms 5, and the same with X and X in their place.
+pub fn pairs() -> Vec<[Shape; 2]> {
+    let [open, known, turned, hidden] = &fluents();
+    let nested = [open, known, turned].map(|fluent| pair(NESTED, fluent));
+    let of_fluent = [known, turned, hidden].map(|fluent| pair(OF_FLUENT, fluent));
+    nested.into_iter().chain(of_fluent).chain([pair(FURTHER, known)]).collect()
+}
+
+/// Those whose instructions are counted: values that are all open, and values that hold and fail by turns.
+pub fn counted_pairs() -> [[Shape; 2]; 2] {
+    let [open, _, turned, _] = &fluents();
+    [pair(NESTED, open), pair(OF_FLUENT, turned)]
+}
+
+/// Open at every moment, true at every moment, true and false by turns, true and open by turns.
+fn fluents() -> [Fluent; 4] {
+    let turned = (0..63).map(|u| start(u, (u + 1) % 2)).collect();
+    let hidden = (0..=61).step_by(2).map(|u| start(u, 2)).collect();
+    [("open", false, vec![]), ("true", true, vec![]), ("true, false", true, turned), ("true, open", true, hidden)]
+}
+
+fn pair((name, references): Formulas, fluent: &Fluent) -> [Shape; 2] {
+    let held = |k: usize| formula(5, references(k).0, references(k).1);
+    let and = |k: usize| formula(3, references(k).0, references(k).0);
+    let shape = |form: &str, formulas: Vec<u32>| Shape {
+        name: format!("{form}, {name}, fluent {}", fluent.0),
+        job: tests(before_nodes(fluent.1, &formulas)),
+        starts: fluent.2.clone(),
+        most_ms: HELD,
+        counted: false,
+        most_ratio: None,
+    };
+    let held = Shape { counted: fluent.0 == "open", ..shape("63 forms 5", (1..FORMULAS).map(held).collect()) };
+    [held, shape("63 times 'and'", (1..FORMULAS).map(and).collect())]
+}
+
+/// Action 0 makes the fluent true and action 1 false, within a moment; action 2 hides it for one and makes it true.
+fn before_nodes(known: bool, formulas: &[u32]) -> Vec<u32> {
+    let known = if known { vec![initially(0, true)] } else { vec![] };
+    let actions = [action(0, 1), law(2, 0), action(1, 1), law(3, 0), action(2, 2), law(2, 0)];
+    [&[head(1, 3, 63)], &known[..], &actions, &[formula(1, 0, 0)], formulas].concat()
+}
+
+/// Tests of every second formula, and a choice of them, which reads from 0 to 63 in no plan: the count says at how many moments each holds.
+fn tests(before_nodes: Vec<u32>) -> Vec<u32> {
+    let mut nodes = Nodes::after(before_nodes);
+    let mut whole = nodes.test(FORMULAS - 1);
+    for k in (1..FORMULAS - 1).step_by(2) {
+        let test = nodes.test(k);
+        whole = nodes.add(node(3, whole, test, 0, 0), &[]);
+    }
+    nodes.words
+}
