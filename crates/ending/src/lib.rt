@@ -1,4 +1,5 @@
-// The ends of a set whose members are all placed: ends (that the conditions leave to each member), and here those that a search has found.
+// The ends of a set whose members are all placed: ends (those that the conditions leave to each member), and here what a search has found, and
+// what such a set adds to it.
 ghost use mathlib.Core.List.{List};
 ghost use Prim.Native.Nat.{ℕ, _<_, _≤_};
 ghost use Rattle.bitset.specs.Code.Members.{In};
