@@ -105,5 +105,7 @@ returns-3 c = let k = c .before .before .before in let n = c .search .ensures in
 pub from-first-spec : {M : Type 1} → statement M
 from-first-spec =
     tie.close
-    (tie.spec (λ c κs. search needs) (λ c. omega (arith, index (c .before .before))) (λ c. omega (arith, index (c .before .before))) (λ c. omega (arith, index (c .before .before))) (λ c. omega (arith, index (c .before .before))) (λ c κs. search needs) returns unplaced-requires placed-requires (λ c. let p = entry (c .before .before) .pre in omega (arith, p .2, p .0 .few))
+    (tie.spec (λ c κs. search needs) (λ c. omega (arith, index (c .before .before))) (λ c. omega (arith, index (c .before .before)))
+    (λ c. omega (arith, index (c .before .before))) (λ c. omega (arith, index (c .before .before))) (λ c κs. search needs) returns
+    unplaced-requires placed-requires (λ c. let p = entry (c .before .before) .pre in omega (arith, p .2, p .0 .few))
     (λ c. let p = entry (c .before .before) .pre in omega (arith, p .2, p .0 .few)) returns-2 search-requires returns-3)
