@@ -15,7 +15,7 @@ use planreader_tests::words::{formula, kind};
 
 const SEED: u64 = 0x5e3a_1071_000a;
 
-/// How many plans of all forms are compared, of these with a wide head, with forms 5 in the place of other formulas, of end windows, of sets with few moments, and of sets with n = 63.
+/// How many plans of all forms are compared, of these with a wide head, with form 5 in the place of other formulas, of end windows, of sets with few moments, and of sets with n = 63.
 const ANY: usize = 2_000;
 const WIDE: usize = 1_000;
 const HELD: usize = 2_000;
@@ -37,7 +37,7 @@ pub fn within_limits() -> bool {
     let within = all && is_within(slowest, SET);
     let told = if within { "" } else { "  FAILED" };
     println!("generated plans on which find and the yardstick agree: {any} of {ANY} of all forms,");
-    println!("  {wide} of {WIDE} with a wide head, {held} of {HELD} with forms 5, {waits} of {WAITS} of end windows");
+    println!("  {wide} of {WIDE} with a wide head, {held} of {HELD} with form 5, {waits} of {WAITS} of end windows");
     println!(
         "generated sets on which find and the yardstick agree: {small} of {SMALL}, with n = 63 {} of {LONG}",
         long.len()
@@ -63,7 +63,7 @@ fn wide_case(random: &mut Random) -> FindCase {
     FindCase { job: widened(&job), starts }
 }
 
-/// A plan of all forms with forms 5 in the place of half its formulas but the first.
+/// A plan of all forms with form 5 in the place of half its formulas but the first.
 fn held_case(random: &mut Random) -> FindCase {
     let FindCase { mut job, starts } = any_case(random);
     let formulas = job.iter_mut().filter(|word| kind(**word) == 5);

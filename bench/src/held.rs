@@ -1,4 +1,4 @@
-//! Find on jobs of forms 5 beside find on the same jobs with 'and': times, and for some instructions.
+//! Find on jobs of form 5 beside find on the same jobs with 'and': times, and for some instructions.
 use crate::instructions::{self, all_within, Finder};
 use crate::shapes::held::{counted_pairs, pairs, VALUES};
 use crate::shapes::{facts, Shape};
@@ -11,9 +11,9 @@ const MORE: f64 = 1.0;
 /// How many instructions a value that 'and' is taken over may cost, beyond the same job with 'and'. When this was set, it took 10.
 const VALUE: u64 = 12;
 
-/// Prints the times; whether forms 5 cost no more than they may.
+/// Prints the times; whether form 5 costs no more than it may.
 pub fn within_limit() -> bool {
-    println!("find with forms 5, ms; with 'and' in their place, ms; more, ms; limit");
+    println!("find with form 5, ms; with 'and' in its place, ms; more, ms; limit");
     pairs().iter().map(pair_within_limit).fold(true, |all, within| all & within)
 }
 
@@ -34,7 +34,7 @@ fn find_ms(shape: &Shape) -> f64 {
 
 /// Prints the instructions; whether a value costs no more than it may.
 pub fn instructions_within_limit() -> bool {
-    println!("find, instructions with forms 5; with 'and' in their place; for each value looked at; limit");
+    println!("find, instructions with form 5; with 'and' in its place; for each value looked at; limit");
     all_within(counted_pairs().iter().map(value_within_limit))
 }
 

@@ -187,8 +187,9 @@ static void add_declaration(struct input *in, struct dice *dice)
 /* A formula of form 5 in the place of any but the first. */
 static void change_formula(struct input *in, struct dice *dice)
 {
-    unsigned formulas = number_of(in, FORMULA), wanted = 1 + roll(dice, formulas - 1), number = 0;
+    unsigned formulas = number_of(in, FORMULA), number = 0;
     if (formulas < 2) return;
+    unsigned wanted = 1 + roll(dice, formulas - 1);
     for (size_t i = 0; i < in->job_len; i++)
         if (kind_of(in->job[i]) == FORMULA && number++ == wanted) in->job[i] = some_held(dice, wanted & 63u);
 }

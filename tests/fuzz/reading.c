@@ -25,14 +25,11 @@ void parts_of(struct parts *parts, struct list job)
     }
 }
 
-static uint8_t least(uint8_t a, uint8_t b) { return a < b ? a : b; }
-static uint8_t greatest(uint8_t a, uint8_t b) { return a > b ? a : b; }
-
 /* Request L7: the least value of X from t - back on. Before moment 0 it is open. */
 static uint8_t held_for(const uint8_t x[64], uint32_t back, uint32_t t)
 {
     uint8_t value = back > t ? OPEN : HOLDS;
-    for (uint32_t u = back > t ? 0 : t - back; u <= t; u++) value = least(value, x[u]);
+    for (uint32_t u = back > t ? 0 : t - back; u <= t; u++) value = lesser(value, x[u]);
     return value;
 }
 
@@ -44,8 +41,8 @@ static uint8_t value_of(uint32_t head, uint32_t word, uint8_t fluents[FLUENTS][6
     case 0: return HOLDS;
     case 1: return fluents[atom_fluent(head, word)][t];
     case 2: return (uint8_t)(HOLDS - formulas[x][t]);
-    case 3: return least(formulas[x][t], formulas[y][t]);
-    case 4: return greatest(formulas[x][t], formulas[y][t]);
+    case 3: return lesser(formulas[x][t], formulas[y][t]);
+    case 4: return greater(formulas[x][t], formulas[y][t]);
     default: return held_for(formulas[x], y, t);
     }
 }

@@ -22,6 +22,9 @@ struct plan {
 };
 enum { FAILS, OPEN, HOLDS };
 
+static inline uint8_t lesser(uint8_t a, uint8_t b) { return a < b ? a : b; }
+static inline uint8_t greater(uint8_t a, uint8_t b) { return a > b ? a : b; }
+
 void plan_of(struct plan *plan, const struct parts *parts, struct list starts, struct list facts);
 
 /* What is wrong with the list as a reading of the root from 0 to n; NULL where nothing is. */

@@ -107,9 +107,6 @@ static struct list read_by_fault(struct list job)
     return (struct list){other, job.len};
 }
 
-static uint8_t least(uint8_t a, uint8_t b) { return a < b ? a : b; }
-static uint8_t greatest(uint8_t a, uint8_t b) { return a > b ? a : b; }
-
 /* The values by the fault: of formulas at each moment, and in a state of which nothing is known. */
 static uint8_t value[64][64], of_nothing[64];
 
@@ -129,11 +126,11 @@ static uint8_t before_0(uint32_t x)
 static uint8_t joined(uint8_t all, uint8_t next)
 {
     switch (fault()) {
-    case HELD_OR: return greatest(all, next);
-    case HELD_OPEN_HOLDS: return least(all, next == OPEN ? HOLDS : next);
-    case HELD_OPEN_FAILS: return least(all, next == OPEN ? FAILS : next);
+    case HELD_OR: return greater(all, next);
+    case HELD_OPEN_HOLDS: return lesser(all, next == OPEN ? HOLDS : next);
+    case HELD_OPEN_FAILS: return lesser(all, next == OPEN ? FAILS : next);
     case HELD_FIRST_NOT_HOLDING: return all == HOLDS ? next : all;
-    default: return least(all, next);
+    default: return lesser(all, next);
     }
 }
 
@@ -166,8 +163,8 @@ static uint8_t state_value(uint32_t word, uint8_t fluent, uint8_t x, uint8_t y)
     case 0: return HOLDS;
     case 1: return fluent;
     case 2: return (uint8_t)(HOLDS - x);
-    case 3: return least(x, y);
-    default: return greatest(x, y);
+    case 3: return lesser(x, y);
+    default: return greater(x, y);
     }
 }
 

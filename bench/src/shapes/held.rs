@@ -7,7 +7,7 @@ use planreader_tests::words::{action, formula, head, initially, law, node, start
 const FORMULAS: usize = 64;
 const BACK: usize = 63;
 
-/// How many values 'and' is taken over in a job whose forms 5 all look so far back.
+/// How many values 'and' is taken over in a job whose formulas of form 5 all look so far back.
 pub const VALUES: usize = (FORMULAS - 1) * 64 * (BACK + 1);
 
 /// How the formulas refer to each other: X and Y of formula k.
@@ -23,12 +23,12 @@ pub fn shapes() -> Vec<Shape> {
     pairs().into_iter().flatten().collect()
 }
 
-/// The jobs with forms 5 alone.
+/// The jobs with form 5 alone.
 pub fn with_forms_5() -> impl Iterator<Item = Shape> {
     pairs().into_iter().map(|[held, _]| held)
 }
 
-/// A job with forms 5, and the same with X and X in their place.
+/// A job with form 5, and the same with 'and' of X and X in its place.
 pub fn pairs() -> Vec<[Shape; 2]> {
     let [open, known, turned, hidden] = &fluents();
     let nested = [open, known, turned].map(|fluent| pair(NESTED, fluent));
@@ -60,7 +60,7 @@ fn pair((name, references): Formulas, fluent: &Fluent) -> [Shape; 2] {
         counted: false,
         most_ratio: None,
     };
-    let held = Shape { counted: fluent.0 == "open", ..shape("63 forms 5", (1..FORMULAS).map(held).collect()) };
+    let held = Shape { counted: fluent.0 == "open", ..shape("63 of form 5", (1..FORMULAS).map(held).collect()) };
     [held, shape("63 times 'and'", (1..FORMULAS).map(and).collect())]
 }
 

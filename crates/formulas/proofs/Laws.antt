@@ -1,9 +1,9 @@
--- Laws of the values of formulas: each is one of the three, and follow from those of lower formulas and of the fluents at the moments up to theirs.
+-- Laws of the values of formulas: each is one of the three, and follows from those of lower formulas and of the fluents at the moments up to its own.
 -- Assumes nothing.
 use mathlib.Core.Bool.{Bool, true, false, cond}
 use mathlib.Core.List.{List}
 use mathlib.Core.Path.{_≡_, refl, sym, _∙_}
-use Prim.Native.Nat.{ℕ, zero, suc, _+_, _*_, _≤_, _<_}
+use Prim.Native.Nat.{ℕ, zero, suc, _≤_, _<_}
 use native.Mathlib.Omega.{arith}
 use borrow.Author.Tests.{eqb-true, eqb-false, eq-eqb}
 use lib.Dec.{eqb}

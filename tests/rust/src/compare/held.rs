@@ -5,6 +5,7 @@ use crate::checker::answer::Answer;
 use crate::checker::calls::{self, Outcome};
 use crate::compare::asker::{first_or_later, Asker, Calls, Question};
 use crate::compare::held_features as features;
+use crate::compare::held_rules::MOST_PLACEMENTS;
 use crate::compare::report::Report;
 use crate::compare::{find, job};
 use crate::generate::finds::FindCase;
@@ -12,9 +13,6 @@ use crate::generate::held;
 use crate::generate::trials::Trial;
 
 pub const COLUMNS: [&str; 9] = ["0", "2", "3", "5", "11", "13", "14", "accepted", "told"];
-
-/// Cases with a set of more placements than this are not given to find.
-const MOST_PLACEMENTS: usize = 20_000;
 
 /// So many lawful plans, each also with a damaged formula.
 pub fn run(seed: u64, cases: usize, calls: &Calls) -> Report {

@@ -24,9 +24,10 @@ const SIZES: [(&str, fn(usize, usize) -> bool); 8] = [
 /// The forms of X, in order.
 const FORMS: [&str; 6] = ["X always", "X a fluent", "X not", "X and", "X or", "X form 5"];
 
-/// The values of X from t - Y to t, those before 0 open; the value at t, and that at t - 1.
+/// The values of X from t - Y to t, those before 0 open; the value at t, and that at t - 1. It is early before moment Y, and first at Y.
 struct Span {
     early: bool,
+    first: bool,
     x: Vec<Value>,
     now: Value,
     before: Option<Value>,
@@ -45,8 +46,8 @@ impl Span {
 
 /// Of a span of two moments or more.
 const SPANS: [(&str, fn(&Span) -> bool); 15] = [
-    ("holds where the span begins at 0", |span| span.now == Holds && span.before == Some(Open)),
-    ("begins to hold later", |span| span.now == Holds && span.before == Some(Fails)),
+    ("holds where the span begins at 0", |span| span.first && span.now == Holds),
+    ("begins to hold later", |span| !span.first && span.now == Holds && span.before != Some(Holds)),
     ("holds on", |span| span.now == Holds && span.before == Some(Holds)),
     ("holds no more", |span| span.now != Holds && span.before == Some(Holds)),
     ("open before Y have passed", |span| span.early && span.now == Open),
@@ -164,6 +165,7 @@ fn span(world: &World, number: usize, x: usize, y: usize, t: usize) -> Span {
     let ago = |moments: usize| t.checked_sub(moments).map_or(Open, |t| world.value(x, t));
     Span {
         early: t < y,
+        first: t == y,
         x: (0..=y).rev().map(ago).collect(),
         now: world.value(number, t),
         before: t.checked_sub(1).map(|t| world.value(number, t)),

@@ -224,7 +224,7 @@ fn row(columns: &[Vec<Value>], t: usize) -> Vec<Value> {
 }
 
 /// Sets with more placements than this are not decided.
-const MOST_PLACEMENTS: usize = 20_000;
+pub const MOST_PLACEMENTS: usize = 20_000;
 
 fn plan_by(rule: &Rule, job: &[u32], starts: &[u32], facts: &[u32]) -> Result<Plan, Refusal> {
     let plan = plan_of((rule.reads)(job)?, starts)?;
@@ -261,14 +261,16 @@ pub fn found_by(rule: &Rule, job: &[u32], starts: &[u32], facts: &[u32]) -> Foun
 }
 
 /// The slips that a case tells from the right rule by number, position or count. Where all nodes and conditions hear the same by
-/// both, the answers are the same.
+/// both, the answers are the same; where one of the two is not decided, nothing is told.
 pub fn told(job: &[u32], starts: &[u32], facts: &[u32]) -> Vec<&'static str> {
     let by = |rule: &Rule| plan_by(rule, job, starts, facts);
     let answer = |found: Found| found.map(|(answer, _)| answer);
     let right_heard = by(&RIGHT).map(|plan| heard(&RIGHT, &plan));
     let right_answer = answer(found_by(&RIGHT, job, starts, facts));
     let tells = |slip: &Rule| match (by(slip), &right_heard) {
-        (Ok(plan), Ok(right)) => heard(slip, &plan) != *right && answer(found(slip, plan)) != right_answer,
+        (Ok(plan), Ok(right)) if heard(slip, &plan) == *right => false,
+        (Ok(plan), Ok(_)) => answer(found(slip, plan))
+            .is_some_and(|by_slip| right_answer.as_ref().is_some_and(|right| by_slip != *right)),
         (Err(refusal), Err(right)) => refusal != *right,
         _ => true,
     };

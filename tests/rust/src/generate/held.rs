@@ -12,7 +12,7 @@ use crate::random::Random;
 use crate::words::{self, bits, field, form, kind};
 
 /// Another stream than those of windows, groups and wide jobs.
-const SALT: u64 = 0x68;
+pub const SALT: u64 = 0x68;
 
 /// In so many of a hundred jobs some formulas become ones of form 5, from a stream of their own, so that all else is drawn as it
 /// was before there was this form.

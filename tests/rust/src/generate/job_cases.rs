@@ -1,6 +1,6 @@
 //! The generated jobs of one run: well-formed ones, one-word damage of them, the limits, and noise.
 
-use crate::generate::{damage, jobs, limits, noise};
+use crate::generate::{damage, held, jobs, limits, noise};
 use crate::random::Random;
 
 /// Hands each job of the run to the visitor; each round of the mixture is five jobs.
@@ -29,14 +29,11 @@ fn every_bit(random: &mut Random, visit: &mut dyn FnMut(&[u32])) {
     }
 }
 
-/// The stream that form 5 (L7) is drawn from.
-const SALT: u64 = 0x68;
-
 fn each_limit(random: &mut Random, visit: &mut dyn FnMut(&[u32])) {
     for extra in [false, true] {
         let of_forms: Vec<Vec<u32>> = (0..5).map(|form| limits::many_formulas(random, form, extra)).collect();
         of_forms.iter().for_each(|job| visit(job));
-        visit(&limits::many_formulas(&mut Random::by_words(&of_forms[0], SALT), 5, extra));
+        visit(&limits::many_formulas(&mut Random::by_words(&of_forms[0], held::SALT), 5, extra));
         for form in 0..9 {
             visit(&limits::many_nodes(random, form, extra));
         }

@@ -1,7 +1,6 @@
 -- `sets::tables::cut_pairs` meets its contract. The invariant: the tables have what they had of each placement, and no end more. Assumes
 -- nothing.
 use Prim.Native.Nat.{ℕ}
-use mathlib.Core.List.{List}
 use native.Mathlib.Omega.{arith}
 use Rattle.bitset.specs.Code.Members.{popCount}
 use Rattle.sets.specs.Code.Tables.{Have, Fewer, InSpan}
