@@ -1,35 +1,26 @@
-// The rows on starts, 6 to 10, 15 and 16, of a well-formed job. Each row's function answers its number at the first word that it fits.
+// The rows on starts, 6 to 10, of a well-formed job; the crates `shifts` and `groups` have the code of rows 15 and 16. Each row's function
+// answers its number at the first word that it fits.
 ghost use mathlib.Core.Path.{_≡_};
 ghost use lib.ListN.{length};
 ghost use Rattle.starts.specs.Rows.{rowsRefusal};
 ghost use Rattle.starts.specs.Code.Given.{timeRows, Tabled};
 
 mod clashes;
-mod groups;
 mod order;
-mod shifts;
 mod times;
 mod unmet;
 
 use answers::Refusal;
 pub use clashes::first_clash;
 pub use clashes::has_clash;
-pub use groups::Groups;
-pub use groups::groups_of;
-pub use groups::over_limit;
-pub use groups::some_full;
 pub use order::wrong_word;
-pub use shifts::Shifts;
-pub use shifts::may_start;
-pub use shifts::outside_windows;
-pub use shifts::shifts_of;
 pub use times::late_end;
 pub use times::restart;
 pub use unmet::check_needs;
 pub use unmet::has_unmet;
 
-// The first of rows 6 to 9 that fits, at the first word that it fits. Rows 15 (`outside_windows`), 16 (`over_limit`) and 10
-// (`check_needs`) come after them.
+// The first of rows 6 to 9 that fits, at the first word that it fits. Rows 15 (`shifts::outside_windows`), 16
+// (`groups::over_limit`) and 10 (`check_needs`) come after them.
 pub fn check_times(
     job: &[u32],
     durations: &[usize; 64],

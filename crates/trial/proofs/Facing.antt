@@ -21,12 +21,12 @@ use Rattle.history.specs.Code.Held.{unfinishedBy}
 use Rattle.history.proofs.Held.{in-hand-true}
 use Rattle.history.proofs.Moments.{finish-tabled}
 use Rattle.starts.specs.Rows.{clash, together, clashing, overLimit}
-use Rattle.starts.specs.Code.GroupTable.{GroupTable, someFull}
-use Rattle.starts.specs.declared.groups.Groups.{Groups}
 use Rattle.starts.proofs.GroupLimits.{one-in-front}
-use Rattle.starts.proofs.GroupTable.{some-read}
 use Rattle.starts.proofs.Opposed.{together-later}
 use Rattle.starts.proofs.StartsFormed.{word-moment, word-action}
+use Rattle.groups.specs.Code.GroupTable.{GroupTable, someFull}
+use Rattle.groups.specs.declared.Groups.{Groups}
+use Rattle.groups.proofs.GroupTable.{some-read}
 use Rattle.moves.specs.Trials.{busy}
 use Rattle.trial.specs.Code.Given.{Facing, FacingAll}
 

@@ -14,13 +14,13 @@ use answers::Refusal;
 use answers::first_refusal;
 use answers::refuse;
 use answers::row_of;
+use groups::some_full;
 use history::finish_of;
 use history::keep_unfinished;
 use history::laws_of;
+use shifts::may_start;
 use starts::has_clash;
 use starts::has_unmet;
-use starts::may_start;
-use starts::some_full;
 use theory::Plan;
 use words::*;
 

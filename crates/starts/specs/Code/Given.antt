@@ -7,12 +7,9 @@ use lib.ListN.{length, getD, take}
 use Rattle.words.specs.Fields.{startMoment}
 use Rattle.job.specs.Parts.{actions}
 use Rattle.job.specs.Code.WellFormed.{WellFormed, Indexed}
-use Rattle.history.specs.Held.{Ascending}
 use Rattle.history.specs.Code.Tables.{Durations, Effects, HistoryUpto}
 use Rattle.starts.specs.Rows.{wrongWord, startRows}
 use Rattle.starts.specs.Code.Latest.{Clashes}
-use Rattle.starts.specs.Code.GroupTable.{GroupTable}
-use Rattle.starts.specs.declared.groups.Groups.{Groups}
 
 -- the rows on times: 6 to 9
 abbrev pub timeRows : List ℕ → List ℕ → List (ℕ × (ℕ → Bool))
@@ -45,13 +42,6 @@ pub record Compared (job table : List ℕ) (b : ℕ) : Type 0 where
   pub formed : WellFormed job
   pub entries : Clashes job table
   pub action : b < actions job
-
--- row 16: such starts, at most 4,096 with moments that ascend, and the tables of the groups
-pub record Grouped (job durations starts : List ℕ) (groups : Groups) : Type 0 where
-  pub timed : Timed job durations starts
-  pub table : GroupTable job groups
-  pub ascends : Ascending starts
-  pub few : length starts ≤ 4096
 
 -- row 10: once row 6 fits no start, the positions of the job's actions and the history of the plan, up to a moment that no start is after
 pub record Recorded (job places history starts : List ℕ) : Type 0 where

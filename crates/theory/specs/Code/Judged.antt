@@ -12,8 +12,8 @@ use Rattle.job.specs.Parts.{lastMoment}
 use Rattle.job.specs.Refusal.{jobRefusal}
 use Rattle.job.specs.Code.Index.{checkedOf}
 use Rattle.history.specs.Code.Tables.{Durations, Effects, HistoryUpto}
-use Rattle.starts.specs.Code.ShiftSets.{ShiftTable}
-use Rattle.starts.specs.Code.GroupTable.{GroupTable}
+use Rattle.shifts.specs.Code.ShiftSets.{ShiftTable}
+use Rattle.groups.specs.Code.GroupTable.{GroupTable}
 use Rattle.theory.specs.Answers.{factRoomRefusal, planRefusal}
 use Rattle.theory.specs.declared.Plan.{Plan}
 

@@ -13,7 +13,7 @@ use Rattle.words.proofs.Copies.{sets-first}
 use Rattle.words.proofs.Lists.{each-at}
 use Rattle.history.specs.Code.Held.{unfinishedBy}
 use Rattle.starts.specs.Rows.{clashing}
-use Rattle.starts.proofs.ShiftSets.{may-start-read}
+use Rattle.shifts.proofs.ShiftSets.{may-start-read}
 use Rattle.moves.specs.Trials.{busy}
 use Rattle.trial.specs.Code.Given.{FacingAll}
 use Rattle.trial.proofs.Facing.{held-facing, held-busy, held-clash, held-full}

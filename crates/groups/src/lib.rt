@@ -1,0 +1,161 @@
+// Row 16: groups that exceed their limit.
+ghost use mathlib.Core.Bool.{true, not};
+ghost use mathlib.Core.Path.{_≡_};
+ghost use Prim.Native.Nat.{ℕ, _<_, _≤_};
+ghost use lib.Dec.{eqb};
+ghost use lib.ListN.{length, getD, take};
+ghost use Rattle.words.specs.Fields.{kind, groupNumber};
+ghost use Rattle.words.specs.Scan.{anyBelow};
+ghost use Rattle.words.specs.Lists.{Each};
+ghost use Rattle.answers.specs.Rows.{firstOf};
+ghost use Rattle.job.specs.Code.WellFormed.{WellFormed};
+ghost use Rattle.history.specs.Code.Held.{unfinishedBy, Filtered};
+ghost use Rattle.starts.specs.Rows.{groupExceeded, numbered};
+ghost use Rattle.groups.specs.Code.GroupTable.{GroupTable, LimitStored, MemberStored, heldOf, isFull, someFull, Grouped};
+use answers::Refusal;
+use answers::none;
+use answers::refuse;
+use bitset::has;
+use bitset::single;
+use bitset::union;
+use history::keep_unfinished;
+use words::*;
+
+// The limit of each group, and the set of its actions.
+pub struct Groups {
+    pub limits: [usize; 8],
+    pub members: [u64; 8],
+}
+
+// Stores the limit of the group that the word `w` declares, and the action that it lists in a group.
+fn store_limit(w: u32, limits: &mut [usize; 8])
+    requires { ⌜ (kind w ≡ 13 → groupNumber w < 8) × (length (now limits) ≡ 8) ⌝ }
+    ensures { λ _. ⌜ LimitStored w (now (limits .entry)) (now (limits .exit)) ⌝ }
+{
+    if kind_of(w) == GROUP {
+        limits[group_number(w)] = group_limit(w);
+    }
+}
+
+fn store_member(w: u32, members: &mut [u64; 8])
+    requires { ⌜ (kind w ≡ 14 → groupNumber w < 8) × (length (now members) ≡ 8) ⌝ }
+    ensures { λ _. ⌜ MemberStored w (now (members .entry)) (now (members .exit)) ⌝ }
+{
+    if kind_of(w) == GROUP_MEMBER {
+        let g = group_number(w);
+        members[g] = union(members[g], single(group_action(w) as u32));
+    }
+}
+
+// The groups of a job, in one pass over it: from the last word to the first, so that of two words on one limit the first counts.
+pub fn groups_of(job: &[u32]) -> Groups
+    requires { ⌜ WellFormed (now job) ⌝ }
+    ensures { λ r. ⌜ GroupTable (now (job .entry)) r ⌝ }
+{
+    let mut limits = [0usize; 8];
+    let mut members = [0u64; 8];
+    let mut i = job.len();
+    while 0 < i {
+        i -= 1;
+        let w = job[i];
+        store_limit(w, &mut limits);
+        store_member(w, &mut members);
+    }
+    Groups { limits, members }
+}
+
+// How many of the starts have an action in the set.
+fn held_of(members: u64, held: &[u32]) -> usize
+    ensures { λ r. ⌜ r ≡ heldOf members (now (held .entry)) ⌝ }
+{
+    let mut n = 0;
+    let mut i = 0;
+    while i < held.len() {
+        if has(members, start_action(held[i]) as u32) {
+            n += 1;
+        }
+        i += 1;
+    }
+    n
+}
+
+// Whether a group, by its limit and the set of its actions, has no room for a start of action `a` beside those in hand; whether some group
+// has none.
+fn is_full(limit: usize, members: u64, held: &[u32], a: usize) -> bool
+    requires { ⌜ a < 64 ⌝ }
+    ensures { λ r. ⌜ r ≡ isFull limit members (now (held .entry)) a ⌝ }
+{
+    if !has(members, a as u32) {
+        return false;
+    }
+    limit <= held_of(members, held)
+}
+
+pub fn some_full(limits: &[usize; 8], members: &[u64; 8], held: &[u32], a: usize) -> bool
+    requires { ⌜ a < 64 ⌝ }
+    ensures { λ r. ⌜ r ≡ someFull (now (limits .entry)) (now (members .entry)) (now (held .entry)) a ⌝ }
+{
+    let mut g = 0;
+    while g < GROUPS {
+        if is_full(limits[g], members[g], held, a) {
+            return true;
+        }
+        g += 1;
+    }
+    false
+}
+
+// Whether no group has an action.
+fn all_empty(members: &[u64; 8]) -> bool
+    ensures { λ r. ⌜ r ≡ not (anyBelow (λ g. not (eqb (getD (now (members .entry)) g 0) 0)) 8) ⌝ }
+{
+    let mut g = 0;
+    while g < GROUPS {
+        if members[g] != 0 {
+            return false;
+        }
+        g += 1;
+    }
+    true
+}
+
+// Keeps of the first `count` starts, which all finish after moment `t`, those that finish after moment `u`, which is not before `t`.
+// At the same moment that is all of them, without a pass.
+fn keep_from(durations: &[usize; 64], t: usize, u: usize, held: &mut [u32], count: usize) -> usize
+    requires { ⌜ (t ≤ u) × ((a : ℕ) → getD (now durations) a 0 < 64) × (count ≤ length (now held)) × Each (λ s. unfinishedBy (now durations) t s ≡ true) (take count (now held)) ⌝ }
+    ensures { λ r. ⌜ Filtered (unfinishedBy (now (durations .entry)) u) count (now (held .entry)) r (now (held .exit)) ⌝ }
+{
+    if t == u {
+        return count;
+    }
+    keep_unfinished(durations, u, held, count)
+}
+
+// Row 16. Of the words before, those in hand at the moment `t` of the last one are in the list `held`.
+pub fn over_limit(job: &[u32], durations: &[usize; 64], groups: Groups, starts: &[u32]) -> Refusal
+    requires { ⌜ Grouped (now job) (now durations) (now starts) groups ⌝ }
+    ensures { λ r. ⌜ r ≡ firstOf (numbered 16 (groupExceeded (now (job .entry)) (now (starts .entry)))) (length (now (starts .entry))) ⌝ }
+{
+    let limits = groups.limits;
+    let members = groups.members;
+    if all_empty(&members) {
+        return none();
+    }
+    let mut held = [0u32; 4096];
+    let mut count = 0;
+    let mut t = 0;
+    let mut i = 0;
+    while i < starts.len() {
+        let s = starts[i];
+        let u = start_moment(s);
+        count = keep_from(durations, t, u, &mut held, count);
+        if some_full(&limits, &members, &held[..count], start_action(s)) {
+            return refuse(16, i);
+        }
+        held[count] = s;
+        count += 1;
+        t = u;
+        i += 1;
+    }
+    none()
+}
