@@ -112,6 +112,7 @@ pub fn judge_starts(job: &[u32], index: Index, starts: &[u32], last: usize) -> P
     }
 }
 
+// The first word of a job, and 0 of an empty one.
 fn head_of(job: &[u32]) -> u32
     ensures { λ r. ⌜ r ≡ headWord (now (job .entry)) ⌝ }
 {
