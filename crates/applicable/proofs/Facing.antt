@@ -28,7 +28,7 @@ use Rattle.starts.proofs.GroupTable.{some-read}
 use Rattle.starts.proofs.Opposed.{together-later}
 use Rattle.starts.proofs.StartsFormed.{word-moment, word-action}
 use Rattle.moves.specs.Trials.{busy}
-use Rattle.trial.specs.Code.Given.{Facing, FacingAll}
+use Rattle.applicable.specs.Code.Given.{Facing, FacingAll}
 
 pub busy-read : (job : List ℕ) (u a s : ℕ) {x y z : ℕ} → x ≡ startAction s → y ≡ startMoment s → z ≡ finish job s
     → busy job u a s ≡ (eqb x a && (leb y u && ltb u z))
