@@ -1,8 +1,11 @@
 // A trial by value: a plan stepped by hand. A move takes the trial and hands it back, with its refusal beside it.
 ghost use mathlib.Core.Path.{_≡_};
 ghost use Prim.Native.Nat.{_<_};
+ghost use lib.Dec.{ltb};
 ghost use lib.ListN.{length, take};
+ghost use Rattle.words.specs.Fields.{startMoment};
 ghost use Rattle.words.specs.Lists.{Pairs};
+ghost use Rattle.words.specs.Scan.{any};
 ghost use Rattle.answers.specs.Rows.{refusalAt};
 ghost use Rattle.job.specs.Refusal.{jobRefusal};
 ghost use Rattle.theory.specs.Answers.{written};
@@ -11,14 +14,13 @@ ghost use Rattle.moves.specs.Trials.{Start, On, fresh};
 ghost use Rattle.moves.specs.Calls.{shownFacts};
 ghost use Rattle.trial.specs.Stepped.{trialOf, Stepped, showAnswerOf};
 ghost use Rattle.trial.specs.Code.Given.{Sized, Measured, TrialJudged, WithWord, Storable};
-use crate::rows::some_later;
-use crate::rows::start_refusal;
 use answers::Answer;
 use answers::Refusal;
 use answers::answer_of;
 use answers::none;
 use answers::refuse;
 use answers::row_of;
+use applicable::start_refusal;
 use facts::fill_upto;
 use job::Checked;
 use job::check_job;
@@ -29,10 +31,10 @@ use theory::judge_starts;
 use theory::refused;
 use words::insert_word;
 use words::last_of;
+use words::start_moment;
 use words::start_word;
 
 pub mod calls;
-pub mod rows;
 
 // The starts that a trial has room for.
 const MOST_STARTS: usize = 4096;
@@ -59,6 +61,20 @@ fn at_zero(refusal: Refusal) -> Refusal
     } else {
         refuse(refusal.number, 0)
     }
+}
+
+// Whether a word of the starts has a moment after `u`.
+fn some_later(starts: &[u32], u: usize) -> bool
+    ensures { λ r. ⌜ r ≡ any (λ s. ltb u (startMoment s)) (now (starts .entry)) ⌝ }
+{
+    let mut i = 0;
+    while i < starts.len() {
+        if u < start_moment(starts[i]) {
+            return true;
+        }
+        i += 1;
+    }
+    false
 }
 
 impl Trial {

@@ -7,9 +7,9 @@ use Rattle.answers.specs.Rows.{firstRefusal}
 use Rattle.job.specs.Refusal.{jobRefusal}
 use Rattle.theory.proofs.Passing.{job-checked}
 use Rattle.moves.specs.Trials.{On, trialRefusal, moveRefusal}
+use Rattle.applicable.proofs.NewStart.{present-formed}
 use Rattle.trial.specs.Stepped.{trialOf}
 use Rattle.trial.proofs.Judging.{trial-rows}
-use Rattle.trial.proofs.NewStart.{present-formed}
 use Rattle.trial.proofs.Moves.{early-refused, own-next, stepped-refused, stepped-moved, own-on, before-last}
 use Rattle.trial.proofs.Trial.on.Statement.{statement}
 use Rattle.trial.proofs.Trial.on.Tie as tie

@@ -23,8 +23,8 @@ use Rattle.theory.proofs.Passing.{room-checked}
 use Rattle.theory.proofs.Laws.{has-room, lacks-room, answer-short, room-enough, filled-front}
 use Rattle.moves.specs.Trials.{trialRefusal}
 use Rattle.moves.specs.Calls.{shownFacts}
+use Rattle.applicable.proofs.NewStart.{present-formed}
 use Rattle.trial.specs.Stepped.{trialOf, showAnswerOf}
-use Rattle.trial.proofs.NewStart.{present-formed}
 use Rattle.trial.proofs.Moves.{facts-shown}
 use Rattle.trial.proofs.Trial.show.Statement.{statement}
 use Rattle.trial.proofs.Trial.show.Tie as tie

@@ -11,10 +11,10 @@ use Rattle.answers.specs.Rows.{firstRefusal}
 use Rattle.job.specs.Refusal.{jobRefusal}
 use Rattle.theory.proofs.Passing.{job-checked}
 use Rattle.moves.specs.Trials.{Start, trialRefusal, moveRefusal}
+use Rattle.applicable.proofs.NewStart.{present-formed, present-order}
 use Rattle.trial.specs.Stepped.{trialOf}
 use Rattle.trial.specs.Code.Given.{Sized}
 use Rattle.trial.proofs.Judging.{trial-rows}
-use Rattle.trial.proofs.NewStart.{present-formed, present-order}
 use Rattle.trial.proofs.Moves.{early-refused, own-next, stepped-refused, stepped-moved, own-start, named-start, moved-start}
 use Rattle.trial.proofs.Trial.start.Statement.{statement}
 use Rattle.trial.proofs.Trial.start.Tie as tie

@@ -1,11 +1,11 @@
--- `trial::rows::clashes_with` meets its contract: the start has finished, or the actions decide. Assumes nothing.
+-- `applicable::clashes_with` meets its contract: the start has finished, or the actions decide. Assumes nothing.
 use mathlib.Core.Path.{_≡_, sym, _∙_}
 use borrow.Author.Needs.{needs}
 use Rattle.history.specs.Actions.{finish}
 use Rattle.history.proofs.Moments.{finish-tabled}
-use Rattle.trial.proofs.Facing.{clashing-over, clashing-yet}
-use Rattle.trial.proofs.rows.clashes_with.Statement.{statement}
-use Rattle.trial.proofs.rows.clashes_with.Tie as tie
+use Rattle.applicable.proofs.Facing.{clashing-over, clashing-yet}
+use Rattle.applicable.proofs.clashes_with.Statement.{statement}
+use Rattle.applicable.proofs.clashes_with.Tie as tie
 
 abbrev entry : tie.After-finish-of → tie.Start
 entry c = c .before .before

@@ -1,4 +1,4 @@
--- `trial::rows::some_busy` meets its contract. The invariant: no start before `i` is one of the action in hand. Assumes nothing.
+-- `applicable::some_busy` meets its contract. The invariant: no start before `i` is one of the action in hand. Assumes nothing.
 use mathlib.Core.Path.{sym, _∙_}
 use Prim.Native.Nat.{_-_}
 use native.Mathlib.Omega.{arith}
@@ -6,8 +6,8 @@ use borrow.Author.Needs.{needs}
 use lib.ListN.{length}
 use Rattle.words.proofs.Scan.{AnyFrom, from-start, from-more, from-found, from-end}
 use Rattle.moves.specs.Trials.{busy}
-use Rattle.trial.proofs.rows.some_busy.Statement.{statement}
-use Rattle.trial.proofs.rows.some_busy.Tie as tie
+use Rattle.applicable.proofs.some_busy.Statement.{statement}
+use Rattle.applicable.proofs.some_busy.Tie as tie
 
 abbrev Inv-loop : tie.InvT-loop
 Inv-loop job durations starts u a i₀ i = AnyFrom (busy job u a) starts i

@@ -1,15 +1,14 @@
-// The rows on a trial and on a new start.
+// What one new start in a trial is tested for. Planning calls an action applicable in a state where it may start.
 ghost use mathlib.Core.Path.{_≡_};
 ghost use Prim.Native.Nat.{_<_, _≤_};
-ghost use lib.Dec.{ltb};
 ghost use lib.ListN.{length};
-ghost use Rattle.words.specs.Fields.{startMoment, startAction, startWord};
+ghost use Rattle.words.specs.Fields.{startAction, startWord};
 ghost use Rattle.words.specs.Scan.{any};
 ghost use Rattle.history.specs.Code.Tables.{Durations, Named};
 ghost use Rattle.starts.specs.Rows.{clashing};
 ghost use Rattle.job.specs.Parts.{actions};
 ghost use Rattle.moves.specs.Trials.{busy};
-ghost use Rattle.trial.specs.Code.Given.{Facing, FacingAll, Present, heldRefusal, StartTested};
+ghost use Rattle.applicable.specs.Code.Given.{Facing, FacingAll, Present, heldRefusal, StartTested};
 use answers::Refusal;
 use answers::first_refusal;
 use answers::refuse;
@@ -23,20 +22,6 @@ use starts::has_clash;
 use starts::has_unmet;
 use theory::Plan;
 use words::*;
-
-// Whether a word of the starts has a moment after `u`.
-pub fn some_later(starts: &[u32], u: usize) -> bool
-    ensures { λ r. ⌜ r ≡ any (λ s. ltb u (startMoment s)) (now (starts .entry)) ⌝ }
-{
-    let mut i = 0;
-    while i < starts.len() {
-        if u < start_moment(starts[i]) {
-            return true;
-        }
-        i += 1;
-    }
-    false
-}
 
 // Whether the start `s` is one of action `a` that is in hand at moment `u`.
 fn is_busy(job: &[u32], durations: &[usize; 64], s: u32, u: usize, a: usize) -> bool

@@ -1,4 +1,4 @@
--- `trial::rows::some_later` meets its contract. The invariant: no word before `i` is later. Assumes nothing.
+-- `trial::some_later` meets its contract. The invariant: no word before `i` is later. Assumes nothing.
 use Prim.Native.Nat.{_-_}
 use native.Mathlib.Omega.{arith}
 use borrow.Author.Needs.{needs}
@@ -7,8 +7,8 @@ use lib.Dec.{ltb}
 use lib.ListN.{length}
 use Rattle.words.specs.Fields.{startMoment}
 use Rattle.words.proofs.Scan.{AnyFrom, from-start, from-more, from-found, from-end}
-use Rattle.trial.proofs.rows.some_later.Statement.{statement}
-use Rattle.trial.proofs.rows.some_later.Tie as tie
+use Rattle.trial.proofs.some_later.Statement.{statement}
+use Rattle.trial.proofs.some_later.Tie as tie
 
 abbrev Inv-loop : tie.InvT-loop
 Inv-loop starts u i₀ i = AnyFrom (λ s. ltb u (startMoment s)) starts i

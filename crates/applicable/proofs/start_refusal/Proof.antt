@@ -1,4 +1,4 @@
--- `trial::rows::start_refusal` meets its contract: row 6 or 7 fits, or the rows by the other starts and row 10 decide. Assumes nothing.
+-- `applicable::start_refusal` meets its contract: row 6 or 7 fits, or the rows by the other starts and row 10 decide. Assumes nothing.
 use mathlib.Core.Bool.{false}
 use mathlib.Core.Path.{_≡_, _∙_}
 use Prim.Native.Nat.{_^_, _+_, _<_, _≤_}
@@ -10,9 +10,9 @@ use lib.ListN.{getD}
 use Rattle.words.specs.Lists.{Each}
 use Rattle.words.proofs.Lists.{each-of}
 use Rattle.job.specs.Parts.{actions, lastMoment, duration}
-use Rattle.trial.proofs.NewStart.{present-formed, present-few, present-indexed, present-unmet, tested, row-6, row-7, rows-rest}
-use Rattle.trial.proofs.rows.start_refusal.Statement.{statement}
-use Rattle.trial.proofs.rows.start_refusal.Tie as tie
+use Rattle.applicable.proofs.NewStart.{present-formed, present-few, present-indexed, present-unmet, tested, row-6, row-7, rows-rest}
+use Rattle.applicable.proofs.start_refusal.Statement.{statement}
+use Rattle.applicable.proofs.start_refusal.Tie as tie
 
 abbrev entry : tie.After-actions-of → tie.Start
 entry c = c .before .before .before .before

@@ -29,7 +29,7 @@ use Rattle.theory.proofs.Passing.{job-clear, plan-formed, actions-indexed}
 use Rattle.moves.specs.Trials.{Trial, Start, busy, newStartRows, startRefusal}
 use Rattle.moves.proofs.Passing.{Passing, lawful-few}
 use Rattle.moves.proofs.Played.{move-passes}
-use Rattle.trial.specs.Code.Given.{FacingAll, Present, heldRefusal, StartTested}
+use Rattle.applicable.specs.Code.Given.{FacingAll, Present, heldRefusal, StartTested}
 
 -- a plan that passes has lawful starts
 plan-lawful : {job starts : List ℕ} → Each (λ s. s < 2 ^ 32) starts → planRefusal job starts .number ≡ 0 → Lawful job starts

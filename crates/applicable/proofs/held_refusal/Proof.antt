@@ -1,4 +1,4 @@
--- `trial::rows::held_refusal` meets its contract: row 8 or 9 fits among the starts in hand, or rows 15 and 16 decide. Assumes nothing.
+-- `applicable::held_refusal` meets its contract: row 8 or 9 fits among the starts in hand, or rows 15 and 16 decide. Assumes nothing.
 use mathlib.Core.Bool.{false}
 use mathlib.Core.Path.{_≡_, refl, sym, ap, _∙_}
 use mathlib.Core.List.{List}
@@ -15,12 +15,12 @@ use Rattle.history.specs.Code.Held.{unfinishedBy}
 use Rattle.starts.specs.Rows.{clashing}
 use Rattle.shifts.proofs.ShiftSets.{may-start-read}
 use Rattle.moves.specs.Trials.{busy}
-use Rattle.trial.specs.Code.Given.{FacingAll}
-use Rattle.trial.proofs.Facing.{held-facing, held-busy, held-clash, held-full}
+use Rattle.applicable.specs.Code.Given.{FacingAll}
+use Rattle.applicable.proofs.Facing.{held-facing, held-busy, held-clash, held-full}
 use Rattle.theory.specs.declared.Plan.{Plan}
-use Rattle.trial.proofs.NewStart.{present-formed, present-facing, held-rest}
-use Rattle.trial.proofs.rows.held_refusal.Statement.{statement}
-use Rattle.trial.proofs.rows.held_refusal.Tie as tie
+use Rattle.applicable.proofs.NewStart.{present-formed, present-facing, held-rest}
+use Rattle.applicable.proofs.held_refusal.Statement.{statement}
+use Rattle.applicable.proofs.held_refusal.Tie as tie
 
 -- the entry from where the starts are copied, that from where the finished are dropped, this from the tests
 abbrev entry : tie.After-copy-words → tie.Start

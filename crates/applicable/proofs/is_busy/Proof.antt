@@ -1,12 +1,12 @@
--- `trial::rows::is_busy` meets its contract: another action, or the moments decide. Assumes nothing.
+-- `applicable::is_busy` meets its contract: another action, or the moments decide. Assumes nothing.
 use mathlib.Core.Path.{sym, _∙_}
 use borrow.Author.Needs.{needs}
 use borrow.Author.Tests.{eq-eqb, ne-eqb}
 use Rattle.words.specs.Fields.{startAction}
 use Rattle.history.proofs.Moments.{finish-tabled}
-use Rattle.trial.proofs.Facing.{busy-read}
-use Rattle.trial.proofs.rows.is_busy.Statement.{statement}
-use Rattle.trial.proofs.rows.is_busy.Tie as tie
+use Rattle.applicable.proofs.Facing.{busy-read}
+use Rattle.applicable.proofs.is_busy.Statement.{statement}
+use Rattle.applicable.proofs.is_busy.Tie as tie
 
 abbrev entry : tie.After-start-action → tie.Start
 entry c = c .before .before

@@ -1,4 +1,4 @@
--- `trial::rows::some_clash` meets its contract. The invariant: no start before `i` clashes. Assumes nothing.
+-- `applicable::some_clash` meets its contract. The invariant: no start before `i` clashes. Assumes nothing.
 use mathlib.Core.Path.{sym, _∙_}
 use Prim.Native.Nat.{_-_}
 use native.Mathlib.Omega.{arith}
@@ -8,8 +8,8 @@ use Rattle.words.specs.Fields.{startWord}
 use Rattle.words.proofs.Lists.{each-at}
 use Rattle.words.proofs.Scan.{AnyFrom, from-start, from-more, from-found, from-end}
 use Rattle.starts.specs.Rows.{clashing}
-use Rattle.trial.proofs.rows.some_clash.Statement.{statement}
-use Rattle.trial.proofs.rows.some_clash.Tie as tie
+use Rattle.applicable.proofs.some_clash.Statement.{statement}
+use Rattle.applicable.proofs.some_clash.Tie as tie
 
 abbrev Inv-loop : tie.InvT-loop
 Inv-loop job durations effects starts u a i₀ i = AnyFrom (λ s. clashing job s (startWord u a)) starts i

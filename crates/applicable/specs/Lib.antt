@@ -1,0 +1,2 @@
+-- The definitions that the contracts of `applicable` cite: all in Code, since no public contract reaches them.
+pub mod Code
