@@ -17,6 +17,9 @@ use keeping::pair_at;
 use keeping::pair_index;
 use words::MOMENTS;
 
+// Among up to so many moments no pairs are cut and no bounds filled: a search is quicker without.
+pub const FEW: u32 = 8;
+
 // Leaves out of row p of a table, from a to z, what the masks of condition c leave out.
 fn cut(table: &mut [u64; 1024], p: usize, allow: &[u64; 512], c: usize, a: u32, z: u32)
     requires { ⌜ (p < 16) × (c < 8) × (a ≤ z) × (z < 64) ⌝ }
@@ -254,6 +257,24 @@ fn cut_pairs(
     }
 }
 
+// Does so for each pair that some condition is on, but not among few moments.
+fn cut_constrained(
+    conds: &[u32],
+    count: usize,
+    a: u32,
+    z: u32,
+    ends: &mut [u64; 1024],
+    goes: &mut [u64; 1024],
+)
+    requires { ⌜ (count ≤ 4) × (a ≤ z) × (z < 64) ⌝ }
+    ensures { λ _. ⌜ Fewer (now (ends .entry)) (now (ends .exit)) × ((bs es : ℕ → ℕ) → InSpan count a z bs es → Have (now (ends .entry)) (now (goes .entry)) count bs es → Have (now (ends .exit)) (now (goes .exit)) count bs es) ⌝ }
+{
+    if z < a + FEW {
+        return;
+    }
+    cut_pairs(constrained(conds), count, a, z, ends, goes);
+}
+
 // The ends of member i begun at x or later, for each x from z down to a.
 fn fill_later_row(ends: &[u64; 1024], i: usize, a: u32, z: u32, later: &mut [u64; 256])
     requires { ⌜ (i < 4) × LaterReady a z (now later) ⌝ }
@@ -299,6 +320,6 @@ pub fn fill(
     conditions::fill_allowed(values, conds, a, z, n, allow);
     cut_all(conds, allow, a, z, ends, goes);
     fill_own(members, table, a, z, goes, ends);
-    cut_pairs(constrained(conds), members.len(), a, z, ends, goes);
+    cut_constrained(conds, members.len(), a, z, ends, goes);
     fill_later(ends, members.len(), a, z, later);
 }
