@@ -8,6 +8,7 @@ ghost use Rattle.model.specs.Forms.{conditionNumber};
 ghost use Rattle.covering.specs.Code.Cover.{entryAt};
 ghost use Rattle.ending.specs.Code.Ends.{asked, partner, EndAt, EndsReady, Narrowable, Narrowed};
 ghost use Rattle.narrowing.specs.Code.Tables.{pairAt};
+use keeping::pair_at;
 use words::MOMENTS;
 
 // The member whose begin a condition's mask is taken at: j, or i where the condition asks nothing of j.
@@ -40,14 +41,6 @@ fn end_mask(form: u32, m: u64, x: u32) -> u64
     }
 }
 
-// The ends of member i, begun at x, in its own row.
-pub fn own_at(ends: &[u64; 1024], i: usize, x: u32) -> u64
-    requires { ⌜ (i < 4) × (x < 64) ⌝ }
-    ensures { λ r. ⌜ r ≡ pairAt (now (ends .entry)) i i x ⌝ }
-{
-    ends[(i * 4 + i) * MOMENTS + x as usize]
-}
-
 // The ends of each member in its own row.
 fn own_ends(ends: &[u64; 1024], count: usize, begins: [u32; 4]) -> [u64; 4]
     requires { ⌜ (count ≤ 4) × ((i : ℕ) → entryAt begins i < 64) ⌝ }
@@ -56,7 +49,7 @@ fn own_ends(ends: &[u64; 1024], count: usize, begins: [u32; 4]) -> [u64; 4]
     let mut r = [0u64; 4];
     let mut i = 0;
     while i < count {
-        r[i] = own_at(ends, i, begins[i]);
+        r[i] = pair_at(ends, i, i, begins[i]);
         i += 1;
     }
     r

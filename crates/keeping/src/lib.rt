@@ -1,4 +1,5 @@
 // What one member of a task set keeps where another begins, by the set's tables.
+ghost use mathlib.Core.Path.{_≡_};
 ghost use Prim.Native.Nat.{ℕ, _+_, _*_, _<_, _≤_};
 ghost use lib.ListN.{getD};
 ghost use Rattle.bitset.specs.Code.Members.{In};
@@ -9,6 +10,21 @@ use words::MOMENTS;
 pub struct Choice {
     pub begins: u64,
     pub ends: u64,
+}
+
+// Where a table by pairs has the entry of the members i and j at moment x, and that entry.
+pub fn pair_index(i: usize, j: usize, x: u32) -> usize
+    requires { ⌜ (i < 4) × (j < 4) × (x < 64) ⌝ }
+    ensures { λ r. ⌜ (r ≡ (i * 4 + j) * 64 + x) × (r < 1024) ⌝ }
+{
+    (i * 4 + j) * MOMENTS + x as usize
+}
+
+pub fn pair_at(table: &[u64; 1024], i: usize, j: usize, x: u32) -> u64
+    requires { ⌜ (i < 4) × (j < 4) × (x < 64) ⌝ }
+    ensures { λ r. ⌜ r ≡ pairAt (now (table .entry)) i j x ⌝ }
+{
+    table[pair_index(i, j, x)]
 }
 
 // What member j keeps where member i begins at x, within a window of moments.
@@ -25,13 +41,13 @@ pub fn narrowed(
     requires { ⌜ (i < 4) × (j < 4) × (x < 64) ⌝ }
     ensures { λ r. ⌜ ((y e : ℕ) → In (old .begins) y → In (pairAt (now (goes .entry)) i j x) y → In window y → In (old .ends) e → In (pairAt (now (ends .entry)) j i x) e → In window e → ((z : ℕ) → In window z → z ≤ y → In (getD (now (later .entry)) (j * 64 + z) 0) e) → In (r .begins) y × In (r .ends) e) × ((y : ℕ) → In (r .begins) y → In (old .begins) y) ⌝ }
 {
-    let there = bitset::inter(goes[(i * 4 + j) * MOMENTS + x as usize], window);
+    let there = bitset::inter(pair_at(goes, i, j, x), window);
     let begins = bitset::inter(old.begins, there);
     if begins == 0 {
         return Choice { begins, ends: 0 };
     }
     let low = bitset::lowest(begins) as usize;
-    let then = bitset::inter(ends[(j * 4 + i) * MOMENTS + x as usize], window);
+    let then = bitset::inter(pair_at(ends, j, i, x), window);
     let after = bitset::inter(then, later[j * MOMENTS + low]);
     Choice {
         begins,

@@ -74,7 +74,7 @@ fn tries(
     let mut rest = begins[i];
     while rest != 0 {
         let x = bitset::lowest(rest);
-        let row = ending::ends::own_at(ends, i, x);
+        let row = keeping::pair_at(ends, i, i, x);
         rest = bitset::drop_lowest(rest);
         if bitset::inter(may[i], row) == 0 {
             continue;

@@ -67,7 +67,7 @@ fn from_each(
     requires { ⌜ SearchReady (now conds) (now ends) count a (found .upto) × (first < count) ⌝ }
     ensures { λ r. ⌜ Grown (now (conds .entry)) (now (allow .entry)) (now (ends .entry)) count a found r × ((e : ℕ) (bs es : ℕ → ℕ) → Masked (now (conds .entry)) (now (allow .entry)) (now (ends .entry)) count a e bs es → InTables (now (ends .entry)) (now (goes .entry)) (now (later .entry)) count a bs es → BoundsHave count (now (bounds .entry)) bs es → e ≤ found .upto → bs first ≡ a → In goal e → In (r .ends) e) ⌝ }
 {
-    if ending::ends::own_at(ends, first, a) == 0 {
+    if keeping::pair_at(ends, first, first, a) == 0 {
         return found;
     }
     let mut r = found;

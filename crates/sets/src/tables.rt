@@ -13,7 +13,12 @@ ghost use Rattle.narrowing.specs.Code.Tables.{pairAt};
 ghost use Rattle.ending.specs.Code.Ends.{MetAtMask, MetByMask};
 ghost use Rattle.sets.specs.Code.Tables.{Have, Fewer, Cut, ConditionReady, ConditionsReady, InSpan, OwnRow, OwnRows, LaterReady, TablesReady, Tables};
 use crate::conditions;
+use keeping::pair_at;
+use keeping::pair_index;
 use words::MOMENTS;
+
+// Among up to so many moments no pairs are cut and no bounds filled: a search is quicker without.
+pub const FEW: u32 = 8;
 
 // Leaves out of row p of a table, from a to z, what the masks of condition c leave out.
 fn cut(table: &mut [u64; 1024], p: usize, allow: &[u64; 512], c: usize, a: u32, z: u32)
@@ -82,12 +87,11 @@ fn own_row(
     requires { ⌜ (m * 64 + 64 ≤ length (now table)) × (i < 4) × (x ≤ z) × (z < 64) ⌝ }
     ensures { λ r. ⌜ ((e : ℕ) → In r e ↔ (InTable (now (table .entry)) m x e × (x ≤ e) × (e ≤ z) × In (pairAt (now (ends .entry)) i i x) e × In (pairAt (now (goes .entry)) i i x) x)) ⌝ }
 {
-    let p = (i * 4 + i) * MOMENTS + x as usize;
-    if !bitset::has(goes[p], x) {
+    if !bitset::has(pair_at(goes, i, i, x), x) {
         return 0;
     }
     let row = bitset::inter(table[m * MOMENTS + x as usize], bitset::between(x, z));
-    bitset::inter(row, ends[p])
+    bitset::inter(row, pair_at(ends, i, i, x))
 }
 
 // Puts the row of member i, of node m, on the diagonal of `ends`, for its begins from a to z.
@@ -106,7 +110,7 @@ fn fill_own_row(
     let mut x = a;
     while x <= z {
         let row = own_row(table, m, i, x, z, ends, goes);
-        ends[(i * 4 + i) * MOMENTS + x as usize] = row;
+        ends[pair_index(i, i, x)] = row;
         x += 1;
     }
 }
@@ -135,25 +139,13 @@ fn together(ends: &[u64; 1024], goes: &[u64; 1024], i: usize, x: u32, j: usize, 
     requires { ⌜ (i < 4) × (j < 4) × (x < 64) × (y < 64) ⌝ }
     ensures { λ r. ⌜ ((d e : ℕ) → In (pairAt (now (ends .entry)) i i x) d → In (pairAt (now (ends .entry)) i j y) d → In (pairAt (now (ends .entry)) j j y) e → In (pairAt (now (ends .entry)) j i x) e → In (pairAt (now (goes .entry)) j i y) x → r ≡ true) ⌝ }
 {
-    let u = x as usize;
-    let v = y as usize;
-    if bitset::inter(
-        ends[(i * 4 + i) * MOMENTS + u],
-        ends[(i * 4 + j) * MOMENTS + v],
-    )
-        == 0
-    {
+    if bitset::inter(pair_at(ends, i, i, x), pair_at(ends, i, j, y)) == 0 {
         return false;
     }
-    if bitset::inter(
-        ends[(j * 4 + j) * MOMENTS + v],
-        ends[(j * 4 + i) * MOMENTS + u],
-    )
-        == 0
-    {
+    if bitset::inter(pair_at(ends, j, j, y), pair_at(ends, j, i, x)) == 0 {
         return false;
     }
-    bitset::has(goes[(j * 4 + i) * MOMENTS + v], x)
+    bitset::has(pair_at(goes, j, i, y), x)
 }
 
 // The begins of member j, where member i begins at x, with which both may end.
@@ -161,11 +153,11 @@ fn partners(ends: &[u64; 1024], goes: &[u64; 1024], i: usize, x: u32, j: usize) 
     requires { ⌜ (i < 4) × (j < 4) × (x < 64) ⌝ }
     ensures { λ r. ⌜ ((y d e : ℕ) → In (pairAt (now (goes .entry)) i j x) y → In (pairAt (now (ends .entry)) i i x) d → In (pairAt (now (ends .entry)) i j y) d → In (pairAt (now (ends .entry)) j j y) e → In (pairAt (now (ends .entry)) j i x) e → In (pairAt (now (goes .entry)) j i y) x → In r y) ⌝ }
 {
-    if ends[(i * 4 + i) * MOMENTS + x as usize] == 0 {
+    if pair_at(ends, i, i, x) == 0 {
         return 0;
     }
     let mut r = 0;
-    let mut rest = goes[(i * 4 + j) * MOMENTS + x as usize];
+    let mut rest = pair_at(goes, i, j, x);
     while rest != 0 {
         let y = bitset::lowest(rest);
         if together(ends, goes, i, x, j, y) {
@@ -184,10 +176,7 @@ fn some_ends(ends: &[u64; 1024], i: usize, j: usize, begins: u64) -> u64
     let mut r = 0;
     let mut rest = begins;
     while rest != 0 {
-        r = bitset::union(
-            r,
-            ends[(i * 4 + j) * MOMENTS + bitset::lowest(rest) as usize],
-        );
+        r = bitset::union(r, pair_at(ends, i, j, bitset::lowest(rest)));
         rest = bitset::drop_lowest(rest);
     }
     r
@@ -202,8 +191,8 @@ fn cut_pair(i: usize, j: usize, a: u32, z: u32, ends: &mut [u64; 1024], goes: &m
     let mut x = a;
     while x <= z {
         let begins = partners(ends, goes, i, x, j);
-        goes[(i * 4 + j) * MOMENTS + x as usize] = begins;
-        let p = (i * 4 + i) * MOMENTS + x as usize;
+        goes[pair_index(i, j, x)] = begins;
+        let p = pair_index(i, i, x);
         ends[p] = bitset::inter(ends[p], some_ends(ends, i, j, begins));
         x += 1;
     }
@@ -268,17 +257,35 @@ fn cut_pairs(
     }
 }
 
+// Does so for each pair that some condition is on, but not among few moments.
+fn cut_constrained(
+    conds: &[u32],
+    count: usize,
+    a: u32,
+    z: u32,
+    ends: &mut [u64; 1024],
+    goes: &mut [u64; 1024],
+)
+    requires { ⌜ (count ≤ 4) × (a ≤ z) × (z < 64) ⌝ }
+    ensures { λ _. ⌜ Fewer (now (ends .entry)) (now (ends .exit)) × ((bs es : ℕ → ℕ) → InSpan count a z bs es → Have (now (ends .entry)) (now (goes .entry)) count bs es → Have (now (ends .exit)) (now (goes .exit)) count bs es) ⌝ }
+{
+    if z < a + FEW {
+        return;
+    }
+    cut_pairs(constrained(conds), count, a, z, ends, goes);
+}
+
 // The ends of member i begun at x or later, for each x from z down to a.
 fn fill_later_row(ends: &[u64; 1024], i: usize, a: u32, z: u32, later: &mut [u64; 256])
     requires { ⌜ (i < 4) × LaterReady a z (now later) ⌝ }
     ensures { λ _. ⌜ ((x y e : ℕ) → a ≤ x → x ≤ y → y ≤ z → In (pairAt (now (ends .entry)) i i y) e → In (getD (now (later .exit)) (i * 64 + x) 0) e) × ((p : ℕ) → p < i * 64 → getD (now (later .exit)) p 0 ≡ getD (now (later .entry)) p 0) × (length (now (later .exit)) ≡ 256) ⌝ }
 {
     let mut all = 0;
-    let mut x = z as usize + 1;
-    while (a as usize) < x {
+    let mut x = z + 1;
+    while a < x {
         x -= 1;
-        all = bitset::union(all, ends[(i * 4 + i) * MOMENTS + x]);
-        later[i * MOMENTS + x] = all;
+        all = bitset::union(all, pair_at(ends, i, i, x));
+        later[i * MOMENTS + x as usize] = all;
     }
 }
 
@@ -313,6 +320,6 @@ pub fn fill(
     conditions::fill_allowed(values, conds, a, z, n, allow);
     cut_all(conds, allow, a, z, ends, goes);
     fill_own(members, table, a, z, goes, ends);
-    cut_pairs(constrained(conds), members.len(), a, z, ends, goes);
+    cut_constrained(conds, members.len(), a, z, ends, goes);
     fill_later(ends, members.len(), a, z, later);
 }

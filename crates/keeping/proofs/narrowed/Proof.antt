@@ -19,7 +19,8 @@ after-lowest c = c .before .before .before .before .before
 begins-kept : (c : tie.After-inter2) → let a = c .before .before .before .args in (y : ℕ) → In (c .inter2 .result) y
     ↔ (In (a .old .begins) y × In (pairAt (a .goes .now) (a .i) (a .j) (a .x)) y × In (a .window) y)
 begins-kept c y = let u = in-both (c .inter2 .ensures) y in let v = in-both (c .before .inter .ensures) y in
-    (λ t. let p = u .0 t in let q = v .0 (p .1) in (p .0, q .0, q .1), λ p. u .1 (p .0, v .1 (p .1, p .2)))
+    let p = c .before .before .pair-at .ensures in
+    (λ t. let k = u .0 t in let q = v .0 (k .1) in (k .0, rw p at (q .0), q .1), λ k. u .1 (k .0, v .1 (rw p (k .1), k .2)))
 
 returns : tie.Need-returns
 returns c = let k = begins-kept (c .before) in (λ y e b g w o m v l. in-zero (c .if1 .taken) (k y .1 (b, g, w)), λ y t. in-zero (c .if1 .taken) t)
@@ -34,7 +35,7 @@ returns-2 c =
         in-both (c .inter5 .ensures) e .1 (
           o,
           in-both (c .before .inter4 .ensures) e .1 (
-            in-both (c .before .before .before .inter3 .ensures) e .1 (m, v),
+            in-both (c .before .before .before .inter3 .ensures) e .1 (rw (c .before .before .before .before .pair-at2 .ensures) m, v),
             later (l .result) (k (l .result) .0 (record { yes = l .ensures .member }) .2) (lowest-le (l .ensures) (t .yes)),
           ),
         ),
@@ -45,7 +46,5 @@ returns-2 c =
 pub narrowed-spec : {M : Type 1} → statement M
 narrowed-spec =
     tie.close
-    (tie.spec (λ c. search needs) (λ c. search needs) (λ c. search needs) (λ c. search needs) (λ c. search needs) (λ c. search needs) (λ c κs. search needs)
-    (λ c κs. search needs) returns (λ c κs. search needs) (λ c. search needs) (λ c. search needs) (λ c. search needs) (λ c. search needs) (λ c. search needs)
-    (λ c. search needs) (λ c. search needs) (λ c κs. search needs) (λ c. search needs) (λ c. search needs) (λ c. search needs) (λ c. search needs) (λ c κs. search needs)
-    (λ c κs. search needs) returns-2)
+    (tie.spec (λ c κs. search needs) (λ c κs. search needs) (λ c κs. search needs) returns (λ c κs. search needs) (λ c. search needs) (λ c κs. search needs)
+    (λ c κs. search needs) (λ c. search needs) (λ c. search needs) (λ c. search needs) (λ c. search needs) (λ c κs. search needs) (λ c κs. search needs) returns-2)

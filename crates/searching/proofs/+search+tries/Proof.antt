@@ -29,7 +29,7 @@ use Rattle.bitset.proofs.lowest.Reads as lowest
 use Rattle.narrowing.proofs.choose.Reads as choose
 use Rattle.narrowing.proofs.gaps.Reads as gaps
 use Rattle.narrowing.proofs.last_gap.Reads as last-gap
-use Rattle.ending.proofs.ends.own_at.Reads as own-at
+use Rattle.keeping.proofs.pair_at.Reads as pair-at
 use Rattle.ending.proofs.leaf.Reads as leaf
 use Rattle.narrowing.proofs.over.Reads as over
 use Rattle.narrowing.proofs.placed.Reads as placed
@@ -78,8 +78,8 @@ abbrev tries-calls : ℕ → tries-lts.Claims
 tries-calls t = (
   lowest.Asked,
   lowest.Learnt,
-  own-at.Asked,
-  own-at.Learnt,
+  pair-at.Asked,
+  pair-at.Learnt,
   drop-lowest.Asked,
   drop-lowest.Learnt,
   inter.Asked,
@@ -244,8 +244,8 @@ module _ (t : ℕ) where
 
   -- the index of the member's own row
   index : (c : tries-lts.After-lowest (tries-calls t) (tries-at t) tries.Post Inv-tries μ-loop-tries) →
-      (begun (c .before .before) .args .i < 4) × (c .lowest .result < 64)
-  index c = (small (begun (c .before .before)) .0, c .lowest .ensures .below)
+      (begun (c .before .before) .args .i < 4) × (begun (c .before .before) .args .i < 4) × (c .lowest .result < 64)
+  index c = let i = small (begun (c .before .before)) .0 in (i, i, c .lowest .ensures .below)
 
   loop-holds-tries : tries-lts.Need-loop-holds (tries-calls t) (tries-at t) tries.Post Inv-tries μ-loop-tries
   loop-holds-tries c = (grown-none, record { each = λ e bs es l s. inr (s .fits .begins _ (member (c .before .before .before))) })
@@ -262,7 +262,7 @@ module _ (t : ℕ) where
         skipped (k .before .before .before .lowest .ensures) (k .before .drop-lowest .ensures)
             (λ bs es h f q. in-zero (c .if1 .taken) (in-both (k .inter .ensures) (es (a .i)) .1 (
               f .ends (a .i) l,
-              subst (λ (m : ℕ). In-mask m (es (a .i))) (sym (k .before .before .own-at .ensures))
+              subst (λ (m : ℕ). In-mask m (es (a .i))) (sym (k .before .before .pair-at .ensures))
                   (subst (λ (x : ℕ). In-mask (pairAt (a .ends .now) (a .i) (a .i) x) (es (a .i))) q (h .ends (a .i) (a .i) l l)),
             ))) (v .1),
       )

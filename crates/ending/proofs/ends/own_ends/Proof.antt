@@ -31,8 +31,8 @@ loop-again c = let s = c .before .before .before in let l = c .before .before .l
     record {
       upto = omega arith;
       four = simp length-set (l .inv .four);
-      rows = entries-more (λ j. j) (λ j w. w ≡ pairAt (s .args .ends .now) j j (entryAt (s .args .t3) j)) (l .r) (l .i) (c .own-at .result) (omega arith) (λ j g q. omega arith) (l .inv .rows) (c .own-at .ensures);
-      small = entries-set (λ j w. (e : ℕ) → In w e → e < 64) (l .r) (l .i) (c .own-at .result) (omega arith) (λ e. in-below (c .own-at .ok)) (l .inv .small);
+      rows = entries-more (λ j. j) (λ j w. w ≡ pairAt (s .args .ends .now) j j (entryAt (s .args .t3) j)) (l .r) (l .i) (c .pair-at .result) (omega arith) (λ j g q. omega arith) (l .inv .rows) (c .pair-at .ensures);
+      small = entries-set (λ j w. (e : ℕ) → In w e → e < 64) (l .r) (l .i) (c .pair-at .result) (omega arith) (λ e. in-below (c .pair-at .ok)) (l .inv .small);
     }
 
 returns : tie.Need-returns Inv-loop μ-loop
@@ -42,5 +42,5 @@ pub own-ends-spec : {M : Type 1} → statement M
 own-ends-spec =
     tie.close
     (tie.spec Inv-loop μ-loop (λ c. record { upto = omega arith; four = refl; rows = λ j l. absurd (omega arith); small = λ j e t. in-zero (empty-entry 4 j) t }) (λ c. search needs)
-    (λ c. omega arith) (λ c κs. (omega arith, c .before .before .pre .1 (c .before .loop .i))) (λ c. search needs) (λ c. omega arith)
+    (λ c. omega arith) (λ c κs. (omega arith, omega arith, c .before .before .pre .1 (c .before .loop .i))) (λ c. search needs) (λ c. omega arith)
     (λ c. search needs) (λ c. search needs) loop-again returns)

@@ -25,14 +25,14 @@ abbrev μ-loop : tie.MeasureT-loop
 abbrev entry : tie.At-loop Inv-loop μ-loop → tie.Start Inv-loop μ-loop
 entry c = c .before .before .before .before
 
-own-at-requires : tie.Need-own-at-requires Inv-loop μ-loop
-own-at-requires c κs = let p = c .before .pre in (omega (arith, p .1, p .0 .few), omega (arith, p .0 .forward, p .0 .moments))
+pair-at-requires : tie.Need-pair-at-requires Inv-loop μ-loop
+pair-at-requires c κs = let p = c .before .pre in let few : c .before .args .first < 4 = omega (arith, p .1, p .0 .few) in (few, few, omega (arith, p .0 .forward, p .0 .moments))
 
 -- where the first member has no end, nothing begins with it
 returns : tie.Need-returns Inv-loop μ-loop
 returns c = let s = c .before .before .before in let a = s .args in (
   grown-none,
-  λ e bs es m t d l q g. in-zero (sym (c .before .own-at .ensures) ∙ c .if1 .taken)
+  λ e bs es m t d l q g. in-zero (sym (c .before .pair-at .ensures) ∙ c .if1 .taken)
       (subst (λ (x : ℕ). In (pairAt (a .ends .now) (a .first) (a .first) x) (es (a .first))) q (m .lawful (a .first) (s .pre .1) .reads)),
 )
 
@@ -67,5 +67,5 @@ returns-2 c =
 pub from-each-spec : {M : Type 1} → statement M
 from-each-spec =
     tie.close
-    (tie.spec Inv-loop μ-loop own-at-requires returns
+    (tie.spec Inv-loop μ-loop pair-at-requires returns
     (λ c. (omega arith, grown-none, λ m l. absurd (omega arith))) from-first-requires (λ c. search needs) (λ c. search needs) loop-again returns-2)

@@ -18,8 +18,8 @@ allowed c = c .before .before .before .before
 abbrev conditions : tie.After-fill-own → tie.After-cut-all
 conditions c = c .before .before .before
 
-abbrev own : tie.After-cut-pairs → tie.After-fill-own
-own c = c .before .before .before .before
+abbrev own : tie.After-cut-constrained → tie.After-fill-own
+own c = c .before .before .before
 
 abbrev begun : tie.After-fill-own → tie.Start
 begun c = entry (allowed (conditions c))
@@ -43,8 +43,8 @@ cut-all-requires c κs = let s = entry (c .before .before .before) in let f = s 
 fill-own-requires : tie.Need-fill-own-requires
 fill-own-requires c κs = let s = entry (allowed (c .before .before)) in (few s, node-rows (s .args .members .now) (s .pre .rows), s .pre .forward, small s)
 
-cut-pairs-requires : tie.Need-cut-pairs-requires
-cut-pairs-requires c κs = let s = begun (c .before .before .before) in (few s, s .pre .forward, small s)
+cut-constrained-requires : tie.Need-cut-constrained-requires
+cut-constrained-requires c κs = let s = begun (c .before .before) in (few s, s .pre .forward, small s)
 
 fill-later-requires : tie.Need-fill-later-requires
 fill-later-requires c κs = let s = begun (own (c .before .before)) in (few s, record { forward = s .pre .forward; moments = small s; long = s .pre .later-long })
@@ -58,8 +58,8 @@ returns c =
     let a = s .args in
     let p = s .pre in
     filled (a .members .now) (a .conds .now) (a .values .now) (a .table .now) (a .n) (a .a) (a .z) (p .formed) (p .forward) (p .upto) (p .unpruned-ends)
-    (p .unpruned-goes) (allowed cut .fill-allowed .ensures) (cut .cut-all .ensures) (rows .fill-own .ensures) (pairs .cut-pairs .ensures .0)
-    (pairs .cut-pairs .ensures .1) (c .fill-later .ensures)
+    (p .unpruned-goes) (allowed cut .fill-allowed .ensures) (cut .cut-all .ensures) (rows .fill-own .ensures) (pairs .cut-constrained .ensures .0)
+    (pairs .cut-constrained .ensures .1) (c .fill-later .ensures)
 
 pub fill-spec : {M : Type 1} → statement M
-fill-spec = tie.close (tie.spec (λ c κs. search needs) cut-all-requires fill-own-requires (λ c κs. search needs) cut-pairs-requires fill-later-requires returns)
+fill-spec = tie.close (tie.spec (λ c κs. search needs) cut-all-requires fill-own-requires cut-constrained-requires fill-later-requires returns)

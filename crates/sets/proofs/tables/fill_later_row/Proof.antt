@@ -44,7 +44,7 @@ loop-again c =
     let r = c .union .result in
     let all : (y e : ℕ) → x ≤ y → y ≤ s .args .z → In (pairAt (s .args .ends .now) i i y) e → In r e
     = λ y e m k t. by-cases (ℕ-discrete y x)
-    (λ q. in-union (c .union .ensures) e .1 (inr (subst (λ (y : ℕ). In (pairAt (s .args .ends .now) i i y) e) q t)))
+    (λ q. in-union (c .union .ensures) e .1 (inr (rw (c .before .pair-at .ensures) (subst (λ (y : ℕ). In (pairAt (s .args .ends .now) i i y) e) q t))))
     (λ q. in-union (c .union .ensures) e .1 (inl (l .inv .reached y e (omega arith) k t))) in
     record {
       from = omega arith;
@@ -64,5 +64,4 @@ fill-later-row-spec =
     tie.close
     (tie.spec Inv-loop μ-loop (λ c. search needs)
     (λ c. record { from = omega arith; upto = omega arith; long = c .pre .1 .long; reached = λ y e l g. absurd (omega arith); masks = λ v y e l g m. absurd (omega arith); others = λ p l. refl })
-    (λ c. search needs) (λ c. search needs) (λ c. search needs) (λ c. search needs) (λ c. search needs) (λ c. search needs) (λ c. search needs)
-    (λ c κs. search needs) (λ c. search needs) (λ c. search needs) (λ c. search needs) (λ c. search needs) (λ c. search needs) loop-again returns)
+    (λ c. search needs) (λ c κs. search needs) (λ c κs. search needs) (λ c. search needs) (λ c. search needs) (λ c. search needs) (λ c. search needs) (λ c. search needs) (λ c. search needs) loop-again returns)

@@ -32,14 +32,16 @@ loop-holds c =
 
 loop-again : tie.Need-loop-again Inv-loop μ-loop
 loop-again c =
-    let t = c .before .before in
+    let r = c .before .own-row in
+    let t = c .before .before .before in
     let l = t .before .loop in
     let s = t .before .before .before in
     let a = s .args in
     record {
       from = omega arith;
       upto = omega arith;
-      row = own-more (a .i) (l .x) (a .a) (a .z) (c .own-row .result) (s .pre .1) (l .inv .from) (t .loop-test .taken) (s .pre .3) (c .own-row .ensures) (l .inv .row);
+      row = rw (c .pair-index .ensures .0)
+          (own-more (a .i) (l .x) (a .a) (a .z) (r .result) (s .pre .1) (l .inv .from) (t .loop-test .taken) (s .pre .3) (r .ensures) (l .inv .row));
     }
 
 returns : tie.Need-returns Inv-loop μ-loop
@@ -51,5 +53,4 @@ returns c =
 pub fill-own-row-spec : {M : Type 1} → statement M
 fill-own-row-spec =
     tie.close
-    (tie.spec Inv-loop μ-loop loop-holds (λ c κs. search needs) (λ c. search needs) (λ c. search needs) (λ c. search needs) (λ c. search needs)
-    (λ c. search needs) (λ c. search needs) (λ c. search needs) (λ c. search needs) (λ c. search needs) loop-again returns)
+    (tie.spec Inv-loop μ-loop loop-holds (λ c κs. search needs) (λ c κs. search needs) (λ c. search needs) (λ c. search needs) (λ c. search needs) (λ c. search needs) loop-again returns)

@@ -54,8 +54,6 @@ loop-again c =
 pub partners-spec : {M : Type 1} → statement M
 partners-spec =
     tie.close
-    (tie.spec Inv-loop μ-loop (λ c. search needs) (λ c. search needs) (λ c. search needs) (λ c. search needs) (λ c. search needs) (λ c. search needs)
-    (λ c. λ y d e t p q r s u. in-zero (c .if1 .taken) p) (λ c. search needs) (λ c. search needs) (λ c. search needs) (λ c. search needs) (λ c. search needs)
-    (λ c. search needs) (λ c. λ y d e t p q r s u. inr t) (λ c κs. search needs) (λ c κs. search needs) (λ c κs. search needs)
-    (λ c κs. search needs) (λ c κs. search needs) (λ c. omega (arith, c .drop-lowest .ensures .fewer)) loop-again
+    (tie.spec Inv-loop μ-loop (λ c κs. search needs) (λ c. λ y d e t p q r s u. in-zero {e = d} (c .if1 .taken) (rw (c .before .pair-at .ensures) p)) (λ c κs. search needs)
+    (λ c. λ y d e t p q r s u. inr (rw (c .pair-at2 .ensures) t)) (λ c κs. search needs) (λ c κs. search needs) (λ c κs. search needs) (λ c κs. search needs) (λ c κs. search needs) (λ c. omega (arith, c .drop-lowest .ensures .fewer)) loop-again
     (λ c. λ y d e t p q r s u. ⊎-elim (λ v. v) (λ v. in-zero (omega arith) v) (c .before .loop .inv y d e t p q r s u)))

@@ -31,13 +31,12 @@ loop-again c =
     let more = in-union (c .before .union .ensures) in
     let drop = in-without (c .drop-lowest .ensures .rest (m .result) (m .ensures)) in
     λ y e t u. ⊎-elim (λ v. inl (more e .1 (inl v))) (λ v. by-cases (ℕ-discrete y (m .result))
-    (λ k. inl (more e .1 (inr (subst (λ (y : ℕ). In (pairAt (a .ends .now) (a .i) (a .j) y) e) k u))))
+    (λ k. inl (more e .1 (inr (rw (c .before .before .pair-at .ensures) (subst (λ (y : ℕ). In (pairAt (a .ends .now) (a .i) (a .j) y) e) k u)))))
     (λ k. inr (drop y .1 (v, k)))) (l .inv y e t u)
 
 pub some-ends-spec : {M : Type 1} → statement M
 some-ends-spec =
     tie.close
-    (tie.spec Inv-loop μ-loop (λ c. λ y e t u. inr t) (λ c. search needs) (λ c. search needs) (λ c. search needs) (λ c κs. search needs)
-    (λ c. search needs) (λ c. search needs) (λ c. search needs) (λ c. search needs) (λ c κs. search needs) (λ c κs. search needs)
+    (tie.spec Inv-loop μ-loop (λ c. λ y e t u. inr t) (λ c κs. search needs) (λ c κs. search needs) (λ c κs. search needs) (λ c κs. search needs)
     (λ c. omega (arith, c .drop-lowest .ensures .fewer)) loop-again
     (λ c. λ y e t u. ⊎-elim (λ v. v) (λ v. in-zero (omega arith) v) (c .before .loop .inv y e t u)))

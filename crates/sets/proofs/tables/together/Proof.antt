@@ -8,11 +8,11 @@ use Rattle.sets.proofs.tables.together.Tie as tie
 pub together-spec : {M : Type 1} → statement M
 together-spec =
     tie.close
-    (tie.spec (λ c. search needs) (λ c. search needs) (λ c. search needs) (λ c. search needs) (λ c. search needs) (λ c. search needs)
-    (λ c. search needs) (λ c. search needs) (λ c. search needs) (λ c. search needs) (λ c. search needs) (λ c. search needs) (λ c κs. search needs)
-    (λ c. λ d e p q r s t. in-zero (c .if1 .taken) (in-both (c .before .inter .ensures) d .1 (p, q))) (λ c. search needs) (λ c. search needs)
-    (λ c. search needs) (λ c. search needs) (λ c. search needs) (λ c. search needs) (λ c. search needs) (λ c. search needs) (λ c. search needs)
-    (λ c. search needs) (λ c. search needs) (λ c. search needs) (λ c κs. search needs)
-    (λ c. λ d e p q r s t. in-zero (c .if2 .taken) (in-both (c .before .inter2 .ensures) e .1 (r, s))) (λ c. search needs) (λ c. search needs)
-    (λ c. search needs) (λ c. search needs) (λ c. search needs) (λ c. search needs) (λ c κs. search needs)
-    (λ c. λ d e p q r s t. c .has .ensures ∙ t .yes))
+    (tie.spec (λ c κs. search needs) (λ c κs. search needs) (λ c κs. search needs)
+    (λ c. λ d e p q r s t. let k = c .before in in-zero (c .if1 .taken)
+    (in-both (k .inter .ensures) d .1 (rw (k .before .before .pair-at .ensures) p, rw (k .before .pair-at2 .ensures) q)))
+    (λ c κs. search needs) (λ c κs. search needs) (λ c κs. search needs)
+    (λ c. λ d e p q r s t. let k = c .before in in-zero (c .if2 .taken)
+    (in-both (k .inter2 .ensures) e .1 (rw (k .before .before .pair-at3 .ensures) r, rw (k .before .pair-at4 .ensures) s)))
+    (λ c κs. search needs) (λ c κs. search needs)
+    (λ c. λ d e p q r s t. c .has .ensures ∙ rw (c .before .pair-at5 .ensures) (t .yes)))
