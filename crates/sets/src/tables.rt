@@ -18,7 +18,7 @@ use keeping::pair_index;
 use words::MOMENTS;
 
 // Among up to so many moments no pairs are cut and no bounds filled: a search is quicker without.
-pub const FEW: u32 = 8;
+pub const FEW: u32 = 4;
 
 // Leaves out of row p of a table, from a to z, what the masks of condition c leave out.
 fn cut(table: &mut [u64; 1024], p: usize, allow: &[u64; 512], c: usize, a: u32, z: u32)
