@@ -20,7 +20,7 @@ use Rattle.ending.specs.Code.Ends.{asked, partner, partnerOf, MetAtMask, MetByM
 use Rattle.narrowing.specs.Code.Tables.{pairAt, EndsHave, GoesHave, InTables}
 use Rattle.ending.specs.Code.Search.{Masked}
 use Rattle.sets.specs.Code.Masks.{Allowed}
-use Rattle.sets.specs.Code.Tables.{Have, Fewer, Cut, InSpan, Unpruned, OwnRow, OwnRows, Tables}
+use Rattle.sets.specs.Code.Tables.{Have, Fewer, LeftOut, Cut, InSpan, Unpruned, OwnRow, OwnRows, Tables}
 use Rattle.ending.proofs.Conditions.{partner-less}
 
 -- ---- one mask of an array more
@@ -204,6 +204,10 @@ fewer-more old E k v both h p e t = by-cases (ℕ-discrete p k)
     (both e .0 (stored-in E k v (subst (λ (p : ℕ). In (getD (set E k v) p 0) e) q t)) .0)))
     (λ q. h p e (rw (getD-set-other E k p v 0 q) at t))
 
+-- nothing is left out
+pub left-none : {count a z : ℕ} {E G : List ℕ} → LeftOut count a z E G E G
+left-none = record { fewer = λ p e t. t; kept = λ bs es w h. h }
+
 -- ---- what the tables say
 
 -- what is known of the tables once they are filled
@@ -295,8 +299,7 @@ module _ (ms cs vs table : List ℕ) {allow E G E₁ G₁ E₂ E₃ G₃ : List 
     → ((c : ℕ) → c < length cs → (conditionI (getD cs c 0) < count) × (conditionJ (getD cs c 0) < count)
     × MetByMask cs allow bs c (es (conditionI (getD cs c 0)))) → Have E G count bs es → Have E₁ G₁ count bs es)
     (own : OwnRows ms table G₁ a z E₁ E₂ (length ms))
-    (fewer : Fewer E₂ E₃) (pairs : (bs es : ℕ → ℕ) → InSpan (length ms) a z bs es → Have E₂ G₁ (length ms) bs es
-    → Have E₃ G₃ (length ms) bs es) where
+    (pairs : LeftOut (length ms) a z E₂ G₁ E₃ G₃) where
   have-all : (bs es : ℕ → ℕ) → InSpan (length ms) a z bs es → ((c : ℕ) → c < length cs → MetByMask cs allow bs c (es (conditionI (getD cs c 0))))
       → ((i : ℕ) → i < length ms → InTable table (memberNode (getD ms i 0)) (bs i) (es i)) → Have E₃ G₃ (length ms) bs es
   have-all bs es within met reads =
@@ -308,7 +311,7 @@ module _ (ms cs vs table : List ℕ) {allow E G E₁ G₁ E₂ E₃ G₃ : List 
       } in
       let cut = conditions (length ms) bs es within few (λ c l. let m = formed .named c l in
       (omega (arith, counted ms), omega (arith, counted ms), met c l)) start in
-      pairs bs es within (record {
+      pairs .kept bs es within (record {
         ends = own .kept bs es within reads (cut .goes) (cut .ends);
         goes = cut .goes;
       })
@@ -321,7 +324,7 @@ module _ (ms cs vs table : List ℕ) {allow E G E₁ G₁ E₂ E₃ G₃ : List 
     upto = upto;
     allowed = allowed;
     own = λ i x e l g m t. subst (λ (m : ℕ). InTable table m x e × (x ≤ e) × (e ≤ z)) (sym (node-at ms i))
-        (own .own i x e (omega (arith, counted ms)) g m (fewer ((i * 4 + i) * 64 + x) e t));
+        (own .own i x e (omega (arith, counted ms)) g m (pairs .fewer ((i * 4 + i) * 64 + x) e t));
     have = λ bs es w met reads. rw (counted ms) (have-all bs es (λ i l. w i (omega (arith, counted ms))) met
         (λ i l. subst (λ (m : ℕ). InTable table m (bs i) (es i)) (node-at ms i) (reads i (omega (arith, counted ms)))));
     after = λ i x y e l. after i x y e (omega (arith, counted ms));

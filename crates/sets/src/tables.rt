@@ -11,7 +11,7 @@ ghost use Rattle.sets.specs.Code.Rows.{taskSetOf};
 ghost use Rattle.model.specs.Code.Table.{InTable};
 ghost use Rattle.narrowing.specs.Code.Tables.{pairAt};
 ghost use Rattle.ending.specs.Code.Ends.{MetAtMask, MetByMask};
-ghost use Rattle.sets.specs.Code.Tables.{Have, Fewer, Cut, ConditionReady, ConditionsReady, InSpan, OwnRow, OwnRows, LaterReady, TablesReady, Tables};
+ghost use Rattle.sets.specs.Code.Tables.{Have, LeftOut, Cut, ConditionReady, ConditionsReady, InSpan, OwnRow, OwnRows, LaterReady, TablesReady, Tables};
 use crate::conditions;
 use keeping::pair_at;
 use keeping::pair_index;
@@ -186,7 +186,7 @@ fn some_ends(ends: &[u64; 1024], i: usize, j: usize, begins: u64) -> u64
 // is left.
 fn cut_pair(i: usize, j: usize, a: u32, z: u32, ends: &mut [u64; 1024], goes: &mut [u64; 1024])
     requires { ⌜ (i < 4) × (j < 4) × (a ≤ z) × (z < 64) ⌝ }
-    ensures { λ _. ⌜ Fewer (now (ends .entry)) (now (ends .exit)) × ((count : ℕ) (bs es : ℕ → ℕ) → i < count → j < count → count ≤ 4 → InSpan count a z bs es → Have (now (ends .entry)) (now (goes .entry)) count bs es → Have (now (ends .exit)) (now (goes .exit)) count bs es) ⌝ }
+    ensures { λ _. ⌜ ((count : ℕ) → i < count → j < count → count ≤ 4 → LeftOut count a z (now (ends .entry)) (now (goes .entry)) (now (ends .exit)) (now (goes .exit))) ⌝ }
 {
     let mut x = a;
     while x <= z {
@@ -224,7 +224,7 @@ fn cut_members(
     goes: &mut [u64; 1024],
 )
     requires { ⌜ (count ≤ 4) × (a ≤ z) × (z < 64) ⌝ }
-    ensures { λ _. ⌜ Fewer (now (ends .entry)) (now (ends .exit)) × ((bs es : ℕ → ℕ) → InSpan count a z bs es → Have (now (ends .entry)) (now (goes .entry)) count bs es → Have (now (ends .exit)) (now (goes .exit)) count bs es) ⌝ }
+    ensures { λ _. ⌜ LeftOut count a z (now (ends .entry)) (now (goes .entry)) (now (ends .exit)) (now (goes .exit)) ⌝ }
 {
     if count <= i {
         return;
@@ -247,7 +247,7 @@ fn cut_pairs(
     goes: &mut [u64; 1024],
 )
     requires { ⌜ (count ≤ 4) × (a ≤ z) × (z < 64) ⌝ }
-    ensures { λ _. ⌜ Fewer (now (ends .entry)) (now (ends .exit)) × ((bs es : ℕ → ℕ) → InSpan count a z bs es → Have (now (ends .entry)) (now (goes .entry)) count bs es → Have (now (ends .exit)) (now (goes .exit)) count bs es) ⌝ }
+    ensures { λ _. ⌜ LeftOut count a z (now (ends .entry)) (now (goes .entry)) (now (ends .exit)) (now (goes .exit)) ⌝ }
 {
     let mut rest = pairs;
     while rest != 0 {
@@ -267,7 +267,7 @@ fn cut_constrained(
     goes: &mut [u64; 1024],
 )
     requires { ⌜ (count ≤ 4) × (a ≤ z) × (z < 64) ⌝ }
-    ensures { λ _. ⌜ Fewer (now (ends .entry)) (now (ends .exit)) × ((bs es : ℕ → ℕ) → InSpan count a z bs es → Have (now (ends .entry)) (now (goes .entry)) count bs es → Have (now (ends .exit)) (now (goes .exit)) count bs es) ⌝ }
+    ensures { λ _. ⌜ LeftOut count a z (now (ends .entry)) (now (goes .entry)) (now (ends .exit)) (now (goes .exit)) ⌝ }
 {
     if z < a + FEW {
         return;

@@ -30,6 +30,12 @@ Cut old p allow c a z new =
 abbrev pub InSpan : ℕ → ℕ → ℕ → (ℕ → ℕ) → (ℕ → ℕ) → Type 0
 InSpan count a z bs es = (i : ℕ) → i < count → (a ≤ bs i) × (bs i ≤ es i) × (es i ≤ z)
 
+-- of the tables E and G something is left out, which gives E′ and G′: they have no end more, and what the old ones have of begins and ends
+-- within a..z
+pub record LeftOut (count a z : ℕ) (E G E′ G′ : List ℕ) : Type 0 where
+  pub fewer : Fewer E E′
+  pub kept : (bs es : ℕ → ℕ) → InSpan count a z bs es → Have E G count bs es → Have E′ G′ count bs es
+
 -- a table before anything is left out of it
 abbrev pub Unpruned : List ℕ → Type 0
 Unpruned t = (p e : ℕ) → p < 1024 → e < 64 → In (getD t p 0) e

@@ -59,4 +59,4 @@ pub cut-pair-spec : {M : Type 1} → statement M
 cut-pair-spec =
     tie.close
     (tie.spec Inv-loop μ-loop (λ c. record { from = omega arith; upto = omega arith; fewer = λ p e t. t; kept = λ count bs es first second few within have. have })
-    (λ c κs. search needs) (λ c κs. search needs) (λ c. search needs) (λ c. search needs) (λ c κs. search needs) (λ c. search needs) (λ c. search needs) (λ c κs. search needs) (λ c κs. search needs) (λ c. search needs) (λ c. search needs) (λ c. search needs) (λ c. search needs) loop-again (λ c. (c .before .loop .inv .fewer, c .before .loop .inv .kept)))
+    (λ c κs. search needs) (λ c κs. search needs) (λ c. search needs) (λ c. search needs) (λ c κs. search needs) (λ c. search needs) (λ c. search needs) (λ c κs. search needs) (λ c κs. search needs) (λ c. search needs) (λ c. search needs) (λ c. search needs) (λ c. search needs) loop-again (λ c. λ count first second few. let v = c .before .loop .inv in record { fewer = v .fewer; kept = λ bs es. v .kept count bs es first second few }))

@@ -58,8 +58,7 @@ returns c =
     let a = s .args in
     let p = s .pre in
     filled (a .members .now) (a .conds .now) (a .values .now) (a .table .now) (a .n) (a .a) (a .z) (p .formed) (p .forward) (p .upto) (p .unpruned-ends)
-    (p .unpruned-goes) (allowed cut .fill-allowed .ensures) (cut .cut-all .ensures) (rows .fill-own .ensures) (pairs .cut-constrained .ensures .0)
-    (pairs .cut-constrained .ensures .1) (c .fill-later .ensures)
+    (p .unpruned-goes) (allowed cut .fill-allowed .ensures) (cut .cut-all .ensures) (rows .fill-own .ensures) (pairs .cut-constrained .ensures) (c .fill-later .ensures)
 
 pub fill-spec : {M : Type 1} → statement M
 fill-spec = tie.close (tie.spec (λ c κs. search needs) cut-all-requires fill-own-requires cut-constrained-requires fill-later-requires returns)
