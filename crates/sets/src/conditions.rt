@@ -9,7 +9,7 @@ ghost use Rattle.words.specs.Fields.{holds};
 ghost use Rattle.model.specs.Forms.{conditionNumber, HoldsBefore, HoldsAfter, HoldsBetween};
 ghost use Rattle.sets.specs.Set.{MetAs, MetAt};
 ghost use Rattle.model.specs.Code.Arrays.{valueIn};
-ghost use Rattle.sets.specs.Code.Masks.{Allowed, Failing, MaskOf};
+ghost use Rattle.sets.specs.Code.Masks.{Allowed, Failing, MaskOf, OwnMask};
 use words::MOMENTS;
 
 // Of the moments from a to z, those at which formula k does not hold.
@@ -93,7 +93,7 @@ fn holds_after(fails: u64, first: u32, last: u32, y: u32, n: u32) -> bool
 // The moments of a..z at which a condition of form 2, or else 3, is met.
 fn own_moments(form: u32, fails: u64, first: u32, last: u32, a: u32, z: u32, n: u32) -> u64
     requires { ⌜ (first < 64) × (last < 64) × (a ≤ z) × (z ≤ n) × (n < 64) ⌝ }
-    ensures { λ r. ⌜ ((form ≡ 2) → (value : ℕ → ℕ → ℕ) (k x : ℕ) → Failing HoldsBefore value n k last a z fails → MaskOf HoldsBefore value n k first last a z x r) × ((form ≡ 3) → (value : ℕ → ℕ → ℕ) (k x : ℕ) → Failing HoldsAfter value n k last a z fails → MaskOf HoldsAfter value n k first last a z x r) ⌝ }
+    ensures { λ r. ⌜ OwnMask form n first last a z fails r ⌝ }
 {
     let mut mask = 0;
     let mut y = a;
@@ -114,7 +114,7 @@ fn own_moments(form: u32, fails: u64, first: u32, last: u32, a: u32, z: u32, n: 
 // The same, and none for another form, whose mask depends on the begin of member j.
 fn own_mask(form: u32, fails: u64, first: u32, last: u32, a: u32, z: u32, n: u32) -> u64
     requires { ⌜ (first < 64) × (last < 64) × (a ≤ z) × (z ≤ n) × (n < 64) ⌝ }
-    ensures { λ r. ⌜ ((form ≡ 2) → (value : ℕ → ℕ → ℕ) (k x : ℕ) → Failing HoldsBefore value n k last a z fails → MaskOf HoldsBefore value n k first last a z x r) × ((form ≡ 3) → (value : ℕ → ℕ → ℕ) (k x : ℕ) → Failing HoldsAfter value n k last a z fails → MaskOf HoldsAfter value n k first last a z x r) ⌝ }
+    ensures { λ r. ⌜ OwnMask form n first last a z fails r ⌝ }
 {
     if form < 2 {
         return 0;

@@ -26,6 +26,11 @@ Failing f value n k N a z r = (t : ℕ) → Seen f n N a z t → In r t ↔ (val
 abbrev pub MaskOf : ConditionForm → (ℕ → ℕ → ℕ) → ℕ → ℕ → ℕ → ℕ → ℕ → ℕ → ℕ → ℕ → Type 0
 MaskOf f value n k M N a z x r = (y : ℕ) → In r y ↔ ((a ≤ y) × (y ≤ z) × MetAs f value n k M N y y x)
 
+-- the mask r of a condition of form 2 or 3, which asks nothing of member j, where the formula fails at `fails`
+pub record OwnMask (form n M N a z fails r : ℕ) : Type 0 where
+  pub holds-before : form ≡ 2 → (value : ℕ → ℕ → ℕ) (k x : ℕ) → Failing HoldsBefore value n k N a z fails → MaskOf HoldsBefore value n k M N a z x r
+  pub holds-after : form ≡ 3 → (value : ℕ → ℕ → ℕ) (k x : ℕ) → Failing HoldsAfter value n k N a z fails → MaskOf HoldsAfter value n k M N a z x r
+
 -- the mask at c * 64 + x has the moments y of lo..hi at which member i may begin or end for condition c, where its partner begins at x; so
 -- for each x of lo..hi and the first k conditions
 pub record Allowed (value : ℕ → ℕ → ℕ) (cs : List ℕ) (n lo hi k : ℕ) (allow : List ℕ) : Type 0 where

@@ -57,8 +57,8 @@ new c =
     = λ f q. subst (λ (f : ℕ). Failing (conditionNumber f) value (a .n) (k .result) (last .result) (a .a) (a .z) (fails .result)) q (fails .ensures) in
     mask-met value (a .n) (a .w) (a .a) (a .z) x (form .ensures .0) (k .ensures .0)
     (fields own .before .condition-m .ensures .0) (last .ensures .0)
-    (c .mask-at .ensures value (a .n) (k .result) (fails .ensures) (λ q. own .own-mask .ensures .0 q value (k .result) x (of 2 q))
-    (λ q. own .own-mask .ensures .1 q value (k .result) x (of 3 q)))
+    (c .mask-at .ensures value (a .n) (k .result) (fails .ensures) (λ q. own .own-mask .ensures .holds-before q value (k .result) x (of 2 q))
+    (λ q. own .own-mask .ensures .holds-after q value (k .result) x (of 3 q)))
 
 loop-again : tie.Need-loop-again Inv-loop μ-loop
 loop-again c =

@@ -7,5 +7,5 @@ use Rattle.sets.proofs.conditions.own_mask.Tie as tie
 pub own-mask-spec : {M : Type 1} → statement M
 own-mask-spec =
     tie.close
-    (tie.spec (λ c. let g = c .if1 .taken in (λ q. absurd (omega arith), λ q. absurd (omega arith)))
-    (λ c. let g = c .if2 .taken in (λ q. absurd (omega arith), λ q. absurd (omega arith))) (λ c κs. search needs) (λ c. c .own-moments .ensures))
+    (tie.spec (λ c. let g = c .if1 .taken in record { holds-before = λ q. absurd (omega arith); holds-after = λ q. absurd (omega arith) })
+    (λ c. let g = c .if2 .taken in record { holds-before = λ q. absurd (omega arith); holds-after = λ q. absurd (omega arith) }) (λ c κs. search needs) (λ c. c .own-moments .ensures))

@@ -63,10 +63,10 @@ all q h v = (
 )
 
 returns : tie.Need-returns Inv-loop μ-loop
-returns c = let l = c .before .loop in (
-  λ q value k x f. all (omega arith) (l .inv .holds-before q value k x f),
-  λ q value k x f. all (omega arith) (l .inv .holds-after q value k x f),
-)
+returns c = let l = c .before .loop in record {
+  holds-before = λ q value k x f. all (omega arith) (l .inv .holds-before q value k x f);
+  holds-after = λ q value k x f. all (omega arith) (l .inv .holds-after q value k x f);
+}
 
 loop-holds : tie.Need-loop-holds Inv-loop μ-loop
 loop-holds c =
