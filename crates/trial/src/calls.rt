@@ -20,7 +20,7 @@ use answers::first_refusal;
 use answers::refuse;
 use job::check_job;
 use theory::buffer_refusal;
-use theory::check_room;
+use theory::check_job_and_room;
 use words::copy_words;
 
 // The words that a trial takes: the moment, the number, and room for the starts.
@@ -110,7 +110,7 @@ pub fn show_words(job: &[u32], words: &[u32], buffer: &mut [u32]) -> Answer
 {
     if words.len() < TRIAL_WORDS {
         let short = buffer_refusal(buffer.len());
-        let late = short_refusal(check_room(job, buffer.len()).refusal);
+        let late = short_refusal(check_job_and_room(job, buffer.len()).refusal);
         return answer_of(first_refusal(short, late), 0, 0);
     }
     taken(words).show(job, buffer)
