@@ -47,8 +47,8 @@ fn write_facts(
     end
 }
 
-// Writes the facts at moment `t` to the front of the row, and answers how many they are.
-pub fn facts_at(job: &[u32], history: &[u8; 16384], t: usize, row: &mut [u32]) -> usize
+// Writes the facts that the history's row of moment `t` has to the front of `row`, and answers how many they are.
+pub fn row_facts(job: &[u32], history: &[u8; 16384], t: usize, row: &mut [u32]) -> usize
     requires { ⌜ WellFormed (now job) × (t ≤ lastMoment (now job)) × (fluents (now job) ≤ length (now row)) ⌝ }
     ensures { λ r. ⌜ Filled (now (row .entry)) (rowFacts (now (history .entry)) (headWord (now (job .entry))) t (fluents (now (job .entry)))) r (now (row .exit)) ⌝ }
 {

@@ -5,7 +5,7 @@ ghost use Prim.Native.Nat.{ℕ, _+_, _*_, _<_, _≤_};
 ghost use Rattle.history.specs.Values.{valueAt};
 ghost use Rattle.history.specs.Code.Tables.{History};
 ghost use Rattle.formulas.specs.Values.{andTable, orTable, byTable, ago, heldFor, formValue};
-ghost use Rattle.formulas.specs.Code.Table.{Small, Connectives, tabled, tabulated, Grounds, ColumnsBefore, ColumnReady, FormulaTable};
+ghost use Rattle.formulas.specs.Code.Table.{Connectives, tabled, tabulated, FormReady, HeldReady, Grounds, ColumnsBefore, ColumnReady, FormulaTable};
 use words::FAILS;
 use words::FLUENTS;
 use words::HOLDS;
@@ -45,7 +45,7 @@ fn ago(values: &[u8; 4096], x: usize, t: usize, k: usize) -> u8
 
 // The value of 'formula `x` has held for `y` moments' at moment `t`: 'and' over the values of `x`, oldest first.
 fn held_for(and: &[u8; 9], values: &[u8; 4096], x: usize, y: usize, t: usize) -> u8
-    requires { ⌜ Small (now and) × Small (now values) × (x < 64) × (t < 64) ⌝ }
+    requires { ⌜ HeldReady (now and) (now values) x t ⌝ }
     ensures { λ r. ⌜ r ≡ heldFor (now (and .entry)) (tabulated (now (values .entry)) x) y t ⌝ }
 {
     let mut k = y;
@@ -67,7 +67,7 @@ fn form_value(
     values: &[u8; 4096],
     t: usize,
 ) -> u8
-    requires { ⌜ Small (now and) × Small (now values) × (t < 64) ⌝ }
+    requires { ⌜ FormReady (now and) (now values) t ⌝ }
     ensures { λ r. ⌜ r ≡ formValue (now (and .entry)) (now (or .entry)) head w
         (tabled (now (history .entry))) (tabulated (now (values .entry))) t ⌝ }
 {

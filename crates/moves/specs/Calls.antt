@@ -37,13 +37,13 @@ moveAnswer job words m = answerOf (firstRow (jobRefusal job ∷ trialRoomRefusal
 abbrev pub shownFacts : List ℕ → Trial → List ℕ
 shownFacts job T = factsUpto job (T .starts) (T .moment)
 
+-- showing T: the rows on the buffer and the job, then those on the trial, as they are given
+abbrev pub showing : ℕ → List ℕ → Trial → List Refusal → Answer
+showing room job T rows =
+    answerOf (firstRow (bufferRefusal room ∷ jobRefusal job ∷ factRoomRefusal room job ∷ rows)) (length (shownFacts job T)) 0
+
 unfoldable pub showAnswer : ℕ → List ℕ → List ℕ → Answer
-showAnswer room job words =
-    answerOf
-    (firstRow
-    (bufferRefusal room ∷ jobRefusal job ∷ factRoomRefusal room job ∷ trialRoomRefusal (length words) ∷ trialRefusal job (trialIn words) ∷ []))
-    (length (shownFacts job (trialIn words)))
-    0
+showAnswer room job words = showing room job (trialIn words) (trialRoomRefusal (length words) ∷ trialRefusal job (trialIn words) ∷ [])
 
 -- the words after a call with that answer that hands back T: its words in front, the rest as it was; a refusal changes no word
 abbrev pub handedBack : Answer → Trial → List ℕ → List ℕ

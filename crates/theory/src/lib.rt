@@ -19,8 +19,8 @@ use answers::first_refusal;
 use answers::none;
 use answers::refuse;
 use answers::row_of;
-use facts::facts_at;
 use facts::fill_facts;
+use facts::row_facts;
 use groups::Groups;
 use groups::groups_of;
 use groups::over_limit;
@@ -123,7 +123,7 @@ fn head_of(job: &[u32]) -> u32
 }
 
 // The rows of the job, then row 12 again: whether there is room for the facts of its plans.
-pub fn check_room(job: &[u32], room: usize) -> Checked
+pub fn check_job_and_room(job: &[u32], room: usize) -> Checked
     ensures { λ r. ⌜ r ≡ roomCheckedOf room (now (job .entry)) ⌝ }
 {
     let checked = check_job(job);
@@ -176,7 +176,7 @@ fn compare_facts(job: &[u32], history: &[u8; 16384], given: &[u32]) -> Refusal
     let mut at = 0;
     let mut t = 0;
     while t <= last {
-        let n = facts_at(job, history, t, &mut row);
+        let n = row_facts(job, history, t, &mut row);
         let part = compare_part(given, at, &row[..n]);
         if part.number != 0 {
             return part;
@@ -230,7 +230,7 @@ pub fn fill_plan(job: &[u32], starts: &[u32], buffer: &mut [u32]) -> Answer
     if short.number != 0 {
         return answer_of(short, 0, 0);
     }
-    let plan = judge(job, check_room(job, buffer.len()), starts);
+    let plan = judge(job, check_job_and_room(job, buffer.len()), starts);
     let refused = plan.refusal;
     if refused.number != 0 {
         return answer_of(refused, 0, 0);

@@ -1,5 +1,5 @@
 -- What a move hands back: the trial with a start more, and the refusal row after row. Assumes nothing.
-use mathlib.Core.List.{List, [], _∷_}
+use mathlib.Core.List.{List}
 use mathlib.Core.Path.{_≡_, refl, ap, sym, _∙_}
 use Prim.Native.Nat.{ℕ, _+_, _<_}
 use native.Mathlib.Numerals.{add-one}
@@ -14,20 +14,23 @@ use Rattle.words.proofs.Copies.{sets-first}
 use Rattle.words.proofs.Lists.{firstWords-take}
 use Rattle.words.proofs.Insert.{insert-length}
 use Rattle.answers.specs.declared.Refusal.{Refusal}
-use Rattle.answers.specs.Rows.{row, firstRow, firstRefusal}
+use Rattle.answers.specs.Rows.{row, firstRefusal}
 use Rattle.answers.proofs.Rows.{or-assoc, or-refused, or-passed, row-none}
+use Rattle.job.specs.declared.Checked.{Checked}
 use Rattle.job.specs.Parts.{lastMoment}
 use Rattle.job.specs.Refusal.{jobRefusal}
+use Rattle.job.specs.Code.Index.{checkedOf}
 use Rattle.job.specs.Code.WellFormed.{WellFormed}
 use Rattle.facts.specs.Facts.{factsUpto}
+use Rattle.theory.specs.declared.Plan.{Plan}
 use Rattle.moves.specs.Trials.{Move, Start, On, trialRefusal, startRefusal, onRefusal, ownRefusal, moveRefusal, moved, after}
 use Rattle.moves.specs.Calls.{shownFacts}
 use Rattle.moves.proofs.Played.{named}
 use Rattle.moves.proofs.Shown.{refused-keeps}
 use Rattle.trial.specs.declared.Trial.{Trial}
 use Rattle.trial.specs.Stepped.{trialOf, Stepped}
-use Rattle.trial.specs.Code.Given.{Sized, WithWord}
-use Rattle.trial.proofs.Judging.{starts-taken}
+use Rattle.trial.specs.Code.Given.{Sized, TrialJudged, WithWord}
+use Rattle.trial.proofs.Judging.{trial-rows, starts-taken}
 
 -- a word put into the words in front of an array
 module _ (t : Trial) (w : ℕ) (s : Sized t) (room : t .length < 4096) {next : List ℕ}
@@ -44,16 +47,16 @@ module _ (t : Trial) (w : ℕ) (s : Sized t) (room : t .length < 4096) {next : L
       ∙ rw (put, ← more) (sets-first (t .starts) (insert w (take (t .length) (t .starts))) (omega (arith, more, s .size)))
 
 -- the rows before the move's own refuse, or leave it to them
-module _ (job : List ℕ) (t : Trial) (m : Move) {early : Refusal} (is : early ≡ firstRow (jobRefusal job ∷ trialRefusal job (trialOf t) ∷ [])) where
-  then-own : firstRefusal early (ownRefusal job (trialOf t) m) ≡ moveRefusal job (trialOf t) m
+module _ (job : List ℕ) (t : Trial) (m : Move) {checked : Checked} {plan : Plan} (is : checked ≡ checkedOf job) (judged : TrialJudged (checked .refusal) job t plan) where
+  then-own : firstRefusal (plan .refusal) (ownRefusal job (trialOf t) m) ≡ moveRefusal job (trialOf t) m
   unfolding moveRefusal
-  then-own = rw is (sym (or-assoc (jobRefusal job) (trialRefusal job (trialOf t)) (ownRefusal job (trialOf t) m)))
+  then-own = rw (trial-rows job t checked is judged) (sym (or-assoc (jobRefusal job) (trialRefusal job (trialOf t)) (ownRefusal job (trialOf t) m)))
 
-  pub early-refused : (early .number ≡ 0 → ⊥) → early ≡ moveRefusal job (trialOf t) m
-  early-refused never = or-refused early (ownRefusal job (trialOf t) m) never ∙ then-own
+  pub early-refused : (plan .refusal .number ≡ 0 → ⊥) → plan .refusal ≡ moveRefusal job (trialOf t) m
+  early-refused never = or-refused (plan .refusal) (ownRefusal job (trialOf t) m) never ∙ then-own
 
-  pub own-next : early .number ≡ 0 → ownRefusal job (trialOf t) m ≡ moveRefusal job (trialOf t) m
-  own-next z = or-passed early (ownRefusal job (trialOf t) m) z ∙ then-own
+  pub own-next : plan .refusal .number ≡ 0 → ownRefusal job (trialOf t) m ≡ moveRefusal job (trialOf t) m
+  own-next z = or-passed (plan .refusal) (ownRefusal job (trialOf t) m) z ∙ then-own
 
 -- a refused move, and an accepted one
 module _ (job : List ℕ) (t : Trial) (m : Move) {r : Refusal} (is : r ≡ moveRefusal job (trialOf t) m) where

@@ -2,16 +2,11 @@
 use mathlib.Core.List.{List, [], _∷_}
 use mathlib.Core.Path.{_≡_}
 use Prim.Native.Nat.{ℕ}
-use lib.ListN.{length}
 use Rattle.words.specs.Lists.{firstWords}
 use Rattle.answers.specs.declared.Answer.{Answer}
-use Rattle.answers.specs.Rows.{firstRow}
-use Rattle.answers.specs.Packed.{answerOf}
-use Rattle.job.specs.Refusal.{jobRefusal}
-use Rattle.theory.specs.Answers.{bufferRefusal, factRoomRefusal}
 use Rattle.moves.specs.Trials as trials
 use Rattle.moves.specs.Trials.{Move, trialRefusal, moveRefusal, after}
-use Rattle.moves.specs.Calls.{shownFacts}
+use Rattle.moves.specs.Calls.{showing}
 use Rattle.trial.specs.declared.Trial.{Trial}
 use Rattle.trial.specs.declared.Moved.{Moved}
 
@@ -25,7 +20,6 @@ pub record Stepped (job : List ℕ) (before : Trial) (m : Move) (r : Moved) : Ty
   pub trial : trialOf (r .trial) ≡ after job (trialOf before) m
   pub same : (r .refusal .number ≡ 0 → ⊥) → r .trial ≡ before
 
--- showing: as fill answers, with the facts shown
+-- showing: as the call does, less its row on the number of words
 unfoldable pub showAnswerOf : ℕ → List ℕ → trials.Trial → Answer
-showAnswerOf room job T =
-    answerOf (firstRow (bufferRefusal room ∷ jobRefusal job ∷ factRoomRefusal room job ∷ trialRefusal job T ∷ [])) (length (shownFacts job T)) 0
+showAnswerOf room job T = showing room job T (trialRefusal job T ∷ [])

@@ -18,10 +18,9 @@ use answers::Refusal;
 use answers::answer_of;
 use answers::first_refusal;
 use answers::refuse;
-use job::Checked;
 use job::check_job;
 use theory::buffer_refusal;
-use theory::check_room;
+use theory::check_job_and_room;
 use words::copy_words;
 
 // The words that a trial takes: the moment, the number, and room for the starts.
@@ -69,10 +68,10 @@ fn put_back(moved: Moved, words: &mut [u32]) -> Answer
 }
 
 // Words that are too few for a trial: the refusal of the rows before, or 14.
-fn short_refusal(checked: Checked) -> Refusal
-    ensures { λ r. ⌜ r ≡ firstRefusal (checked .refusal) (refusal 14 0) ⌝ }
+fn short_refusal(before: Refusal) -> Refusal
+    ensures { λ r. ⌜ r ≡ firstRefusal before (refusal 14 0) ⌝ }
 {
-    first_refusal(checked.refusal, refuse(14, 0))
+    first_refusal(before, refuse(14, 0))
 }
 
 // Begins a trial.
@@ -80,7 +79,7 @@ pub fn begin_words(job: &[u32], words: &mut [u32]) -> Answer
     ensures { λ r. ⌜ (r ≡ beginAnswer (length (now (words .entry))) (now (job .entry))) × (now (words .exit) ≡ handedBack r fresh (now (words .entry))) ⌝ }
 {
     if words.len() < TRIAL_WORDS {
-        return answer_of(short_refusal(check_job(job)), 0, 0);
+        return answer_of(short_refusal(check_job(job).refusal), 0, 0);
     }
     put_back(Trial::begin(job), words)
 }
@@ -90,7 +89,7 @@ pub fn start_words(job: &[u32], words: &mut [u32], action: u32) -> Answer
     ensures { λ r. ⌜ (r ≡ moveAnswer (now (job .entry)) (now (words .entry)) (Start action)) × (now (words .exit) ≡ handedBack r (after (now (job .entry)) (trialIn (now (words .entry))) (Start action)) (now (words .entry))) ⌝ }
 {
     if words.len() < TRIAL_WORDS {
-        return answer_of(short_refusal(check_job(job)), 0, 0);
+        return answer_of(short_refusal(check_job(job).refusal), 0, 0);
     }
     put_back(taken(words).start(job, action), words)
 }
@@ -100,7 +99,7 @@ pub fn on_words(job: &[u32], words: &mut [u32]) -> Answer
     ensures { λ r. ⌜ (r ≡ moveAnswer (now (job .entry)) (now (words .entry)) On) × (now (words .exit) ≡ handedBack r (after (now (job .entry)) (trialIn (now (words .entry))) On) (now (words .entry))) ⌝ }
 {
     if words.len() < TRIAL_WORDS {
-        return answer_of(short_refusal(check_job(job)), 0, 0);
+        return answer_of(short_refusal(check_job(job).refusal), 0, 0);
     }
     put_back(taken(words).on(job), words)
 }
@@ -111,7 +110,7 @@ pub fn show_words(job: &[u32], words: &[u32], buffer: &mut [u32]) -> Answer
 {
     if words.len() < TRIAL_WORDS {
         let short = buffer_refusal(buffer.len());
-        let late = short_refusal(check_room(job, buffer.len()));
+        let late = short_refusal(check_job_and_room(job, buffer.len()).refusal);
         return answer_of(first_refusal(short, late), 0, 0);
     }
     taken(words).show(job, buffer)

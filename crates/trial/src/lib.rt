@@ -26,7 +26,7 @@ use job::Checked;
 use job::check_job;
 use theory::Plan;
 use theory::buffer_refusal;
-use theory::check_room;
+use theory::check_job_and_room;
 use theory::judge_starts;
 use theory::refused;
 use words::insert_word;
@@ -221,7 +221,7 @@ impl Trial {
         if short.number != 0 {
             return answer_of(short, 0, 0);
         }
-        let plan = self.judged(job, check_room(job, buffer.len()));
+        let plan = self.judged(job, check_job_and_room(job, buffer.len()));
         let refused = plan.refusal;
         if refused.number != 0 {
             return answer_of(refused, 0, 0);

@@ -54,10 +54,10 @@ pub form-value-spec : {M : Type 1} → statement M
 form-value-spec =
     tie.close
     (tie.spec (λ c κs. search needs) (λ c κs. search needs) (λ c κs. search needs) (λ c. search needs) (λ c κs. search needs) (λ c. search needs)
-    (λ c. search needs) (λ c. search needs) (λ c. search needs) (λ c. search needs) (λ c. entry (c .before .before) .pre .1 .most _)
+    (λ c. search needs) (λ c. search needs) (λ c. search needs) (λ c. search needs) (λ c. entry (c .before .before) .pre .so-far .most _)
     (λ c. search needs) (λ c. search needs) (λ c. search needs) (λ c. search needs) (λ c. search needs) (λ c. search needs)
-    (λ c κs. let small = entry (c .before .before .before) .pre .1 in (small .most _, small .most _)) (λ c. search needs) (λ c. search needs)
+    (λ c κs. let small = entry (c .before .before .before) .pre .so-far in (small .most _, small .most _)) (λ c. search needs) (λ c. search needs)
     (λ c. search needs) (λ c. search needs) (λ c. search needs) (λ c. search needs)
-    (λ c κs. let small = entry (c .before .before .before) .pre .1 in (small .most _, small .most _))
-    (λ c κs. let p = entry (c .before) .pre in (p .0, p .1, c .before .before .formula-x .ensures .1, p .2)) returns returns-2 returns-3 returns-4
+    (λ c κs. let small = entry (c .before .before .before) .pre .so-far in (small .most _, small .most _))
+    (λ c κs. record { form = entry (c .before) .pre; formula = c .before .before .formula-x .ensures .1 }) returns returns-2 returns-3 returns-4
     returns-5 returns-6)

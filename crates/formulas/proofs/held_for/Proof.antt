@@ -26,7 +26,7 @@ entry c = c .before .before .before
 
 -- one of the values of x
 one-most : (c : tie.Start Inv-loop μ-loop) (k : ℕ) → ago (tabulated (c .args .values .now) (c .args .x)) (c .args .t) k ≤ 2
-one-most c = ago-most (tabulated (c .args .values .now) (c .args .x)) (c .args .t) (λ u. c .pre .1 .most _)
+one-most c = ago-most (tabulated (c .args .values .now) (c .args .x)) (c .args .t) (λ u. c .pre .form .so-far .most _)
 
 loop-holds : tie.Need-loop-holds Inv-loop μ-loop
 unfolding throughout
@@ -49,7 +49,7 @@ loop-again c =
     let a = start .args in
     record {
       bound = omega (arith, turn .inv .bound);
-      most = rw (c .by-table .ensures) (start .pre .0 .most _);
+      most = rw (c .by-table .ensures) (start .pre .form .conjunction .most _);
       so-far =
           throughout-more (a .and .now) (tabulated (a .values .now) (a .x)) (a .t) (a .y) (turn .k) (omega (arith, c .before .before .loop-test .taken)) (turn .inv .bound)
           (turn .inv .so-far) (c .before .ago2 .ensures) (c .by-table .ensures);

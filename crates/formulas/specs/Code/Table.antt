@@ -17,16 +17,28 @@ pub record Connectives (conj disj : List ℕ) : Type 0 where
   pub conjunction : Small conj
   pub disjunction : Small disj
 
--- the fluents by a history, whose entries for the job are each one of the three values
+-- the fluents by a history
 abbrev pub tabled : List ℕ → ℕ → ℕ → ℕ
 tabled history t f = getD history (t * 256 + f) 0
+
+-- a history whose entries for the job are each one of the three values
+pub record Valued (job history : List ℕ) : Type 0 where
+  pub most : (t f : ℕ) → t ≤ lastMoment job → f < fluents job → tabled history t f ≤ 2
 
 -- formula k at moment t, by a table of values
 abbrev pub tabulated : List ℕ → ℕ → ℕ → ℕ
 tabulated values k t = getD values (k * 64 + t) 0
 
-pub record Valued (job history : List ℕ) : Type 0 where
-  pub most : (t f : ℕ) → t ≤ lastMoment job → f < fluents job → tabled history t f ≤ 2
+-- what the value of a formula word at moment t is found from: the table of 'and', and the values so far
+pub record FormReady (conj values : List ℕ) (t : ℕ) : Type 0 where
+  pub conjunction : Small conj
+  pub so-far : Small values
+  pub moment : t < 64
+
+-- and that of 'formula x has held'
+pub record HeldReady (conj values : List ℕ) (x t : ℕ) : Type 0 where
+  pub form : FormReady conj values t
+  pub formula : x < 64
 
 -- what the values of a job's formulas are found from: the positions of the formulas, how many they are, and a history
 pub record Grounds (job places : List ℕ) (count : ℕ) (history : List ℕ) : Type 0 where

@@ -52,35 +52,35 @@ abbrev entry : tie.After-last-of Inv-loop μ-loop → tie.Start Inv-loop μ-loop
 entry c = c .before .before .before .before
 
 -- a turn, from the call that makes the facts of its moment, and that call from where they are compared
-abbrev turn : tie.After-facts-at Inv-loop μ-loop → tie.At-loop Inv-loop μ-loop
+abbrev turn : tie.After-row-facts Inv-loop μ-loop → tie.At-loop Inv-loop μ-loop
 turn c = c .before .before .before
 
-abbrev made : tie.After-compare-part Inv-loop μ-loop → tie.After-facts-at Inv-loop μ-loop
+abbrev made : tie.After-compare-part Inv-loop μ-loop → tie.After-row-facts Inv-loop μ-loop
 made c = c .before .before .before
 
-facts-at-requires : tie.Need-facts-at-requires Inv-loop μ-loop
-facts-at-requires c κs =
+row-facts-requires : tie.Need-row-facts-requires Inv-loop μ-loop
+row-facts-requires c κs =
     let at = c .before .before in
     let well = entry (at .before) .pre in
     (well, omega (arith, c .before .loop-test .taken, at .before .last-of .ensures .0), omega (arith, well .few-fluents, at .loop .inv .size))
 
-row-size : (c : tie.After-facts-at Inv-loop μ-loop) → length (c .facts-at .last .1 .1 .1 .0) ≡ 256
-row-size c = ap length (c .facts-at .ensures .held) ∙ simp length-sets (turn c .loop .inv .size)
+row-size : (c : tie.After-row-facts Inv-loop μ-loop) → length (c .row-facts .last .1 .1 .1 .0) ≡ 256
+row-size c = ap length (c .row-facts .ensures .held) ∙ simp length-sets (turn c .loop .inv .size)
 
 -- the facts of a moment stand in front of the row
-front : (c : tie.After-facts-at Inv-loop μ-loop)
+front : (c : tie.After-row-facts Inv-loop μ-loop)
     → let a = entry (turn c .before) .args in
-    take (c .facts-at .result) (c .facts-at .last .1 .1 .1 .0) ≡ rowFacts (a .history .now) (getD (a .job .now) 0 0) (turn c .loop .t) (fluentsOf (getD (a .job .now) 0 0))
+    take (c .row-facts .result) (c .row-facts .last .1 .1 .1 .0) ≡ rowFacts (a .history .now) (getD (a .job .now) 0 0) (turn c .loop .t) (fluentsOf (getD (a .job .now) 0 0))
 front c =
     let s = entry (turn c .before) in
     let most = row-most (s .args .history .now) (getD (s .args .job .now) 0 0) (turn c .loop .t) (fluentsOf (getD (s .args .job .now) 0 0)) in
-    filled-front (c .facts-at .ensures) (omega (arith, s .pre .few-fluents, turn c .loop .inv .size)) .0
+    filled-front (c .row-facts .ensures) (omega (arith, s .pre .few-fluents, turn c .loop .inv .size)) .0
 
-fits : (c : tie.After-facts-at Inv-loop μ-loop) → c .facts-at .result ≤ length (c .facts-at .last .1 .1 .1 .0)
+fits : (c : tie.After-row-facts Inv-loop μ-loop) → c .row-facts .result ≤ length (c .row-facts .last .1 .1 .1 .0)
 fits c =
     let s = entry (turn c .before) in
     let most = row-most (s .args .history .now) (getD (s .args .job .now) 0 0) (turn c .loop .t) (fluentsOf (getD (s .args .job .now) 0 0)) in
-    omega (arith, c .facts-at .ensures .count, s .pre .few-fluents, turn c .loop .inv .size, row-size c)
+    omega (arith, c .row-facts .ensures .count, s .pre .few-fluents, turn c .loop .inv .size, row-size c)
 
 -- what the comparison gives, by the history
 compared : (c : tie.After-compare-part Inv-loop μ-loop)
@@ -113,12 +113,12 @@ passing : (c : tie.Else1 Inv-loop μ-loop)
 passing c = sym (ap (λ (r : Refusal). r .number) (compared (c .before .before))) ∙ c .if1 .left
 
 inside : (c : tie.Else1 Inv-loop μ-loop)
-    → let k = c .before .before in turn (made k) .loop .at + made k .facts-at .result ≤ length (entry (turn (made k) .before) .args .given .now)
+    → let k = c .before .before in turn (made k) .loop .at + made k .row-facts .result ≤ length (entry (turn (made k) .before) .args .given .now)
 inside c =
     let k = c .before .before in
     let old = turn (made k) .loop .inv .inside in
     let given = entry (turn (made k) .before) .args .given .now in
-    omega (arith, made k .facts-at .ensures .count, part-inside (drop (turn (made k) .loop .at) given) _ _ (passing c), length-drop (turn (made k) .loop .at) given)
+    omega (arith, made k .row-facts .ensures .count, part-inside (drop (turn (made k) .loop .at) given) _ _ (passing c), length-drop (turn (made k) .loop .at) given)
 
 loop-again : tie.Need-loop-again Inv-loop μ-loop
 loop-again c =
@@ -134,7 +134,7 @@ loop-again c =
           at .inv .left
           ∙ ap (λ (l : List ℕ). factsRefusal (drop (at .at) (a .given .now)) l (at .at)) (split (a .job .now) (a .history .now) (place .before .last-of .result) (at .t) (made k .before .before .loop-test .taken))
           ∙ part-passes (a .given .now) _ _ (at .at) (passing c)
-          ∙ ap (λ (n : ℕ). factsRefusal (drop (at .at + n) (a .given .now)) (rest (a .job .now) (a .history .now) (place .before .last-of .result) (at .t + 1)) (at .at + n)) (sym (made k .facts-at .ensures .count));
+          ∙ ap (λ (n : ℕ). factsRefusal (drop (at .at + n) (a .given .now)) (rest (a .job .now) (a .history .now) (place .before .last-of .result) (at .t + 1)) (at .at + n)) (sym (made k .row-facts .ensures .count));
     }
 
 -- after the last moment row 11 is left to what stands after its facts
@@ -159,6 +159,6 @@ pub compare-facts-spec : {M : Type 1} → statement M
 compare-facts-spec =
     tie.close
     (tie.spec Inv-loop μ-loop (λ c. c .before .before .before .pre .some) (λ c κs. search needs) loop-holds (λ c. sym (c .before .before .loop .inv .size))
-    facts-at-requires (λ c. fits (c .before)) (λ c. sym (length-take-le _ _ (fits (c .before .before)))) (λ c κs. turn (c .before .before) .loop .inv .inside)
+    row-facts-requires (λ c. fits (c .before)) (λ c. sym (length-take-le _ _ (fits (c .before .before)))) (λ c κs. turn (c .before .before) .loop .inv .inside)
     returns (λ c. record { fits = omega (arith, inside c) }) (λ c. search needs) (λ c. omega arith) loop-again (λ c κs. search needs) returns-2
     (λ c κs. search needs) returns-3)

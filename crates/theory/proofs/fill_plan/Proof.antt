@@ -56,7 +56,7 @@ rows c =
 rows-are : (c : tie.After-judge) → c .judge .result .refusal ≡ rows c
 rows-are c =
     c .judge .ensures .refusal
-    ∙ ap (λ (r : Checked). firstRefusal (r .refusal) (startsRefusal (entry c .args .job .now) (entry c .args .starts .now))) (c .before .check-room .ensures)
+    ∙ ap (λ (r : Checked). firstRefusal (r .refusal) (startsRefusal (entry c .args .job .now) (entry c .args .starts .now))) (c .before .check-job-and-room .ensures)
 
 -- the rows of fill are those after the first row 12
 left : (c : tie.After-judge) → let a = entry c .args in fillRefusal (length (a .buffer .now)) (a .job .now) (a .starts .now) ≡ rows c
@@ -117,6 +117,6 @@ returns-3 c =
 pub fill-plan-spec : {M : Type 1} → statement M
 fill-plan-spec =
     tie.close
-    (tie.spec (λ c κs. search needs) (λ c κs. search needs) returns (λ c κs. search needs) (λ c κs. room-checked _ _ _ (c .check-room .ensures))
+    (tie.spec (λ c κs. search needs) (λ c κs. search needs) returns (λ c κs. search needs) (λ c κs. room-checked _ _ _ (c .check-job-and-room .ensures))
     (λ c κs. search needs) returns-2 (λ c κs. let e = c .before .before .before in (plan-formed _ _ (clear e .0), clear e .1)) (λ c κs. search needs)
     (λ c. ap length (filled (c .before .before .before) .held) ∙ simp length-sets) returns-3)

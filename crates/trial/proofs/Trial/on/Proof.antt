@@ -3,23 +3,16 @@ use mathlib.Core.Path.{_≡_, refl, _∙_}
 use Prim.Native.Nat.{_<_}
 use native.Mathlib.Omega.{arith}
 use borrow.Author.Needs.{needs}
-use Rattle.answers.specs.Rows.{firstRefusal}
-use Rattle.job.specs.Refusal.{jobRefusal}
 use Rattle.theory.proofs.Passing.{job-checked}
-use Rattle.moves.specs.Trials.{On, trialRefusal, moveRefusal}
+use Rattle.moves.specs.Trials.{On, moveRefusal}
 use Rattle.applicable.proofs.NewStart.{present-formed}
 use Rattle.trial.specs.Stepped.{trialOf}
-use Rattle.trial.proofs.Judging.{trial-rows}
 use Rattle.trial.proofs.Moves.{early-refused, own-next, stepped-refused, stepped-moved, own-on, before-last}
 use Rattle.trial.proofs.Trial.on.Statement.{statement}
 use Rattle.trial.proofs.Trial.on.Tie as tie
 
 abbrev entry : tie.After-judged → tie.Start
 entry c = c .before .before .before
-
-rows-are : (c : tie.After-judged)
-    → let a = entry c .args in c .judged .result .refusal ≡ firstRefusal (jobRefusal (a .job .now)) (trialRefusal (a .job .now) (trialOf (a .self)))
-rows-are c = let a = entry c .args in trial-rows (a .job .now) (a .self) _ (c .before .check-job .ensures) (c .judged .ensures)
 
 abbrev judging : tie.Else1 → tie.After-judged
 judging c = c .before .before .before
@@ -36,7 +29,7 @@ returns c =
     let j = c .before .before .before in
     let a = entry j .args in
     let never = c .if1 .taken in
-    (stepped-refused (a .job .now) (a .self) On (early-refused (a .job .now) (a .self) On (rows-are j) never) never, λ z. absurd (never z))
+    (stepped-refused (a .job .now) (a .self) On (early-refused (a .job .now) (a .self) On (j .before .check-job .ensures) (j .judged .ensures) never) never, λ z. absurd (never z))
 
 own : (c : tie.After-row-of)
     → let j = first (c .before) in c .row-of .result ≡ moveRefusal (entry j .args .job .now) (trialOf (entry j .args .self)) On
@@ -45,7 +38,7 @@ own c =
     let j = first l in
     let a = entry j .args in
     own-on (a .job .now) (a .self) (j .judged .ensures .sized (passed l)) (l .last-of .ensures .0) (c .row-of .ensures)
-    ∙ own-next (a .job .now) (a .self) On (rows-are j) (passed l)
+    ∙ own-next (a .job .now) (a .self) On (j .before .check-job .ensures) (j .judged .ensures) (passed l)
 
 returns-2 : tie.Need-returns-2
 returns-2 c =

@@ -58,7 +58,7 @@ before c = let a = entry c .args in roomCheckedOf (length (a .buffer .now)) (a .
 rows-are : (c : tie.After-judged) → let a = entry c .args in c .judged .result .refusal ≡ firstRefusal (before c) (trialRefusal (a .job .now) (trialOf (a .self)))
 rows-are c =
     let a = entry c .args in
-    c .judged .ensures .refusal ∙ ap (λ (r : Checked). firstRefusal (r .refusal) (trialRefusal (a .job .now) (trialOf (a .self)))) (c .before .check-room .ensures)
+    c .judged .ensures .refusal ∙ ap (λ (r : Checked). firstRefusal (r .refusal) (trialRefusal (a .job .now) (trialOf (a .self)))) (c .before .check-job-and-room .ensures)
 
 -- the rows of show are those after the first row 12
 left : (c : tie.After-judged)
@@ -132,6 +132,6 @@ returns-3 c =
 pub show-spec : {M : Type 1} → statement M
 show-spec =
     tie.close
-    (tie.spec (λ c κs. search needs) (λ c κs. search needs) returns (λ c κs. search needs) (λ c κs. room-checked _ _ _ (c .check-room .ensures))
+    (tie.spec (λ c κs. search needs) (λ c κs. search needs) returns (λ c κs. search needs) (λ c κs. room-checked _ _ _ (c .check-job-and-room .ensures))
     (λ c κs. search needs) returns-2 fill-upto-requires (λ c κs. search needs)
     (λ c. ap length (filled (c .before .before .before) .held) ∙ simp length-sets) returns-3)

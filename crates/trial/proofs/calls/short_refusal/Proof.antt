@@ -8,4 +8,4 @@ use Rattle.trial.proofs.calls.short_refusal.Tie as tie
 pub short-refusal-spec : {M : Type 1} → statement M
 short-refusal-spec =
     tie.close
-    (tie.spec (λ c κs. search needs) (λ c κs. search needs) (λ c. c .first-refusal .ensures ∙ ap (firstRefusal (c .before .before .args .checked .refusal)) (c .before .refuse .ensures)))
+    (tie.spec (λ c κs. search needs) (λ c κs. search needs) (λ c. c .first-refusal .ensures ∙ ap (firstRefusal (c .before .before .args .before)) (c .before .refuse .ensures)))

@@ -25,7 +25,7 @@ returns c =
     (c .answer-of .ensures
     ∙ ap (λ (r : Refusal). answerOf r 0 0)
     (f .first-refusal .ensures ∙ ap (firstRefusal (b .buffer-refusal .result)) (k .short-refusal .ensures)
-    ∙ ap (λ (r : Checked). firstRefusal (b .buffer-refusal .result) (firstRefusal (r .refusal) (refusal 14 0))) (r .check-room .ensures)
+    ∙ ap (λ (r : Checked). firstRefusal (b .buffer-refusal .result) (firstRefusal (r .refusal) (refusal 14 0))) (r .check-job-and-room .ensures)
     ∙ ap (λ (r : Refusal). firstRefusal r (firstRefusal (rows .refusal) (refusal 14 0))) (b .buffer-refusal .ensures)))
 
 returns-2 : tie.Need-returns-2
