@@ -142,7 +142,7 @@ static unsigned row_of(unsigned number) { return number == 15 ? 10 : number == 1
 static void hold_position(int call, struct lists in, uint64_t answer)
 {
     unsigned number = planreader_number(answer), position = planreader_position(answer);
-    bool bad_length = in.job.len < 1 || in.job.len > 2048;
+    bool bad_length = in.job.len < 1 || in.job.len > JOB_WORDS;
     if (number == 12) return;
     hold((number == 1) == bad_length, call, "1 otherwise than by the job's length", answer);
     if (number == 2 || number == 4) hold(position < in.job.len, call, "a position beyond the job", answer);
@@ -346,7 +346,7 @@ static void hold_wrapped(struct lists in, uint64_t answer)
 {
     unsigned nodes = nodes_in(in.job), counts[2], before = planreader_count(answer);
     size_t len = in.job.len;
-    if (nodes + 2 > 64 || len + 4 > 2048) return;
+    if (nodes + 2 > 64 || len + 4 > JOB_WORDS) return;
     uint32_t *longer = malloc((len + 4) * sizeof *longer);
     if (!longer) exit(2);
     memcpy(longer, in.job.words, len * sizeof *longer);
@@ -466,7 +466,7 @@ static void examine(struct list job, struct list starts, struct list facts, uint
     uint64_t checked = held_check(in);
     hold(checked == check_by_fill(filled, right, given), CHECK, "an answer that fill's does not give", checked);
     hold(checked == held_check(in), CHECK, "another answer the second time", checked);
-    if (job.len > 2048) extra[ANSWERS + PAIRS + SIZES - 1]++;
+    if (job.len > JOB_WORDS) extra[ANSWERS + PAIRS + SIZES - 1]++;
     uint64_t found = hold_find(in, checked, choices);
     hold_other_buffers(in, right, filled, found, choices);
     hold_twin(in, right, filled, found);

@@ -3,7 +3,7 @@
 #include "hold.h"
 #include "planreader.h"
 
-enum { JOB_WORDS = 2048, FORMULAS_MOST = 64, TRIED = 8 };
+enum { TRIED = 8 };
 
 /* At how many moments a formula has the value. */
 static unsigned moments_with(const struct parts *parts, const struct plan *plan, size_t formula, uint8_t value)

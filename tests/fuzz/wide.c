@@ -3,7 +3,7 @@
 #include "planreader.h"
 #include <string.h>
 
-enum { FORMULAS_MOST = 64, NARROW_FLUENTS = 64 };
+enum { NARROW_FLUENTS = 64 };
 
 static uint32_t kind_before(struct list job, size_t at) { return at ? kind_of(job.words[at - 1]) : 0; }
 

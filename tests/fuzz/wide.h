@@ -8,7 +8,7 @@ void hold_layout(struct list job, uint64_t answer);
 
 /* A job in the other layout: the same words, but with other fluents, in the same order. */
 struct twin {
-    uint32_t words[2048], head, old_head;
+    uint32_t words[JOB_WORDS], head, old_head;
     size_t len;
     uint32_t fluent[FLUENTS]; /* by the old number */
 };

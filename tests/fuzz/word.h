@@ -9,6 +9,9 @@ enum kind { HEAD = 1, INITIALLY, ACTION, LAW, FORMULA, NODE, MEMBER, CONDITION, 
 enum { HELD = 5 }; /* the form of a formula that request L7 brings */
 enum form { ACT, TEST, SEQUENCE, CHOICE, BRANCH, LOOP, START_WINDOW, END_WINDOW, TASK_SET };
 
+/* The most words and formulas that a job has. */
+enum { JOB_WORDS = 2048, FORMULAS_MOST = 64 };
+
 struct list {
     const uint32_t *words;
     size_t len;

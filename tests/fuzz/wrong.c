@@ -34,11 +34,20 @@ static uint64_t moved(uint64_t answer, unsigned from, unsigned to, uint64_t by)
 static const uint64_t one_position = UINT64_C(1) << 40;
 static volatile uint32_t sink;
 
+/* Is it a fault of wide jobs or of form 5? The words of the job as it sees it. */
+static bool sees_other_job(void) { return wide_fault() || held_fault(); }
+
+static const uint32_t *other_job(const uint32_t *job, size_t job_len)
+{
+    struct list given = {job, job_len};
+    return wide_fault() ? wide_job(given).words : held_job(given).words;
+}
+
 uint64_t check(const uint32_t *job, size_t job_len, const uint32_t *starts, size_t starts_len, const uint32_t *facts, size_t facts_len)
 {
     if (group_fault()) return group_check((struct list){job, job_len}, (struct list){starts, starts_len}, (struct list){facts, facts_len});
     if (wide_fault()) return wide_check((struct list){job, job_len}, (struct list){starts, starts_len}, (struct list){facts, facts_len});
-    if (held_fault()) return held_check((struct list){job, job_len}, (struct list){starts, starts_len}, (struct list){facts, facts_len});
+    if (held_fault()) return right_check(other_job(job, job_len), job_len, starts, starts_len, facts, facts_len);
     static unsigned calls;
     job = shifted(job, job_len);
     uint64_t refusal = shift_refusal(job, job_len), answer = right_check(job, job_len, starts, starts_len, facts, facts_len);
@@ -112,7 +121,7 @@ static bool hides_too(uint32_t head, const uint32_t *starts, size_t starts_len, 
  * slip that all calls have in common it cannot, as it does not work out states. */
 static uint64_t fill_with_slip(const uint32_t *job, size_t job_len, const uint32_t *starts, size_t starts_len, uint32_t *buffer, size_t buffer_len)
 {
-    static uint32_t room[WIDE_FILLER], other[2048];
+    static uint32_t room[WIDE_FILLER], other[JOB_WORDS];
     size_t kept = 0, seen = starts_len;
     memcpy(other, job, job_len * sizeof *job);
     for (size_t i = 0; fault() == FILL_FINISHES_EARLY && i < job_len; i++) other[i] -= job[i] >> 28 == 3u && (job[i] & 63u) > 1;
@@ -129,12 +138,12 @@ uint64_t fill(const uint32_t *job, size_t job_len, const uint32_t *starts, size_
 {
     if (group_fault()) return group_fill((struct list){job, job_len}, (struct list){starts, starts_len}, buffer, buffer_len);
     if (wide_fault()) return wide_fill((struct list){job, job_len}, (struct list){starts, starts_len}, buffer, buffer_len);
-    if (held_fault()) return held_fill((struct list){job, job_len}, (struct list){starts, starts_len}, buffer, buffer_len);
+    if (held_fault()) return right_fill(other_job(job, job_len), job_len, starts, starts_len, buffer, buffer_len);
     static uint32_t room[4096];
     job = shifted(job, job_len);
     uint64_t refusal = buffer_len < 4096 ? 0 : shift_refusal(job, job_len);
     if (refusal) return refusal;
-    if (fault() >= FILL_FINISHES_EARLY && fault() <= FILL_LAST_NOT_ADDED && job_len >= 1 && job_len <= 2048 && buffer_len >= 4096)
+    if (fault() >= FILL_FINISHES_EARLY && fault() <= FILL_LAST_NOT_ADDED && job_len >= 1 && job_len <= JOB_WORDS && buffer_len >= 4096)
         return fill_with_slip(job, job_len, starts, starts_len, buffer, buffer_len);
     uint32_t first = buffer_len ? buffer[0] : 0;
     if (fault() == FILL_12_AT_4096 && buffer_len == 4096) return UINT64_C(12) << 56;
@@ -270,8 +279,7 @@ static bool copied(const uint32_t *trial, size_t trial_len)
 uint64_t trial_begin(const uint32_t *job, size_t job_len, uint32_t *trial, size_t trial_len)
 {
     if (group_fault()) return group_begin((struct list){job, job_len}, trial, trial_len);
-    if (wide_fault()) return wide_begin((struct list){job, job_len}, trial, trial_len);
-    if (held_fault()) return held_begin((struct list){job, job_len}, trial, trial_len);
+    if (sees_other_job()) return right_trial_begin(other_job(job, job_len), job_len, trial, trial_len);
     uint32_t moment = trial_len ? trial[0] : 0;
     job = shifted(job, job_len);
     if (fault() == BEGIN_14_BEFORE_JOB && trial_len < TRIAL_LEAST) return UINT64_C(14) << 56;
@@ -326,8 +334,7 @@ static uint64_t spoil_refused_start(const uint32_t *job, size_t job_len, uint32_
 uint64_t trial_start(const uint32_t *job, size_t job_len, uint32_t *trial, size_t trial_len, uint32_t action)
 {
     if (group_fault()) return group_start((struct list){job, job_len}, trial, trial_len, action);
-    if (wide_fault()) return wide_start((struct list){job, job_len}, trial, trial_len, action);
-    if (held_fault()) return held_start((struct list){job, job_len}, trial, trial_len, action);
+    if (sees_other_job()) return right_trial_start(other_job(job, job_len), job_len, trial, trial_len, action);
     bool whole = copied(trial, trial_len);
     job = shifted(job, job_len);
     if (fault() == START_READS_AFTER_TRIAL && trial_len) sink = trial[trial_len];
@@ -380,8 +387,7 @@ static uint64_t spoil_refused_on(const uint32_t *job, uint32_t *trial, uint64_t 
 uint64_t trial_on(const uint32_t *job, size_t job_len, uint32_t *trial, size_t trial_len)
 {
     if (group_fault()) return group_on((struct list){job, job_len}, trial, trial_len);
-    if (wide_fault()) return wide_on((struct list){job, job_len}, trial, trial_len);
-    if (held_fault()) return held_on((struct list){job, job_len}, trial, trial_len);
+    if (sees_other_job()) return right_trial_on(other_job(job, job_len), job_len, trial, trial_len);
     job = shifted(job, job_len);
     uint64_t answer = right_trial_on(job, job_len, trial, trial_len);
     if (fault() == ON_SKIPS_SHIFTS && planreader_number(answer) == 15) return right_trial_on(freed(job, job_len), job_len, trial, trial_len);
@@ -418,7 +424,7 @@ uint64_t trial_show(const uint32_t *job, size_t job_len, const uint32_t *trial, 
 {
     if (group_fault()) return group_show((struct list){job, job_len}, trial, trial_len, buffer, buffer_len);
     if (wide_fault()) return wide_show((struct list){job, job_len}, trial, trial_len, buffer, buffer_len);
-    if (held_fault()) return held_show((struct list){job, job_len}, trial, trial_len, buffer, buffer_len);
+    if (held_fault()) return right_trial_show(other_job(job, job_len), job_len, trial, trial_len, buffer, buffer_len);
     static uint32_t room[4096];
     job = shifted(job, job_len);
     uint64_t answer = right_trial_show(job, job_len, trial, trial_len, buffer, buffer_len);

@@ -295,23 +295,16 @@ uint64_t group_start(struct list job, uint32_t *trial, size_t len, uint32_t acti
 uint64_t group_on(struct list job, uint32_t *trial, size_t len);
 uint64_t group_show(struct list job, const uint32_t *trial, size_t trial_len, uint32_t *buffer, size_t len);
 
-/* wrong_wide.c: is the fault one of wide jobs? Then these are the calls. */
+/* wrong_wide.c: is the fault one of wide jobs? The job as it sees it, as many words; and the calls that are wrong beyond that. */
 bool wide_fault(void);
+struct list wide_job(struct list job);
 uint64_t wide_check(struct list job, struct list starts, struct list facts);
 uint64_t wide_fill(struct list job, struct list starts, uint32_t *buffer, size_t len);
 uint64_t wide_find(struct list job, struct list starts, struct list facts, uint32_t *buffer, size_t len);
-uint64_t wide_begin(struct list job, uint32_t *trial, size_t len);
-uint64_t wide_start(struct list job, uint32_t *trial, size_t len, uint32_t action);
-uint64_t wide_on(struct list job, uint32_t *trial, size_t len);
 uint64_t wide_show(struct list job, const uint32_t *trial, size_t trial_len, uint32_t *buffer, size_t len);
 
-/* wrong_held.c: is the fault one of form 5? Then these are the calls. */
+/* wrong_held.c: the same of form 5. */
 bool held_fault(void);
-uint64_t held_check(struct list job, struct list starts, struct list facts);
-uint64_t held_fill(struct list job, struct list starts, uint32_t *buffer, size_t len);
+struct list held_job(struct list job);
 uint64_t held_find(struct list job, struct list starts, struct list facts, uint32_t *buffer, size_t len);
-uint64_t held_begin(struct list job, uint32_t *trial, size_t len);
-uint64_t held_start(struct list job, uint32_t *trial, size_t len, uint32_t action);
-uint64_t held_on(struct list job, uint32_t *trial, size_t len);
-uint64_t held_show(struct list job, const uint32_t *trial, size_t trial_len, uint32_t *buffer, size_t len);
 #endif

@@ -4,7 +4,7 @@
 #include "word.h"
 #include <string.h>
 
-enum { JOB_WORDS = 2048, TRIAL_LEAST = 4098, BUFFER_LEAST = 4096 };
+enum { TRIAL_LEAST = 4098, BUFFER_LEAST = 4096 };
 
 bool group_fault(void) { return fault() >= GROUPS_NOT_KEPT && fault() <= SHOW_SKIPS_GROUPS; }
 

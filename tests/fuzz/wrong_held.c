@@ -5,7 +5,7 @@
 #include "word.h"
 #include <string.h>
 
-enum { JOB_WORDS = 2048, NO_FORMULA = 63 };
+enum { NO_FORMULA = 63 };
 
 bool held_fault(void) { return fault() >= HELD_REFUSED && fault() <= HELD_FIRST_NOT_HOLDING; }
 
@@ -88,8 +88,7 @@ static bool looks_through(uint32_t word)
     }
 }
 
-/* The job as the fault sees it. */
-static struct list read_by_fault(struct list job)
+struct list held_job(struct list job)
 {
     static uint32_t other[JOB_WORDS];
     uint32_t number = 0;
@@ -195,49 +194,13 @@ static uint64_t find_test(const struct parts *parts, struct list facts, uint32_t
     return UINT64_C(1) << 24 | moments;
 }
 
-uint64_t held_check(struct list job, struct list starts, struct list facts)
-{
-    struct list read = read_by_fault(job);
-    return right_check(read.words, read.len, starts.words, starts.len, facts.words, facts.len);
-}
-
-uint64_t held_fill(struct list job, struct list starts, uint32_t *buffer, size_t len)
-{
-    struct list read = read_by_fault(job);
-    return right_fill(read.words, read.len, starts.words, starts.len, buffer, len);
-}
-
 uint64_t held_find(struct list job, struct list starts, struct list facts, uint32_t *buffer, size_t len)
 {
     static struct parts parts;
-    struct list read = read_by_fault(job);
-    if (is_of_values() && len >= NARROW_FILLER && held_check(job, starts, facts) == 0) {
+    struct list read = held_job(job);
+    if (is_of_values() && len >= NARROW_FILLER && right_check(read.words, read.len, starts.words, starts.len, facts.words, facts.len) == 0) {
         parts_of(&parts, job);
         if (parts.nodes == 1 && form_of(parts.node[0]) == TEST) return find_test(&parts, facts, buffer);
     }
     return right_find(read.words, read.len, starts.words, starts.len, facts.words, facts.len, buffer, len);
-}
-
-uint64_t held_begin(struct list job, uint32_t *trial, size_t len)
-{
-    struct list read = read_by_fault(job);
-    return right_trial_begin(read.words, read.len, trial, len);
-}
-
-uint64_t held_start(struct list job, uint32_t *trial, size_t len, uint32_t action)
-{
-    struct list read = read_by_fault(job);
-    return right_trial_start(read.words, read.len, trial, len, action);
-}
-
-uint64_t held_on(struct list job, uint32_t *trial, size_t len)
-{
-    struct list read = read_by_fault(job);
-    return right_trial_on(read.words, read.len, trial, len);
-}
-
-uint64_t held_show(struct list job, const uint32_t *trial, size_t trial_len, uint32_t *buffer, size_t len)
-{
-    struct list read = read_by_fault(job);
-    return right_trial_show(read.words, read.len, trial, trial_len, buffer, len);
 }

@@ -3,7 +3,7 @@
 #include "word.h"
 #include <string.h>
 
-enum { JOB_WORDS = 2048, TRIAL_LEAST = 4098 };
+enum { TRIAL_LEAST = 4098 };
 
 static bool is_window(uint32_t word) { return kind_of(word) == SHIFT_WINDOW && field(word, 27, 18) == 0 && shift_from(word) <= shift_to(word); }
 

@@ -4,8 +4,6 @@
 #include "word.h"
 #include <string.h>
 
-enum { JOB_WORDS = 2048 };
-
 bool wide_fault(void) { return fault() >= WIDE_0_IS_0 && fault() <= WIDE_FIND_NEEDS_16384; }
 
 static const uint64_t short_buffer = UINT64_C(12) << 56;
@@ -81,8 +79,7 @@ static uint32_t atom_by_fault(uint32_t word)
     }
 }
 
-/* The job as the fault sees it. */
-static struct list read_by_fault(struct list job)
+struct list wide_job(struct list job)
 {
     static uint32_t other[JOB_WORDS];
     if (job.len == 0 || job.len > JOB_WORDS || kind_of(job.words[0]) != HEAD) return job;
@@ -154,7 +151,7 @@ static uint64_t write_told(uint64_t answer, uint32_t *buffer, size_t len)
 
 uint64_t wide_check(struct list job, struct list starts, struct list facts)
 {
-    struct list read = read_by_fault(job);
+    struct list read = wide_job(job);
     uint64_t answer = filled(read, starts);
     size_t at = 0, len = planreader_length(answer);
     if (planreader_number(answer)) return answer;
@@ -164,7 +161,7 @@ uint64_t wide_check(struct list job, struct list starts, struct list facts)
 
 uint64_t wide_fill(struct list job, struct list starts, uint32_t *buffer, size_t len)
 {
-    struct list read = read_by_fault(job);
+    struct list read = wide_job(job);
     if (len < NARROW_FILLER) return short_buffer;
     uint64_t answer = filled(read, starts);
     return is_short(read, len, answer, false) ? short_buffer : write_told(answer, buffer, len);
@@ -172,34 +169,16 @@ uint64_t wide_fill(struct list job, struct list starts, uint32_t *buffer, size_t
 
 uint64_t wide_find(struct list job, struct list starts, struct list facts, uint32_t *buffer, size_t len)
 {
-    struct list read = read_by_fault(job);
+    struct list read = wide_job(job);
     if (len < NARROW_FILLER) return short_buffer;
     uint64_t answer = wide_check(job, starts, facts);
     if (fault() == WIDE_FIND_NEEDS_16384 && !is_of_job(answer) && len < filler_words(head_of(read))) return short_buffer;
     return answer ? answer : right_find(read.words, read.len, starts.words, starts.len, right, facts.len, buffer, len);
 }
 
-uint64_t wide_begin(struct list job, uint32_t *trial, size_t len)
-{
-    struct list read = read_by_fault(job);
-    return right_trial_begin(read.words, read.len, trial, len);
-}
-
-uint64_t wide_start(struct list job, uint32_t *trial, size_t len, uint32_t action)
-{
-    struct list read = read_by_fault(job);
-    return right_trial_start(read.words, read.len, trial, len, action);
-}
-
-uint64_t wide_on(struct list job, uint32_t *trial, size_t len)
-{
-    struct list read = read_by_fault(job);
-    return right_trial_on(read.words, read.len, trial, len);
-}
-
 uint64_t wide_show(struct list job, const uint32_t *trial, size_t trial_len, uint32_t *buffer, size_t len)
 {
-    struct list read = read_by_fault(job);
+    struct list read = wide_job(job);
     if (len < NARROW_FILLER) return short_buffer;
     uint64_t answer = right_trial_show(read.words, read.len, trial, trial_len, right, WIDE_FILLER);
     for (size_t i = 0; i < planreader_length(answer); i++) told[i] = fact_by_fault(read.words[0], right[i]);

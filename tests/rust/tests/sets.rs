@@ -6,6 +6,7 @@ use planreader_tests::host;
 const SEED: u64 = 0x5e3a_1071_0007;
 const TRIPLES_SEED: u64 = 0x5e3a_1071_0008;
 const SMALL_SEED: u64 = 0x5e3a_1071_0009;
+const PASSES_SEED: u64 = 0x5e3a_1071_000a;
 
 #[test]
 fn generated_sets_get_the_checker_s_outcomes() {
@@ -32,4 +33,14 @@ fn small_sets_get_what_all_placements_give() {
     assert_eq!(report.differences, 0);
     let counts = set_placements::COLUMNS.map(|column| report.tally.count(set_placements::ROW, column));
     assert!(counts.iter().all(|&count| count > 1_500), "with and without a reading: {counts:?}");
+}
+
+#[test]
+fn loops_of_sets_with_short_passes_get_the_checker_s_outcomes() {
+    let report = sets::run_passes(PASSES_SEED, 2_000, &host::find);
+    report.print(PASSES_SEED, "loops of a set, by refusal number", &sets::COLUMNS);
+    assert_eq!(report.differences, 0);
+    assert!(report.tally.count("find", "0") > 1_000 && report.tally.count("find", "13") > 200);
+    let passes = [7, 8, 9, 10].map(|moments| report.tally.count(&sets::pass_name(moments), "0"));
+    assert!(passes.iter().all(|&count| count > 500), "passes of 7 to 10 moments: {passes:?}");
 }

@@ -58,6 +58,7 @@ fn task_sets() {
     held(&report, "plans and their sets, by refusal number", &sets::COLUMNS);
     assert_eq!(report.tally.missing(&sets::possible()), [], "what no case had");
     held(&sets::run_triples(SEED, 150, &widened::find(&host::find)), "triples of sets", &sets::COLUMNS);
+    held(&sets::run_passes(SEED, 300, &widened::find(&host::find)), "loops of a set", &sets::COLUMNS);
     held(&set_placements::run(SEED, 800, &widened::find(&host::find)), "small sets", &set_placements::COLUMNS);
 }
 

@@ -3,10 +3,11 @@
 use crate::checker::calls;
 use crate::compare::find::{self, Find};
 use crate::compare::report::Report;
-use crate::generate::set_draws;
 use crate::generate::sets::{Root, SetPlan};
+use crate::generate::{set_draws, set_passes};
 use crate::random::Random;
 use crate::tally::Tally;
+use crate::words;
 
 /// Plans with a set of more placements than this are left out.
 const MOST_PLACEMENTS: usize = 40_000;
@@ -39,6 +40,40 @@ pub fn run_triples(seed: u64, sets: usize, find: &Find) -> Report {
         }
     }
     report
+}
+
+/// One run of so many loops over a set, with counts of how many moments the passes have that are read.
+pub fn run_passes(seed: u64, cases: usize, find: &Find) -> Report {
+    let mut random = Random::new(seed);
+    let mut report = Report::new();
+    while report.cases < cases {
+        let plan = set_passes::any(&mut random);
+        judge(&mut random, &plan, find, &mut report);
+        for moments in passes_read(&plan, find) {
+            report.tally.add(&pass_name(moments), "0");
+        }
+    }
+    report
+}
+
+/// What find reads of a plan: how many moments each pass has.
+fn passes_read(plan: &SetPlan, find: &Find) -> Vec<usize> {
+    let case = plan.case();
+    let facts = calls::facts(&case.job, &case.starts);
+    let mut buffer = vec![0; calls::LEAST_BUFFER];
+    let answer = find(&case.job, &case.starts, &facts, &mut buffer);
+    pass_moments(&case.job, &buffer[..answer.length.min(buffer.len())])
+}
+
+/// The moments of each pass in a reading of a job whose root is a loop of the node before it.
+fn pass_moments(job: &[u32], reading: &[u32]) -> Vec<usize> {
+    let set = job.iter().filter(|&&word| words::kind(word) == 6).count() - 2;
+    let passes = reading.iter().filter(|&&word| words::field(word, 17, 12) == set);
+    passes.map(|&word| words::field(word, 5, 0) + 1 - words::field(word, 11, 6)).collect()
+}
+
+pub fn pass_name(moments: usize) -> String {
+    format!("pass of {moments} moments")
 }
 
 fn judge(random: &mut Random, plan: &SetPlan, find: &Find, report: &mut Report) {
@@ -106,9 +141,21 @@ mod tests {
         assert_eq!(report.tally.missing(&possible()), []);
     }
 
+    #[test]
+    fn a_finder_that_misses_a_pass_of_nine_moments_is_seen() {
+        let planted = |job: &[u32], starts: &[u32], facts: &[u32], buffer: &mut [u32]| {
+            let right = right_find(job, starts, facts, buffer);
+            match pass_moments(job, &buffer[..right.length]).contains(&9) {
+                true => Answer { number: 13, length: 0, ..right },
+                false => right,
+            }
+        };
+        assert_eq!(run_passes(SEED, 200, &right_find).differences, 0);
+        assert!(run_passes(SEED, 200, &planted).differences > 20);
+    }
+
     /// A finder that leaves out the conditions of one form.
     fn without_form(form: usize) -> impl Fn(&[u32], &[u32], &[u32], &mut [u32]) -> Answer {
-        use crate::words;
         move |job, starts, facts, buffer| {
             let left = |word: &u32| words::kind(*word) != 8 || words::form(*word) != form;
             let job: Vec<u32> = job.iter().copied().filter(left).collect();
@@ -129,7 +176,7 @@ mod tests {
             let right = right_find(job, starts, facts, buffer);
             let read = crate::checker::job::read_job(job).expect("a well-formed job");
             let set = read.nodes.iter().rposition(|node| matches!(node, Node::TaskSet { .. })).expect("a set");
-            let shortest = buffer[..right.length].iter().any(|&word| word == crate::words::reading(set, 0, 0));
+            let shortest = buffer[..right.length].iter().any(|&word| word == words::reading(set, 0, 0));
             match shortest {
                 true => Answer { number: 13, length: 0, ..right },
                 false => right,

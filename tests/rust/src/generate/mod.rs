@@ -19,6 +19,7 @@ pub mod plan_damage;
 pub mod plans;
 pub mod programs;
 pub mod set_draws;
+pub mod set_passes;
 pub mod sets;
 pub mod trials;
 pub mod waits;

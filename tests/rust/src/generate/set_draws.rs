@@ -4,10 +4,10 @@ use crate::generate::sets::{moments_to, Condition, Root, SetDraft, SetPlan, Span
 use crate::random::Random;
 
 /// How many formulas the conditions choose from.
-const FORMULAS: usize = 3;
+pub const FORMULAS: usize = 3;
 
 /// A begin and an end.
-type Pair = (usize, usize);
+pub type Pair = (usize, usize);
 
 /// A plan whose last moment is below 9 mostly, else 12, 20 or 63.
 pub fn any(random: &mut Random) -> SetPlan {
@@ -43,7 +43,7 @@ fn drawn(random: &mut Random, last: usize, nested: usize, root: Root) -> SetPlan
 }
 
 /// Moments at which a formula holds: most, or few of them.
-fn formula(random: &mut Random, last: usize) -> u64 {
+pub fn formula(random: &mut Random, last: usize) -> u64 {
     match random.below(5) {
         0 => moments_to(last),
         1 => some_moments(random, last),
@@ -95,17 +95,27 @@ fn span(random: &mut Random, last: usize) -> Span {
 fn conditions(random: &mut Random, plan: &SetPlan, number: usize) -> Vec<Condition> {
     let members = plan.sets[number].members.len() + usize::from(number > 0);
     let placed = placement(random, plan, number);
+    let is_met = |drawn| placed.as_ref().is_none_or(|placed| met(plan, placed, drawn));
+    conditions_met(random, members, plan.last, &is_met)
+}
+
+/// Up to eight conditions, most of them met.
+pub fn conditions_met(
+    random: &mut Random,
+    members: usize,
+    last: usize,
+    is_met: &dyn Fn(Condition) -> bool,
+) -> Vec<Condition> {
     let count = *random.pick(&[0, 1, 1, 2, 2, 3, 4, 5, 6, 7, 8]);
     (0..count)
         .map(|_| {
             for _ in 0..20 {
-                let drawn = condition(random, members, plan.last);
-                let met = placed.as_ref().is_some_and(|placed| met(plan, placed, drawn));
-                if placed.is_none() || met || random.chance(2) {
+                let drawn = condition(random, members, last);
+                if is_met(drawn) || random.chance(2) {
                     return drawn;
                 }
             }
-            condition(random, members, plan.last)
+            condition(random, members, last)
         })
         .collect()
 }
@@ -152,7 +162,7 @@ fn pairs(spans: &[Span], last: usize) -> Vec<Pair> {
     all.filter(|&(b, e)| spans.iter().any(|span| reads(span, b, e))).collect()
 }
 
-fn covers(placed: &[Pair]) -> bool {
+pub fn covers(placed: &[Pair]) -> bool {
     let mut sorted = placed.to_vec();
     sorted.sort();
     let mut reached = sorted[0].1;
@@ -164,7 +174,7 @@ fn covers(placed: &[Pair]) -> bool {
 }
 
 /// Whether a placement meets a condition, for the choice of conditions alone.
-fn met(plan: &SetPlan, placed: &[Pair], [form, formula, i, j, m, n]: Condition) -> bool {
+pub fn met(plan: &SetPlan, placed: &[Pair], [form, formula, i, j, m, n]: Condition) -> bool {
     let (begin, end) = placed[i];
     let other = placed[j].0;
     let holds = |from: usize, to: usize| (from..=to).all(|t| plan.moments[formula] >> t & 1 == 1);
