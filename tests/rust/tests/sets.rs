@@ -41,6 +41,6 @@ fn loops_of_sets_with_short_passes_get_the_checker_s_outcomes() {
     report.print(PASSES_SEED, "loops of a set, by refusal number", &sets::COLUMNS);
     assert_eq!(report.differences, 0);
     assert!(report.tally.count("find", "0") > 1_000 && report.tally.count("find", "13") > 200);
-    let passes = [7, 8, 9, 10].map(|moments| report.tally.count(&sets::pass_name(moments), "0"));
-    assert!(passes.iter().all(|&count| count > 500), "passes of 7 to 10 moments: {passes:?}");
+    let passes = [3, 4, 5, 6, 7, 8, 9, 10].map(|moments| report.tally.count(&sets::pass_name(moments), "0"));
+    assert!(passes.iter().all(|&count| count > 200), "passes of 3 to 10 moments: {passes:?}");
 }

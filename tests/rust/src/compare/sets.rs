@@ -142,10 +142,10 @@ mod tests {
     }
 
     #[test]
-    fn a_finder_that_misses_a_pass_of_nine_moments_is_seen() {
+    fn a_finder_that_misses_a_pass_of_five_moments_is_seen() {
         let planted = |job: &[u32], starts: &[u32], facts: &[u32], buffer: &mut [u32]| {
             let right = right_find(job, starts, facts, buffer);
-            match pass_moments(job, &buffer[..right.length]).contains(&9) {
+            match pass_moments(job, &buffer[..right.length]).contains(&5) {
                 true => Answer { number: 13, length: 0, ..right },
                 false => right,
             }

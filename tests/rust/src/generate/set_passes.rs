@@ -1,4 +1,4 @@
-//! Draws of loops over a task set with passes of 7 to 10 moments: a placement of each pass is chosen first, and most
+//! Draws of loops over a task set with passes of 3 to 10 moments: a placement of each pass is chosen first, and most
 //! conditions are drawn so that all of these meet them.
 
 use crate::generate::set_draws::{conditions_met, covers, formula, met, Pair, FORMULAS};
@@ -6,7 +6,7 @@ use crate::generate::sets::{moments_to, Root, SetDraft, SetPlan, Span};
 use crate::random::Random;
 
 /// From the first moment of a pass to its last.
-const LEAST: usize = 6;
+const LEAST: usize = 2;
 const MOST: usize = 9;
 
 /// A loop over a set of 2 to 4 members, with one pass or more.
