@@ -81,7 +81,7 @@ class Suite:
         self.tests = [Test("c-host", [hosts["host"]], "planreader"), Test("c-trial", [hosts["trial"]], "trial")]
         for name, crate in (("job", "theory"), ("plan", "theory"), ("find", "finder"), ("trial", "trial")):
             self.tests += [Test(name, [tests[name], *skipped(slow)], crate), Test(name, [tests[name], *slow], crate)]
-        self.tests += [Test("carried", [tests["carried"]], "theory")]
+        self.tests += [Test("sets", [tests["sets"]], "finder"), Test("carried", [tests["carried"]], "theory")]
         self.tests += [Test("windows", [tests["windows"]], "theory")]
         self.tests += [Test("groups", [tests["groups"]], "trial")]
         self.tests += [Test("waits", [tests["waits"]], "finder")]
