@@ -9,7 +9,7 @@ enum kind { HEAD = 1, INITIALLY, ACTION, LAW, FORMULA, NODE, MEMBER, CONDITION, 
 enum { HELD = 5 }; /* the form of a formula that request L7 brings */
 enum form { ACT, TEST, SEQUENCE, CHOICE, BRANCH, LOOP, START_WINDOW, END_WINDOW, TASK_SET };
 
-/* The most words and formulas that a job has. */
+/* The most words and formulas that a job may have. */
 enum { JOB_WORDS = 2048, FORMULAS_MOST = 64 };
 
 struct list {

@@ -34,7 +34,7 @@ static uint64_t moved(uint64_t answer, unsigned from, unsigned to, uint64_t by)
 static const uint64_t one_position = UINT64_C(1) << 40;
 static volatile uint32_t sink;
 
-/* Is it a fault of wide jobs or of form 5? The words of the job as it sees it. */
+/* Is it a fault of wide jobs or of form 5, which see another job in all calls? Its words. */
 static bool sees_other_job(void) { return wide_fault() || held_fault(); }
 
 static const uint32_t *other_job(const uint32_t *job, size_t job_len)

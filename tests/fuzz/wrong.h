@@ -295,7 +295,7 @@ uint64_t group_start(struct list job, uint32_t *trial, size_t len, uint32_t acti
 uint64_t group_on(struct list job, uint32_t *trial, size_t len);
 uint64_t group_show(struct list job, const uint32_t *trial, size_t trial_len, uint32_t *buffer, size_t len);
 
-/* wrong_wide.c: is the fault one of wide jobs? The job as it sees it, as many words; and the calls that are wrong beyond that. */
+/* wrong_wide.c: is the fault one of wide jobs? The job as the fault sees it, of as many words; and the calls that are wrong beyond that. */
 bool wide_fault(void);
 struct list wide_job(struct list job);
 uint64_t wide_check(struct list job, struct list starts, struct list facts);

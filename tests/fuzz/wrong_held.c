@@ -107,7 +107,7 @@ struct list held_job(struct list job)
 }
 
 /* The values by the fault: of formulas at each moment, and in a state of which nothing is known. */
-static uint8_t value[64][64], of_nothing[64];
+static uint8_t value[FORMULAS_MOST][64], of_nothing[FORMULAS_MOST];
 
 /* The value of X before moment 0. */
 static uint8_t before_0(uint32_t x)

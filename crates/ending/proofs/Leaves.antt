@@ -14,7 +14,7 @@ use Rattle.words.specs.Fields.{conditionI}
 use Rattle.model.specs.Forms.{conditionForm}
 use Rattle.covering.specs.Code.Cover.{entryAt, Coverable}
 use Rattle.ending.specs.Code.Ends.{EndsReady, asked, partnerOf, MetByMask, EndAt}
-use Rattle.narrowing.specs.Code.Tables.{pairAt}
+use Rattle.keeping.specs.Code.Tables.{pairAt}
 use Rattle.ending.specs.Code.Search.{Masked, SearchReady, ReadsWith}
 use Rattle.covering.proofs.Cover.{coverable, covering}
 use Rattle.ending.proofs.Conditions.{partner-less}

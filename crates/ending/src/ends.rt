@@ -7,7 +7,7 @@ ghost use Rattle.bitset.specs.Code.Members.{has, In};
 ghost use Rattle.model.specs.Forms.{conditionNumber};
 ghost use Rattle.covering.specs.Code.Cover.{entryAt};
 ghost use Rattle.ending.specs.Code.Ends.{asked, partner, EndAt, EndsReady, Narrowable, Narrowed};
-ghost use Rattle.narrowing.specs.Code.Tables.{pairAt};
+ghost use Rattle.keeping.specs.Code.Tables.{pairAt};
 use keeping::pair_at;
 use words::MOMENTS;
 

@@ -1,4 +1,4 @@
-// What one member of a task set keeps where another begins, by the set's tables.
+// The entries of a task set's tables by pairs of members, and what one member keeps where another begins.
 ghost use mathlib.Core.Path.{_≡_};
 ghost use Prim.Native.Nat.{ℕ, _+_, _*_, _<_, _≤_};
 ghost use lib.ListN.{getD};
@@ -12,7 +12,7 @@ pub struct Choice {
     pub ends: u64,
 }
 
-// Where a table by pairs has the entry of the members i and j at moment x, and that entry.
+// Where a table by pairs has the entry of the members i and j at moment x.
 pub fn pair_index(i: usize, j: usize, x: u32) -> usize
     requires { ⌜ (i < 4) × (j < 4) × (x < 64) ⌝ }
     ensures { λ r. ⌜ (r ≡ (i * 4 + j) * 64 + x) × (r < 1024) ⌝ }
@@ -20,6 +20,7 @@ pub fn pair_index(i: usize, j: usize, x: u32) -> usize
     (i * 4 + j) * MOMENTS + x as usize
 }
 
+// That entry.
 pub fn pair_at(table: &[u64; 1024], i: usize, j: usize, x: u32) -> u64
     requires { ⌜ (i < 4) × (j < 4) × (x < 64) ⌝ }
     ensures { λ r. ⌜ r ≡ pairAt (now (table .entry)) i j x ⌝ }

@@ -37,11 +37,12 @@ moveAnswer job words m = answerOf (firstRow (jobRefusal job ∷ trialRoomRefusal
 abbrev pub shownFacts : List ℕ → Trial → List ℕ
 shownFacts job T = factsUpto job (T .starts) (T .moment)
 
--- showing T: the rows on the buffer and the job, then those on the trial, as they are given
+-- the answer of showing T: the rows on the buffer and the job, then those given, on the trial; and how many facts it shows
 abbrev pub showing : ℕ → List ℕ → Trial → List Refusal → Answer
 showing room job T rows =
     answerOf (firstRow (bufferRefusal room ∷ jobRefusal job ∷ factRoomRefusal room job ∷ rows)) (length (shownFacts job T)) 0
 
+-- showing the trial that the words say
 unfoldable pub showAnswer : ℕ → List ℕ → List ℕ → Answer
 showAnswer room job words = showing room job (trialIn words) (trialRoomRefusal (length words) ∷ trialRefusal job (trialIn words) ∷ [])
 

@@ -17,7 +17,8 @@ use Rattle.sets.specs.Set.{TaskSet, memberCount, MetAs, MetAt}
 use Rattle.sets.specs.Code.Set.{member, Formed}
 use Rattle.sets.specs.Code.Rows.{taskSetOf, Placed}
 use Rattle.ending.specs.Code.Ends.{asked, partner, partnerOf, MetAtMask, MetByMask}
-use Rattle.narrowing.specs.Code.Tables.{pairAt, EndsHave, GoesHave, InTables}
+use Rattle.keeping.specs.Code.Tables.{pairAt}
+use Rattle.narrowing.specs.Code.Tables.{EndsHave, GoesHave, InTables}
 use Rattle.ending.specs.Code.Search.{Masked}
 use Rattle.sets.specs.Code.Masks.{Allowed}
 use Rattle.sets.specs.Code.Tables.{Have, Fewer, LeftOut, Cut, InSpan, Unpruned, OwnRow, OwnRows, Tables}

@@ -119,7 +119,7 @@ fn fill_members(
     }
 }
 
-// The bounds of all pairs that are tied, but none among few moments.
+// The bounds of all pairs that are tied, but none among up to `FEW` moments.
 pub fn fill(
     conds: &[u32],
     ends: &[u64; 1024],

@@ -9,7 +9,7 @@ ghost use Rattle.bitset.specs.Code.Members.{In};
 ghost use Rattle.words.specs.Fields.{memberNode, conditionI, conditionJ};
 ghost use Rattle.sets.specs.Code.Rows.{taskSetOf};
 ghost use Rattle.model.specs.Code.Table.{InTable};
-ghost use Rattle.narrowing.specs.Code.Tables.{pairAt};
+ghost use Rattle.keeping.specs.Code.Tables.{pairAt};
 ghost use Rattle.ending.specs.Code.Ends.{MetAtMask, MetByMask};
 ghost use Rattle.sets.specs.Code.Tables.{Have, LeftOut, Cut, ConditionReady, ConditionsReady, InSpan, OwnRow, OwnRows, LaterReady, TablesReady, Tables};
 use crate::conditions;
@@ -257,7 +257,7 @@ fn cut_pairs(
     }
 }
 
-// Does so for each pair that some condition is on, but not among few moments.
+// Cuts each pair that some condition is on, but none among up to `FEW` moments.
 fn cut_constrained(
     conds: &[u32],
     count: usize,

@@ -1,7 +1,7 @@
 -- The shift windows of all actions, one word of the job after the other, and what their sets of moments tell. Assumes nothing.
 use mathlib.Core.Bool.{Bool, not, _&&_, _||_, or-comm, and-false}
 use mathlib.Core.List.{List}
-use mathlib.Core.Path.{_≡_, refl, sym, _∙_}
+use mathlib.Core.Path.{_≡_, sym, _∙_}
 use Prim.Native.Nat.{ℕ, _+_, _-_, _<_, _≤_}
 use native.Mathlib.Decide.{ℕ-discrete, decLt}
 use native.Mathlib.Omega.{arith}

@@ -55,7 +55,7 @@ pub fn shifts_of(job: &[u32], durations: &[usize; 64]) -> Shifts
     Shifts { windowed, inside }
 }
 
-// Whether action `a` may start at moment `u`.
+// Whether action `a` may start at moment `u`, by its shift windows.
 pub fn may_start(windowed: u64, inside: &[u64; 64], u: usize, a: usize) -> bool
     requires { ⌜ (u < 64) × (a < 64) ⌝ }
     ensures { λ r. ⌜ r ≡ (not (has windowed a) || has (getD (now (inside .entry)) a 0) u) ⌝ }

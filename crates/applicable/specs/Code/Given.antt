@@ -13,7 +13,7 @@ use Rattle.theory.specs.declared.Plan.{Plan}
 use Rattle.theory.specs.Code.Judged.{PassedUpto}
 use Rattle.moves.specs.Trials.{newStartRows, startRefusal}
 
--- a start of the job, not later than moment u, and an action that may start then
+-- a start of the job, not later than moment u, and an action of the job
 pub record Facing (job durations effects : List ℕ) (s u a : ℕ) : Type 0 where
   pub tables : Tabled job durations effects
   pub action : startAction s < actions job

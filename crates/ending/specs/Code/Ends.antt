@@ -8,7 +8,7 @@ use Rattle.bitset.specs.Code.Members.{In}
 use Rattle.words.specs.Fields.{conditionI, conditionJ}
 use Rattle.model.specs.Forms.{ConditionForm, BeginAfterBegin, BeginAfterEnd, HoldsBefore, HoldsAfter, HoldsBetween, ReservedCondition, conditionForm}
 use Rattle.covering.specs.Code.Cover.{entryAt}
-use Rattle.narrowing.specs.Code.Tables.{pairAt}
+use Rattle.keeping.specs.Code.Tables.{pairAt}
 
 -- a condition asks of member i either its begin or its end: the one that it asks
 abbrev pub asked : ConditionForm → ℕ → ℕ → ℕ

@@ -8,7 +8,8 @@ use Rattle.bitset.specs.Code.Members.{In}
 use Rattle.words.specs.Fields.{conditionI, conditionJ}
 use Rattle.covering.specs.Cover.{Covers}
 use Rattle.covering.specs.Code.Cover.{entryAt}
-use Rattle.narrowing.specs.Code.Tables.{pairAt, BoundsHave, InTables}
+use Rattle.keeping.specs.Code.Tables.{pairAt}
+use Rattle.narrowing.specs.Code.Tables.{BoundsHave, InTables}
 use Rattle.narrowing.specs.Code.Open.{InDomains}
 use Rattle.narrowing.specs.declared.Open.{Open}
 use Rattle.ending.specs.Code.Ends.{EndAt}

@@ -35,7 +35,7 @@ pub record FormReady (conj values : List ℕ) (t : ℕ) : Type 0 where
   pub so-far : Small values
   pub moment : t < 64
 
--- and that of 'formula x has held'
+-- what the value of 'formula x has held' at moment t is found from
 pub record HeldReady (conj values : List ℕ) (x t : ℕ) : Type 0 where
   pub form : FormReady conj values t
   pub formula : x < 64

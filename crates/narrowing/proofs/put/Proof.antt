@@ -8,7 +8,8 @@ use lib.ListN.{length, set, length-set}
 use Rattle.bitset.specs.Code.Members.{In}
 use Rattle.bitset.proofs.In.{in-both, in-from, in-below, in-single, in-without}
 use Rattle.covering.specs.Code.Cover.{entryAt}
-use Rattle.narrowing.specs.Code.Tables.{pairAt, InTables}
+use Rattle.keeping.specs.Code.Tables.{pairAt}
+use Rattle.narrowing.specs.Code.Tables.{InTables}
 use Rattle.narrowing.specs.Code.Open.{InDomains}
 use Rattle.narrowing.proofs.Narrowing.{Has, Ordered, has-start, has-next, has-end}
 use borrow.Author.Needs.{needs}

@@ -4,7 +4,7 @@ use Prim.Native.Nat.{ℕ, _+_, _*_, _≤_, _<_}
 use mathlib.Core.List.{List}
 use lib.ListN.{getD}
 use Rattle.bitset.specs.Code.Members.{In}
-pub use Rattle.keeping.specs.Code.Tables.{pairAt}
+use Rattle.keeping.specs.Code.Tables.{pairAt}
 
 -- ends of i where j begins, as the tables have them
 abbrev pub EndsHave : ℕ → List ℕ → (ℕ → ℕ) → (ℕ → ℕ) → Type 0

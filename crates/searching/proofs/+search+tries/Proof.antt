@@ -12,7 +12,7 @@ use borrow.Fn.PlainCycle.{Measures, is, falls, and}
 use Rattle.bitset.specs.Code.Members.{In as In-mask, popCount}
 use Rattle.bitset.proofs.In.{in-both, in-zero, in-without, in-dropped}
 use Rattle.covering.specs.Code.Cover.{entryAt}
-use Rattle.narrowing.specs.Code.Tables.{pairAt}
+use Rattle.keeping.specs.Code.Tables.{pairAt}
 use Rattle.ending.specs.Code.Search.{Grown, SoughtPlacement}
 use Rattle.narrowing.specs.declared.Open.{Open}
 use Rattle.ending.specs.declared.Found.{Found}

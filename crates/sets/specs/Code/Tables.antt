@@ -6,7 +6,8 @@ use lib.ListN.{length, getD}
 use Rattle.bitset.specs.Code.Members.{In}
 use Rattle.words.specs.Fields.{memberNode, conditionI, conditionJ}
 use Rattle.model.specs.Code.Table.{InTable}
-use Rattle.narrowing.specs.Code.Tables.{pairAt, EndsHave, GoesHave, InTables}
+use Rattle.keeping.specs.Code.Tables.{pairAt}
+use Rattle.narrowing.specs.Code.Tables.{EndsHave, GoesHave, InTables}
 use Rattle.ending.specs.Code.Search.{Masked, SearchReady}
 use Rattle.sets.specs.Set.{TaskSet, memberCount}
 use Rattle.sets.specs.Code.Set.{member, Formed}
@@ -30,8 +31,7 @@ Cut old p allow c a z new =
 abbrev pub InSpan : ℕ → ℕ → ℕ → (ℕ → ℕ) → (ℕ → ℕ) → Type 0
 InSpan count a z bs es = (i : ℕ) → i < count → (a ≤ bs i) × (bs i ≤ es i) × (es i ≤ z)
 
--- of the tables E and G something is left out, which gives E′ and G′: they have no end more, and what the old ones have of begins and ends
--- within a..z
+-- E′ and G′ are what is left of the tables E and G: no end more, and all that these have of begins and ends within a..z
 pub record LeftOut (count a z : ℕ) (E G E′ G′ : List ℕ) : Type 0 where
   pub fewer : Fewer E E′
   pub kept : (bs es : ℕ → ℕ) → InSpan count a z bs es → Have E G count bs es → Have E′ G′ count bs es

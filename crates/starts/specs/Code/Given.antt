@@ -1,4 +1,4 @@
--- Between functions: what passes between the functions of `starts` and their callers: the rows of a call, and what each asks.
+-- Between functions: the rows of a call, and what the functions of `starts`, `shifts` and `groups` ask.
 use mathlib.Core.Bool.{Bool, false}
 use mathlib.Core.List.{List}
 use mathlib.Core.Path.{_≡_}

@@ -7,7 +7,7 @@ use lib.ListN.{length, length-set}
 use Rattle.bitset.specs.Code.Members.{In}
 use Rattle.bitset.proofs.In.{in-zero, in-below, empty-entry}
 use Rattle.covering.specs.Code.Cover.{entryAt}
-use Rattle.narrowing.specs.Code.Tables.{pairAt}
+use Rattle.keeping.specs.Code.Tables.{pairAt}
 use Rattle.words.proofs.Entries.{entries-set, entries-more}
 use borrow.Author.Needs.{needs}
 use Rattle.ending.proofs.ends.own_ends.Statement.{statement}

@@ -6,7 +6,8 @@ use native.Mathlib.Decide.{decLt}
 use native.Mathlib.Omega.{arith}
 use Rattle.bitset.specs.Code.Members.{In}
 use Rattle.bitset.proofs.In.{in-zero}
-use Rattle.narrowing.specs.Code.Tables.{pairAt, InTables, BoundsHave}
+use Rattle.keeping.specs.Code.Tables.{pairAt}
+use Rattle.narrowing.specs.Code.Tables.{InTables, BoundsHave}
 use Rattle.ending.specs.Code.Search.{Masked, Grown}
 use Rattle.searching.proofs.Growth.{grown-none, grown-more, ready-as}
 use borrow.Author.Needs.{needs}

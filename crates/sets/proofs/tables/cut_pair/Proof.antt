@@ -7,8 +7,8 @@ use native.Mathlib.Omega.{arith}
 use lib.ListN.{getD}
 use Rattle.bitset.specs.Code.Members.{In}
 use Rattle.bitset.proofs.In.{in-both}
-use Rattle.sets.specs.Code.Tables.{Have, Fewer, InSpan}
-use Rattle.sets.proofs.Pairs.{pair-more, fewer-more}
+use Rattle.sets.specs.Code.Tables.{LeftOut}
+use Rattle.sets.proofs.Pairs.{pair-more, fewer-more, left-none}
 use borrow.Author.Needs.{needs}
 use Rattle.sets.proofs.tables.cut_pair.Statement.{statement}
 use Rattle.sets.proofs.tables.cut_pair.Tie as tie
@@ -17,8 +17,7 @@ use Rattle.sets.proofs.tables.cut_pair.Tie as tie
 record PairsCut (i j a z : ℕ) (ends₀ goes₀ ends goes : List ℕ) (x : ℕ) : Type 0 where
   from : a ≤ x
   upto : x ≤ z + 1
-  fewer : Fewer ends₀ ends
-  kept : (count : ℕ) (bs es : ℕ → ℕ) → i < count → j < count → count ≤ 4 → InSpan count a z bs es → Have ends₀ goes₀ count bs es → Have ends goes count bs es
+  left : (count : ℕ) → i < count → j < count → count ≤ 4 → LeftOut count a z ends₀ goes₀ ends goes
 
 abbrev Inv-loop : tie.InvT-loop
 Inv-loop i j a z ends₀ goes₀ x₀ ends goes x = PairsCut i j a z ends₀ goes₀ ends goes x
@@ -48,15 +47,16 @@ loop-again c =
     record {
       from = omega arith;
       upto = omega arith;
-      fewer = rw ends-at (fewer-more (s .args .ends .now) (l .ends) k (c .inter .result) both (l .inv .fewer));
-      kept = λ count bs es first second few within have. rw (goes-at, ends-at) (pair-more i j (l .x) (s .args .a) (s .args .z) (r .result)
-          (c .before .some-ends .result) (c .inter .result) few (s .pre .3)
-          (t .loop-test .taken) first second within (r .ensures) (c .before .some-ends .ensures) both
-          (l .inv .kept count bs es first second few within have));
+      left = λ count first second few. let h = l .inv .left count first second few in record {
+        fewer = rw ends-at (fewer-more (s .args .ends .now) (l .ends) k (c .inter .result) both (h .fewer));
+        kept = λ bs es within have. rw (goes-at, ends-at) (pair-more i j (l .x) (s .args .a) (s .args .z) (r .result)
+            (c .before .some-ends .result) (c .inter .result) few (s .pre .3)
+            (t .loop-test .taken) first second within (r .ensures) (c .before .some-ends .ensures) both (h .kept bs es within have));
+      };
     }
 
 pub cut-pair-spec : {M : Type 1} → statement M
 cut-pair-spec =
     tie.close
-    (tie.spec Inv-loop μ-loop (λ c. record { from = omega arith; upto = omega arith; fewer = λ p e t. t; kept = λ count bs es first second few within have. have })
-    (λ c κs. search needs) (λ c κs. search needs) (λ c. search needs) (λ c. search needs) (λ c κs. search needs) (λ c. search needs) (λ c. search needs) (λ c κs. search needs) (λ c κs. search needs) (λ c. search needs) (λ c. search needs) (λ c. search needs) (λ c. search needs) loop-again (λ c. λ count first second few. let v = c .before .loop .inv in record { fewer = v .fewer; kept = λ bs es. v .kept count bs es first second few }))
+    (tie.spec Inv-loop μ-loop (λ c. record { from = omega arith; upto = omega arith; left = λ count first second few. left-none })
+    (λ c κs. search needs) (λ c κs. search needs) (λ c. search needs) (λ c. search needs) (λ c κs. search needs) (λ c. search needs) (λ c. search needs) (λ c κs. search needs) (λ c κs. search needs) (λ c. search needs) (λ c. search needs) (λ c. search needs) (λ c. search needs) loop-again (λ c. c .before .loop .inv .left))

@@ -7,7 +7,7 @@ use native.Mathlib.Decide.{decLt}
 use native.Mathlib.Omega.{arith}
 use lib.ListN.{length, getD}
 use Rattle.bitset.specs.Code.Members.{In}
-use Rattle.narrowing.specs.Code.Tables.{pairAt}
+use Rattle.keeping.specs.Code.Tables.{pairAt}
 use borrow.Author.Needs.{needs}
 use Rattle.sets.proofs.tables.fill_later.Statement.{statement}
 use Rattle.sets.proofs.tables.fill_later.Tie as tie

@@ -10,7 +10,7 @@ use lib.ListN.{length, getD, length-set}
 use lib.Seq.{getD-set-other}
 use Rattle.bitset.specs.Code.Members.{In}
 use Rattle.bitset.proofs.In.{in-union}
-use Rattle.narrowing.specs.Code.Tables.{pairAt}
+use Rattle.keeping.specs.Code.Tables.{pairAt}
 use Rattle.words.proofs.Entries.{entry-set}
 use borrow.Author.Needs.{needs}
 use Rattle.sets.proofs.tables.fill_later_row.Statement.{statement}

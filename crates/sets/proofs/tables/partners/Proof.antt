@@ -9,7 +9,7 @@ use native.Mathlib.Omega.{arith}
 use Rattle.bitset.specs.Code.Members.{In, popCount}
 use Rattle.bitset.proofs.Bools.{not-both}
 use Rattle.bitset.proofs.In.{in-union, in-single, in-without, in-zero}
-use Rattle.narrowing.specs.Code.Tables.{pairAt}
+use Rattle.keeping.specs.Code.Tables.{pairAt}
 use borrow.Author.Needs.{needs}
 use Rattle.sets.proofs.tables.partners.Statement.{statement}
 use Rattle.sets.proofs.tables.partners.Tie as tie

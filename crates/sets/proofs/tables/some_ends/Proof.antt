@@ -6,7 +6,7 @@ use native.Mathlib.Decide.{ℕ-discrete}
 use native.Mathlib.Omega.{arith}
 use Rattle.bitset.specs.Code.Members.{In, popCount}
 use Rattle.bitset.proofs.In.{in-union, in-without, in-zero}
-use Rattle.narrowing.specs.Code.Tables.{pairAt}
+use Rattle.keeping.specs.Code.Tables.{pairAt}
 use borrow.Author.Needs.{needs}
 use Rattle.sets.proofs.tables.some_ends.Statement.{statement}
 use Rattle.sets.proofs.tables.some_ends.Tie as tie
