@@ -7,7 +7,7 @@ ghost use Rattle.bitset.specs.Code.Members.{In};
 ghost use Rattle.narrowing.specs.Code.Tables.{EndsHave, BoundsHave, Bounded};
 ghost use Rattle.sets.specs.Code.Tables.{InSpan};
 ghost use Rattle.sets.specs.Code.Bounds.{BoundsReady, Grows, EndMarked};
-use crate::tables::FEW;
+use crate::tables::is_short;
 use narrowing::bounds::FILLED;
 use narrowing::bounds::SOONER;
 use words::MOMENTS;
@@ -119,7 +119,7 @@ fn fill_members(
     }
 }
 
-// The bounds of all pairs that are tied, but none among up to `FEW` moments.
+// The bounds of all pairs that are tied, but none where a..z is short.
 pub fn fill(
     conds: &[u32],
     ends: &[u64; 1024],
@@ -131,7 +131,7 @@ pub fn fill(
     requires { ⌜ BoundsReady count a z (now bounds) × ((q : ℕ) → getD (now bounds) q 0 ≡ 0) ⌝ }
     ensures { λ _. ⌜ ((bs es : ℕ → ℕ) → InSpan count a z bs es → EndsHave count (now (ends .entry)) bs es → BoundsHave count (now (bounds .exit)) bs es) ⌝ }
 {
-    if z < a + FEW {
+    if is_short(a, z) {
         return;
     }
     let mut rest = tied(conds);

@@ -17,8 +17,14 @@ use keeping::pair_at;
 use keeping::pair_index;
 use words::MOMENTS;
 
-// Among up to so many moments no pairs are cut and no bounds filled: a search is quicker without.
-pub const FEW: u32 = 4;
+const FEW: u32 = 4;
+
+// Whether a..z has up to `FEW` moments: there no pairs are cut and no bounds filled, since a search is quicker without.
+pub fn is_short(a: u32, z: u32) -> bool
+    requires { ⌜ a < 64 ⌝ }
+{
+    z < a + FEW
+}
 
 // Leaves out of row p of a table, from a to z, what the masks of condition c leave out.
 fn cut(table: &mut [u64; 1024], p: usize, allow: &[u64; 512], c: usize, a: u32, z: u32)
@@ -257,7 +263,7 @@ fn cut_pairs(
     }
 }
 
-// Cuts each pair that some condition is on, but none among up to `FEW` moments.
+// Cuts each pair that some condition is on, but none where a..z is short.
 fn cut_constrained(
     conds: &[u32],
     count: usize,
@@ -269,7 +275,7 @@ fn cut_constrained(
     requires { ⌜ (count ≤ 4) × (a ≤ z) × (z < 64) ⌝ }
     ensures { λ _. ⌜ LeftOut count a z (now (ends .entry)) (now (goes .entry)) (now (ends .exit)) (now (goes .exit)) ⌝ }
 {
-    if z < a + FEW {
+    if is_short(a, z) {
         return;
     }
     cut_pairs(constrained(conds), count, a, z, ends, goes);

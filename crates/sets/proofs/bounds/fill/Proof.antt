@@ -35,7 +35,7 @@ loop-again c =
 fill-members-requires : tie.Need-fill-members-requires Inv-loop μ-loop
 fill-members-requires c κs =
     let l = c .before .before .before in
-    let p = l .before .before .before .before .pre .0 in
+    let p = l .before .before .before .before .before .pre .0 in
     record { few = p .few; forward = p .forward; moments = p .moments; long = l .loop .inv .long }
 
 -- bounds that are not filled leave nothing out
@@ -45,7 +45,7 @@ unfilled bounds none count bs es w j f g t = in-zero (none (2048 + j)) t
 pub fill-spec : {M : Type 1} → statement M
 fill-spec =
     tie.close
-    (tie.spec Inv-loop μ-loop (λ c. search needs) (λ c. let s = c .before .before in λ bs es within ends. unfilled (s .args .bounds .now) (s .pre .1) (s .args .count) bs es) (λ c κs. search needs)
-    (λ c. let s = c .before .before .before in record { long = s .pre .0 .long; have = λ bs es within ends. unfilled (s .args .bounds .now) (s .pre .1) (s .args .count) bs es })
+    (tie.spec Inv-loop μ-loop (λ c κs. search needs) (λ c. let s = c .before .before .before in λ bs es within ends. unfilled (s .args .bounds .now) (s .pre .1) (s .args .count) bs es) (λ c κs. search needs)
+    (λ c. let s = c .before .before .before .before in record { long = s .pre .0 .long; have = λ bs es within ends. unfilled (s .args .bounds .now) (s .pre .1) (s .args .count) bs es })
     (λ c κs. search needs) (λ c. search needs) fill-members-requires (λ c κs. search needs) (λ c. omega (arith, c .drop-lowest .ensures .fewer)) loop-again
     (λ c. c .before .loop .inv .have))

@@ -7,4 +7,4 @@ use Rattle.sets.proofs.tables.cut_constrained.Tie as tie
 pub cut-constrained-spec : {M : Type 1} → statement M
 cut-constrained-spec =
     tie.close
-    (tie.spec (λ c. search needs) (λ c. left-none) (λ c κs. search needs) (λ c κs. search needs) (λ c. c .cut-pairs .ensures))
+    (tie.spec (λ c κs. search needs) (λ c. left-none) (λ c κs. search needs) (λ c κs. search needs) (λ c. c .cut-pairs .ensures))
