@@ -15,6 +15,9 @@ after-inter2 c = c .before .before .before .before .before .before .before
 abbrev after-lowest : tie.After-inter5 → tie.After-lowest
 after-lowest c = c .before .before .before .before .before
 
+abbrev after-pair-at2 : tie.After-inter5 → tie.After-pair-at2
+after-pair-at2 c = c .before .before .before .before
+
 -- the begins that member j keeps
 begins-kept : (c : tie.After-inter2) → let a = c .before .before .before .args in (y : ℕ) → In (c .inter2 .result) y
     ↔ (In (a .old .begins) y × In (pairAt (a .goes .now) (a .i) (a .j) (a .x)) y × In (a .window) y)
@@ -35,7 +38,7 @@ returns-2 c =
         in-both (c .inter5 .ensures) e .1 (
           o,
           in-both (c .before .inter4 .ensures) e .1 (
-            in-both (c .before .before .before .inter3 .ensures) e .1 (rw (c .before .before .before .before .pair-at2 .ensures) m, v),
+            in-both (c .before .before .before .inter3 .ensures) e .1 (rw (after-pair-at2 c .pair-at2 .ensures) m, v),
             later (l .result) (k (l .result) .0 (record { yes = l .ensures .member }) .2) (lowest-le (l .ensures) (t .yes)),
           ),
         ),

@@ -26,6 +26,9 @@ abbrev μ-loop : tie.MeasureT-loop
 abbrev head : tie.After-drop-lowest Inv-loop μ-loop → tie.At-loop Inv-loop μ-loop
 head c = c .before .before .before .before .before
 
+abbrev entry : tie.After-tied Inv-loop μ-loop → tie.Start Inv-loop μ-loop
+entry c = c .before .before .before .before
+
 loop-again : tie.Need-loop-again Inv-loop μ-loop
 loop-again c =
     let v = head c .loop .inv in
@@ -35,7 +38,7 @@ loop-again c =
 fill-members-requires : tie.Need-fill-members-requires Inv-loop μ-loop
 fill-members-requires c κs =
     let l = c .before .before .before in
-    let p = l .before .before .before .before .before .pre .0 in
+    let p = entry (l .before) .pre .0 in
     record { few = p .few; forward = p .forward; moments = p .moments; long = l .loop .inv .long }
 
 -- bounds that are not filled leave nothing out
@@ -46,6 +49,6 @@ pub fill-spec : {M : Type 1} → statement M
 fill-spec =
     tie.close
     (tie.spec Inv-loop μ-loop (λ c κs. search needs) (λ c. let s = c .before .before .before in λ bs es within ends. unfilled (s .args .bounds .now) (s .pre .1) (s .args .count) bs es) (λ c κs. search needs)
-    (λ c. let s = c .before .before .before .before in record { long = s .pre .0 .long; have = λ bs es within ends. unfilled (s .args .bounds .now) (s .pre .1) (s .args .count) bs es })
+    (λ c. let s = entry c in record { long = s .pre .0 .long; have = λ bs es within ends. unfilled (s .args .bounds .now) (s .pre .1) (s .args .count) bs es })
     (λ c κs. search needs) (λ c. search needs) fill-members-requires (λ c κs. search needs) (λ c. omega (arith, c .drop-lowest .ensures .fewer)) loop-again
     (λ c. c .before .loop .inv .have))

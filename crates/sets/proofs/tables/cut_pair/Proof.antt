@@ -40,8 +40,9 @@ loop-again c =
     let j = s .args .j in
     let r = after-partners c .partners in
     let k = (i * 4 + i) * 64 + l .x in
-    let goes-at = c .before .before .before .before .before .pair-index .ensures .0 in
-    let ends-at = c .before .before .before .before .pair-index2 .ensures .0 in
+    let read = c .before .before .before in
+    let goes-at = read .before .before .pair-index .ensures .0 in
+    let ends-at = read .before .pair-index2 .ensures .0 in
     let both : (e : ℕ) → In (c .inter .result) e ↔ (In (getD (l .ends) k 0) e × In (c .before .some-ends .result) e)
     = λ e. subst (λ (q : ℕ). In (c .inter .result) e ↔ (In (getD (l .ends) q 0) e × In (c .before .some-ends .result) e)) ends-at (in-both (c .inter .ensures) e) in
     record {

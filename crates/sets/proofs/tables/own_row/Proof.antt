@@ -12,6 +12,9 @@ use Rattle.sets.proofs.tables.own_row.Tie as tie
 abbrev begun : tie.After-inter2 → tie.Else1
 begun c = c .before .before .before .before .before
 
+abbrev entry : tie.Else1 → tie.Start
+entry h = h .before .before .before .before
+
 returns : tie.Need-returns
 returns c = in-none (λ e h. not-both (rw (c .before .before .pair-at .ensures) (h .4 .yes)) (sym (c .before .has .ensures) ∙ not-true _ (c .if1 .taken)))
 
@@ -23,7 +26,7 @@ returns-2 c = λ e.
     let own = c .before .pair-at2 .ensures in
     let h = begun c in (
       λ t. let u = both .0 t in let v = row .0 (u .0) in let w = upto .0 (v .1) in
-          (v .0, w .0, w .1, rw own at (u .1), record { yes = ap (λ (m : ℕ). has m (h .before .before .before .before .args .x)) (sym (h .before .before .pair-at .ensures)) ∙ sym (h .before .has .ensures) ∙ not-false _ (h .if1 .left) }),
+          (v .0, w .0, w .1, rw own at (u .1), record { yes = ap (λ (m : ℕ). has m (entry h .args .x)) (sym (h .before .before .pair-at .ensures)) ∙ sym (h .before .has .ensures) ∙ not-false _ (h .if1 .left) }),
       λ t. both .1 (row .1 (t .0, upto .1 (t .1, t .2)), rw own (t .3)),
     )
 
