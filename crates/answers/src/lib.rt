@@ -4,6 +4,46 @@ ghost use Rattle.answers.specs.Rows.{refusal, passed, row, firstRefusal}
 ghost use Rattle.answers.specs.Packed.{answerOf, packed, fields};
 ghost use Rattle.answers.specs.Code.Packed.{Fits, InRange};
 
+// The numbers of the refusals, by the names of the C header.
+pub const JOB_LENGTH: u32 = 1;
+
+pub const JOB_SHAPE: u32 = 2;
+
+pub const JOB_VALUE: u32 = 3;
+
+pub const JOB_TWICE: u32 = 4;
+
+pub const JOB_NODES: u32 = 5;
+
+pub const START_WORD: u32 = 6;
+
+pub const START_ENDS_LATE: u32 = 7;
+
+pub const START_IN_HAND: u32 = 8;
+
+pub const START_CLASHES: u32 = 9;
+
+pub const START_NEEDS: u32 = 10;
+
+pub const FACTS_DIFFER: u32 = 11;
+
+pub const BUFFER_SHORT: u32 = 12;
+
+pub const NO_READING: u32 = 13;
+
+pub const TRIAL_BOUNDS: u32 = 14;
+
+pub const START_OUTSIDE_WINDOWS: u32 = 15;
+
+pub const GROUP_OVER_LIMIT: u32 = 16;
+
+// What the number, the position and the length are multiplied by in the packed number: 2^56, 2^40 and 2^24.
+const NUMBER_UNIT: u64 = 1 << 56;
+
+const POSITION_UNIT: u64 = 1 << 40;
+
+const LENGTH_UNIT: u64 = 1 << 24;
+
 // A refusal's number and position; 0 and 0 for none.
 pub struct Refusal {
     pub number: u32,
@@ -88,5 +128,5 @@ fn join(number: u64, position: usize, length: usize, count: u64) -> u64
     requires { ⌜ Fits number position length count ⌝ }
     ensures { λ r. ⌜ r ≡ fields number position length count ⌝ }
 {
-    number * 72057594037927936 + position as u64 * 1099511627776 + length as u64 * 16777216 + count
+    number * NUMBER_UNIT + position as u64 * POSITION_UNIT + length as u64 * LENGTH_UNIT + count
 }

@@ -7,6 +7,7 @@ ghost use Rattle.words.specs.Fields.{kind, ofKind, form, spare, headShap
 ghost use Rattle.words.specs.Scan.{takeWhile};
 
 pub mod buffers;
+pub mod forms;
 
 pub use buffers::copy_words;
 pub use buffers::insert_word;
@@ -40,6 +41,15 @@ pub const GROUP: u32 = 13;
 
 pub const GROUP_MEMBER: u32 = 14;
 
+// The roles of a law.
+pub const NEEDS_TRUE: u32 = 0;
+
+pub const NEEDS_FALSE: u32 = 1;
+
+pub const MAKES_TRUE: u32 = 2;
+
+pub const MAKES_FALSE: u32 = 3;
+
 // The values of a fluent or a formula.
 pub const FAILS: u8 = 0;
 
@@ -55,6 +65,20 @@ pub const ACTIONS: usize = 64;
 pub const MOMENTS: usize = 64;
 
 pub const GROUPS: usize = 8;
+
+// How many fluents a job may have whose head is not wide, and how many words the list of facts may have under either head.
+pub const NARROW_FLUENTS: usize = 64;
+
+pub const NARROW_FACTS: usize = 4096;
+
+pub const WIDE_FACTS: usize = 16384;
+
+// The sizes of the tables by action and fluent, by moment and fluent, and by two actions.
+pub const EFFECTS: usize = ACTIONS * FLUENTS;
+
+pub const STATES: usize = MOMENTS * FLUENTS;
+
+pub const ACTION_PAIRS: usize = ACTIONS * ACTIONS;
 
 pub fn kind_of(w: u32) -> u32
     ensures { λ r. ⌜ (r ≡ kind w) × (r < 16) ⌝ }
