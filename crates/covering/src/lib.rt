@@ -5,9 +5,14 @@ ghost use mathlib.Core.Logic.{_↔_};
 ghost use Prim.Native.Nat.{ℕ, _<_, _≤_};
 ghost use Rattle.bitset.specs.Code.Members.{In};
 ghost use Rattle.covering.specs.Code.Cover.{Some, Needed, Coverable, CoverReady, entryAt};
+use words::MEMBERS;
+use words::MOMENTS;
+
+// What stands for an end that does not exist: moments are 0 to 63.
+const NO_END: u32 = MOMENTS as u32;
 
 // The ends of the members that begin before x.
-fn ends_before(begins: [u32; 4], ends: [u64; 4], count: usize, x: u32) -> u64
+fn ends_before(begins: [u32; MEMBERS], ends: [u64; MEMBERS], count: usize, x: u32) -> u64
     requires { ⌜ count ≤ 4 ⌝ }
     ensures { λ r. ⌜ ((e : ℕ) → In r e ↔ Some count (λ i. (entryAt begins i < x) × (In (entryAt ends i) e))) ⌝ }
 {
@@ -22,20 +27,20 @@ fn ends_before(begins: [u32; 4], ends: [u64; 4], count: usize, x: u32) -> u64
     r
 }
 
-// The least member from a on, or 64.
+// The least member from a on, or NO_END.
 fn least_from(x: u64, a: u32) -> u32
     requires { ⌜ a < 64 ⌝ }
     ensures { λ r. ⌜ ((e : ℕ) → e < 64 → (r ≤ e) ↔ ((y : ℕ) × (In x y) × (a ≤ y) × (y ≤ e))) ⌝ }
 {
     let late = bitset::inter(x, bitset::from(a));
     if late == 0 {
-        return 64;
+        return NO_END;
     }
     bitset::lowest(late)
 }
 
-// The end from which on member i asks nothing more, or 64.
-fn need(begins: [u32; 4], ends: [u64; 4], count: usize, b: u32, i: usize) -> u32
+// The end from which on member i asks nothing more, or NO_END.
+fn need(begins: [u32; MEMBERS], ends: [u64; MEMBERS], count: usize, b: u32, i: usize) -> u32
     requires { ⌜ (count ≤ 4) × (i < count) × (entryAt begins i < 64) ⌝ }
     ensures { λ r. ⌜ ((e : ℕ) → e < 64 → (r ≤ e) ↔ Needed count (entryAt begins) (entryAt ends) b i e) ⌝ }
 {
@@ -51,7 +56,7 @@ fn need(begins: [u32; 4], ends: [u64; 4], count: usize, b: u32, i: usize) -> u32
 }
 
 // Whether one of the first count members begins at b.
-fn begins_at(begins: [u32; 4], count: usize, b: u32) -> bool
+fn begins_at(begins: [u32; MEMBERS], count: usize, b: u32) -> bool
     requires { ⌜ count ≤ 4 ⌝ }
     ensures { λ r. ⌜ (r ≡ true) ↔ Some count (λ i. entryAt begins i ≡ b) ⌝ }
 {
@@ -66,7 +71,7 @@ fn begins_at(begins: [u32; 4], count: usize, b: u32) -> bool
 }
 
 // The ends e of which some choice of ends covers b..e.
-pub fn covered(begins: [u32; 4], ends: [u64; 4], count: usize, b: u32) -> u64
+pub fn covered(begins: [u32; MEMBERS], ends: [u64; MEMBERS], count: usize, b: u32) -> u64
     requires { ⌜ CoverReady count (entryAt begins) (entryAt ends) ⌝ }
     ensures { λ r. ⌜ ((e : ℕ) → In r e ↔ Coverable count (entryAt begins) (entryAt ends) b e) ⌝ }
 {
@@ -77,7 +82,7 @@ pub fn covered(begins: [u32; 4], ends: [u64; 4], count: usize, b: u32) -> u64
     let mut i = 0;
     while i < count {
         let own = need(begins, ends, count, b, i);
-        if 63 < own {
+        if NO_END <= own {
             return 0;
         }
         if least < own {
@@ -85,5 +90,8 @@ pub fn covered(begins: [u32; 4], ends: [u64; 4], count: usize, b: u32) -> u64
         }
         i += 1;
     }
-    bitset::inter(ends_before(begins, ends, count, 64), bitset::from(least))
+    bitset::inter(
+        ends_before(begins, ends, count, NO_END),
+        bitset::from(least),
+    )
 }

@@ -8,17 +8,20 @@ ghost use Rattle.ending.specs.Code.Search.{LeafReady, Grown, FindsAll};
 
 pub mod ends;
 
+use keeping::MASKS;
+use keeping::PAIRS;
 use narrowing::Open;
+use words::MEMBERS;
 
 // The ends found, all at most `upto`, and, where `upto` is one of them, begins for it.
 pub struct Found {
     pub upto: u32,
     pub ends: u64,
-    pub begins: [u32; 4],
+    pub begins: [u32; MEMBERS],
 }
 
 // The first begin that each member may have in a..z, and a where there is none.
-fn first_begins(begins: [u64; 4], count: usize, a: u32, z: u32) -> [u32; 4]
+fn first_begins(begins: [u64; MEMBERS], count: usize, a: u32, z: u32) -> [u32; MEMBERS]
     requires { ⌜ (count ≤ 4) × (a ≤ z) × (z < 64) ⌝ }
     ensures { λ r. ⌜ ((i : ℕ) → i < count → (a ≤ entryAt r i) × (entryAt r i ≤ z)) × ((i : ℕ) → entryAt r i < 64) × ((i x : ℕ) → i < count → In (entryAt begins i) x → a ≤ x → x ≤ z → In (entryAt begins i) (entryAt r i)) ⌝ }
 {
@@ -38,8 +41,8 @@ fn first_begins(begins: [u64; 4], count: usize, a: u32, z: u32) -> [u32; 4]
 // `found` with the ends to which the set reads, all members placed.
 pub fn leaf(
     conds: &[u32],
-    allow: &[u64; 512],
-    ends: &[u64; 1024],
+    allow: &[u64; MASKS],
+    ends: &[u64; PAIRS],
     count: usize,
     state: Open,
     found: Found,

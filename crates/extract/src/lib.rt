@@ -7,6 +7,8 @@ ghost use Rattle.model.specs.Code.Arrays.{procedureAt, trajectoryAt};
 ghost use Rattle.extract.specs.Code.Contract.{Emittable, Emitted};
 use model::Triple;
 use reading::pauses::Timeline;
+use words::FORMULA_VALUES;
+use words::NODES;
 
 mod parts;
 mod search;
@@ -15,9 +17,9 @@ mod write;
 // Writes a reading of the root from moment 0 to the last at the front of the buffer, and returns how many words it has.
 pub fn emit(
     words: &[u32],
-    places: &[usize; 64],
+    places: &[usize; NODES],
     count: usize,
-    values: &[u8; 4096],
+    values: &[u8; FORMULA_VALUES],
     timeline: Timeline,
     table: &[u64],
     buffer: &mut [u32],

@@ -15,13 +15,26 @@ use reading::pauses::Pause;
 use reading::pauses::Timeline;
 use reading::pauses::at_once;
 use reading::pauses::pause_of;
+use words::FORMULA_VALUES;
+use words::MEMBERS;
 use words::MOMENTS;
+use words::NODES;
+use words::forms::ACT;
+use words::forms::CHOICE;
+use words::forms::END_WINDOW;
+use words::forms::IF;
+use words::forms::RESERVED;
+use words::forms::SEQUENCE;
+use words::forms::START_WINDOW;
+use words::forms::TASK_SET;
+use words::forms::TEST;
+use words::forms::WHILE;
 
 pub struct Parts {
     pub count: usize,
-    pub nodes: [usize; 4],
-    pub begins: [u32; 4],
-    pub ends: [u32; 4],
+    pub nodes: [usize; MEMBERS],
+    pub begins: [u32; MEMBERS],
+    pub ends: [u32; MEMBERS],
 }
 
 fn none() -> Parts
@@ -101,18 +114,18 @@ fn if_part(value: u8, y: usize, m: usize, b: usize, e: usize) -> Parts
     requires { ⌜ (b < 64) × (e < 64) ⌝ }
     ensures { λ r. ⌜ (((value ≡ holds) × (r ≡ onePart y b e)) ⊎ ((value ≡ holds → ⊥) × (r ≡ onePart m b e))) ⌝ }
 {
-    if value == 2 {
+    if value == words::HOLDS {
         return one(y, b, e);
     }
     one(m, b, e)
 }
 
 // The nodes of the members.
-fn member_nodes(members: &[u32]) -> [usize; 4]
+fn member_nodes(members: &[u32]) -> [usize; MEMBERS]
     requires { ⌜ length (now members) ≤ 4 ⌝ }
     ensures { λ r. ⌜ ((i : ℕ) → i < length (now (members .entry)) → getD r i 0 ≡ memberNode (getD (now (members .entry)) i 0)) ⌝ }
 {
-    let mut nodes = [0usize; 4];
+    let mut nodes = [0usize; MEMBERS];
     let mut i = 0;
     while i < members.len() {
         nodes[i] = words::member_node(members[i]);
@@ -125,7 +138,7 @@ fn member_nodes(members: &[u32]) -> [usize; 4]
 fn set_parts(
     words: &[u32],
     place: usize,
-    values: &[u8; 4096],
+    values: &[u8; FORMULA_VALUES],
     last: usize,
     table: &[u64],
     b: usize,
@@ -163,8 +176,8 @@ fn set_parts(
 // The parts that a reading of the triple, which the table says there is, can be made of; its node is no loop.
 pub fn choose_parts(
     words: &[u32],
-    places: &[usize; 64],
-    values: &[u8; 4096],
+    places: &[usize; NODES],
+    values: &[u8; FORMULA_VALUES],
     timeline: Timeline,
     table: &[u64],
     triple: Triple,
@@ -183,17 +196,17 @@ pub fn choose_parts(
     let m = words::node_m(word);
     let most = words::node_n(word);
     match words::form_of(word) {
-        0 => none(),
-        1 => none(),
-        2 => end_window_parts(table, x, y, at_once(), b, e),
-        3 => choice_part(table, x, y, b, e),
-        4 => if_part(values[x * MOMENTS + b], y, m, b, e),
-        // a loop's passes are found one at a time
-        5 => none(),
-        6 => start_window_parts(table, x, y, m, most, b, e),
-        7 => end_window_parts(table, x, y, pause_of(word, timeline.started), b, e),
-        8 => set_parts(words, place, values, timeline.last, table, b, e),
-        // reserved: refused in a job, and nothing reads such a node
-        9.. => none(),
+        ACT => none(),
+        TEST => none(),
+        SEQUENCE => end_window_parts(table, x, y, at_once(), b, e),
+        CHOICE => choice_part(table, x, y, b, e),
+        IF => if_part(values[x * MOMENTS + b], y, m, b, e),
+        // The passes of a loop are found one at a time.
+        WHILE => none(),
+        START_WINDOW => start_window_parts(table, x, y, m, most, b, e),
+        END_WINDOW => end_window_parts(table, x, y, pause_of(word, timeline.started), b, e),
+        TASK_SET => set_parts(words, place, values, timeline.last, table, b, e),
+        // A job with a reserved form is refused, and nothing reads such a node.
+        RESERVED.. => none(),
     }
 }

@@ -9,29 +9,32 @@ use reading::pauses::Pause;
 use reading::pauses::quiet_upto;
 use words::MOMENTS;
 
+// What a search answers that finds no moment: moments are 0 to 63.
+const NO_MOMENT: usize = MOMENTS;
+
 // Two moments.
 pub struct Pair {
     pub first: usize,
     pub second: usize,
 }
 
-// The first moment from `first` to `end` at which y can begin so that the greater of its end and one of the ends `xs` is e; 64 where
-// there is none.
+// The first moment from `first` to `end` at which y can begin so that the greater of its end and one of the ends `xs` is e, or
+// NO_MOMENT.
 pub fn meeting(xs: u64, table: &[u64], y: usize, first: usize, end: usize, e: usize) -> usize
     requires { ⌜ MeetReady (now table) y end e ⌝ }
     ensures { λ r. ⌜ FirstMeets xs (now (table .entry)) y first end e r ⌝ }
 {
     let mut m = first;
     while m <= end {
-        if 64 <= m {
-            return 64;
+        if NO_MOMENT <= m {
+            return NO_MOMENT;
         }
         if bitset::has(bitset::max_of(xs, table[y * MOMENTS + m]), e as u32) {
             return m;
         }
         m += 1;
     }
-    64
+    NO_MOMENT
 }
 
 // The first end of x, begun at b, from `from` on, after which y can begin, a pause later, and end at e, and the first such begin. There is
@@ -46,7 +49,7 @@ pub fn cut(table: &[u64], x: usize, y: usize, b: usize, e: usize, pause: Pause, 
         let end = quiet_upto(pause, k);
         // the set of 0 alone: y's end is the greater one
         let m = meeting(1, table, y, k + pause.least, end, e);
-        if m < 64 {
+        if m < NO_MOMENT {
             return Pair {
                 first: k,
                 second: m,

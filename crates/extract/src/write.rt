@@ -10,12 +10,15 @@ use crate::search;
 use model::Triple;
 use reading::pauses::Timeline;
 use reading::pauses::at_once;
+use words::FORMULA_VALUES;
+use words::NODES;
+use words::forms::WHILE;
 
 // Writes a reading of the triple into the buffer from `at` on, and returns the place after it.
 pub fn write_reading(
     words: &[u32],
-    places: &[usize; 64],
-    values: &[u8; 4096],
+    places: &[usize; NODES],
+    values: &[u8; FORMULA_VALUES],
     timeline: Timeline,
     table: &[u64],
     triple: Triple,
@@ -30,7 +33,7 @@ pub fn write_reading(
     let e = triple.end;
     buffer[at] = words::reading_word(p, b, e);
     let place = places[p];
-    if words::form_of(words[place]) == 5 {
+    if words::form_of(words[place]) == WHILE {
         return write_passes(
             words,
             places,
@@ -57,8 +60,8 @@ pub fn write_reading(
 // Writes the parts of the node, which is no loop.
 fn write_parts(
     words: &[u32],
-    places: &[usize; 64],
-    values: &[u8; 4096],
+    places: &[usize; NODES],
+    values: &[u8; FORMULA_VALUES],
     timeline: Timeline,
     table: &[u64],
     triple: Triple,
@@ -90,8 +93,8 @@ fn write_parts(
 // Writes the passes of the node, which is a loop, one after the other.
 fn write_passes(
     words: &[u32],
-    places: &[usize; 64],
-    values: &[u8; 4096],
+    places: &[usize; NODES],
+    values: &[u8; FORMULA_VALUES],
     timeline: Timeline,
     table: &[u64],
     triple: Triple,

@@ -10,6 +10,7 @@ ghost use Rattle.facts.specs.Facts.{factOf, factsUpto, factsOf};
 ghost use Rattle.facts.specs.Code.Written.{rowFacts, Written, Filled, Fillable};
 use words::FLUENTS;
 use words::OPEN;
+use words::STATES;
 use words::fact_word;
 use words::fluents_of;
 use words::last_of;
@@ -28,7 +29,7 @@ fn write_fact(head: u32, t: usize, f: usize, value: u8, buffer: &mut [u32], at: 
 
 // The same for the facts at moment `t` of the first `n` fluents.
 fn write_facts(
-    history: &[u8; 16384],
+    history: &[u8; STATES],
     head: u32,
     t: usize,
     n: usize,
@@ -48,7 +49,7 @@ fn write_facts(
 }
 
 // Writes the facts that the history's row of moment `t` has to the front of `row`, and answers how many they are.
-pub fn row_facts(job: &[u32], history: &[u8; 16384], t: usize, row: &mut [u32]) -> usize
+pub fn row_facts(job: &[u32], history: &[u8; STATES], t: usize, row: &mut [u32]) -> usize
     requires { ⌜ WellFormed (now job) × (t ≤ lastMoment (now job)) × (fluents (now job) ≤ length (now row)) ⌝ }
     ensures { λ r. ⌜ Filled (now (row .entry)) (rowFacts (now (history .entry)) (headWord (now (job .entry))) t (fluents (now (job .entry)))) r (now (row .exit)) ⌝ }
 {
@@ -57,7 +58,7 @@ pub fn row_facts(job: &[u32], history: &[u8; 16384], t: usize, row: &mut [u32]) 
 }
 
 // Writes the facts of the moments up to `last` to the front of the buffer, and answers how many they are.
-pub fn fill_upto(job: &[u32], history: &[u8; 16384], last: usize, buffer: &mut [u32]) -> usize
+pub fn fill_upto(job: &[u32], history: &[u8; STATES], last: usize, buffer: &mut [u32]) -> usize
     requires { ⌜ Fillable (now job) last (now buffer) ⌝ }
     ensures { λ r. ⌜ ((starts : List ℕ) → HistoryUpto (now (job .entry)) starts last (now (history .entry))
         → Filled (now (buffer .entry)) (factsUpto (now (job .entry)) starts last) r (now (buffer .exit))) ⌝ }
@@ -74,7 +75,7 @@ pub fn fill_upto(job: &[u32], history: &[u8; 16384], last: usize, buffer: &mut [
 }
 
 // The same for all facts.
-pub fn fill_facts(job: &[u32], history: &[u8; 16384], buffer: &mut [u32]) -> usize
+pub fn fill_facts(job: &[u32], history: &[u8; STATES], buffer: &mut [u32]) -> usize
     requires { ⌜ WellFormed (now job) × (factRoom (headWord (now job)) ≤ length (now buffer)) ⌝ }
     ensures { λ r. ⌜ ((starts : List ℕ) → History (now (job .entry)) starts (now (history .entry))
         → Filled (now (buffer .entry)) (factsOf (now (job .entry)) starts) r (now (buffer .exit))) ⌝ }

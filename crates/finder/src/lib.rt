@@ -6,6 +6,7 @@ ghost use Rattle.answers.specs.Code.Packed.{InRange};
 ghost use Rattle.finder.specs.Find.{Searched, Outcome};
 ghost use Rattle.finder.specs.Code.Seek.{Seekable};
 use answers::Answer;
+use answers::NO_READING;
 use answers::answer_of;
 use model::Arrays;
 use reading::pauses::Timeline;
@@ -13,6 +14,7 @@ use reading::pauses::all_starts;
 use theory::arrays_of;
 use theory::buffer_refusal;
 use theory::judge_facts;
+use words::ENDS;
 
 // Of a plan that passes: fills the table, counts, and writes a reading of the root where there is one.
 fn seek(job: &[u32], starts: &[u32], arrays: Arrays, buffer: &mut [u32]) -> Answer
@@ -30,7 +32,7 @@ fn seek(job: &[u32], starts: &[u32], arrays: Arrays, buffer: &mut [u32]) -> Answ
         last,
         started: all_starts(&start_sets),
     };
-    let mut table = [0u64; 4096];
+    let mut table = [0u64; ENDS];
     let count = reading::table::tabulate(
         job,
         &places,
@@ -46,7 +48,7 @@ fn seek(job: &[u32], starts: &[u32], arrays: Arrays, buffer: &mut [u32]) -> Answ
         return Answer::Accepted { length, count };
     }
     Answer::Refused {
-        number: 13,
+        number: NO_READING as u64,
         position: 0,
         count,
     }

@@ -8,11 +8,15 @@ ghost use Rattle.formulas.specs.Values.{andTable, orTable, byTable, ago,
 ghost use Rattle.formulas.specs.Code.Table.{Connectives, tabled, tabulated, FormReady, HeldReady, Grounds, ColumnsBefore, ColumnReady, FormulaTable};
 use words::FAILS;
 use words::FLUENTS;
+use words::FORMULA_VALUES;
+use words::FORMULAS;
 use words::HOLDS;
 use words::MOMENTS;
 use words::OPEN;
+use words::STATES;
 use words::atom_fluent;
 use words::form_of;
+use words::forms;
 use words::formula_x;
 use words::formula_y;
 use words::last_of;
@@ -33,7 +37,7 @@ fn by_table(table: &[u8; 9], a: u8, b: u8) -> u8
 }
 
 // The value of formula `x` at `k` moments before `t`: open before moment 0.
-fn ago(values: &[u8; 4096], x: usize, t: usize, k: usize) -> u8
+fn ago(values: &[u8; FORMULA_VALUES], x: usize, t: usize, k: usize) -> u8
     requires { ⌜ (x < 64) × (t < 64) ⌝ }
     ensures { λ r. ⌜ r ≡ ago (tabulated (now (values .entry)) x) t k ⌝ }
 {
@@ -44,7 +48,7 @@ fn ago(values: &[u8; 4096], x: usize, t: usize, k: usize) -> u8
 }
 
 // The value of 'formula `x` has held for `y` moments' at moment `t`: 'and' over the values of `x`, oldest first.
-fn held_for(and: &[u8; 9], values: &[u8; 4096], x: usize, y: usize, t: usize) -> u8
+fn held_for(and: &[u8; 9], values: &[u8; FORMULA_VALUES], x: usize, y: usize, t: usize) -> u8
     requires { ⌜ HeldReady (now and) (now values) x t ⌝ }
     ensures { λ r. ⌜ r ≡ heldFor (now (and .entry)) (tabulated (now (values .entry)) x) y t ⌝ }
 {
@@ -63,8 +67,8 @@ fn form_value(
     or: &[u8; 9],
     head: u32,
     w: u32,
-    history: &[u8; 16384],
-    values: &[u8; 4096],
+    history: &[u8; STATES],
+    values: &[u8; FORMULA_VALUES],
     t: usize,
 ) -> u8
     requires { ⌜ FormReady (now and) (now values) t ⌝ }
@@ -75,11 +79,11 @@ fn form_value(
     let x = formula_x(w);
     let y = formula_y(w);
     match form {
-        0 => HOLDS,
-        1 => history[t * FLUENTS + atom_fluent(head, w)],
-        2 => HOLDS - values[x * MOMENTS + t],
-        3 => by_table(and, values[x * MOMENTS + t], values[y * MOMENTS + t]),
-        4 => by_table(or, values[x * MOMENTS + t], values[y * MOMENTS + t]),
+        forms::ALWAYS => HOLDS,
+        forms::FLUENT => history[t * FLUENTS + atom_fluent(head, w)],
+        forms::NOT => HOLDS - values[x * MOMENTS + t],
+        forms::AND => by_table(and, values[x * MOMENTS + t], values[y * MOMENTS + t]),
+        forms::OR => by_table(or, values[x * MOMENTS + t], values[y * MOMENTS + t]),
         _ => held_for(and, values, x, y, t),
     }
 }
@@ -89,11 +93,11 @@ fn fill_moment(
     and: &[u8; 9],
     or: &[u8; 9],
     job: &[u32],
-    formulas: &[usize; 64],
+    formulas: &[usize; FORMULAS],
     count: usize,
-    history: &[u8; 16384],
+    history: &[u8; STATES],
     t: usize,
-    values: &mut [u8; 4096],
+    values: &mut [u8; FORMULA_VALUES],
 )
     requires { ⌜ ColumnReady (now and) (now or) (now job) (now formulas) count (now history) t (now values) ⌝ }
     ensures { λ _. ⌜ ColumnsBefore (now (and .entry)) (now (or .entry)) (now (job .entry)) (tabled (now (history .entry))) (t + 1) (now (values .exit)) ⌝ }
@@ -113,16 +117,16 @@ pub fn formula_values(
     and: &[u8; 9],
     or: &[u8; 9],
     job: &[u32],
-    formulas: &[usize; 64],
+    formulas: &[usize; FORMULAS],
     count: usize,
-    history: &[u8; 16384],
-) -> [u8; 4096]
+    history: &[u8; STATES],
+) -> [u8; FORMULA_VALUES]
     requires { ⌜ Connectives (now and) (now or) × Grounds (now job) (now formulas) count (now history) ⌝ }
     ensures { λ r. ⌜ ((starts : List ℕ) → History (now (job .entry)) starts (now (history .entry))
         → FormulaTable (now (and .entry)) (now (or .entry)) (now (job .entry)) (valueAt (now (job .entry)) starts) r) ⌝ }
 {
     let last = last_of(job[0]);
-    let mut values = [FAILS; 4096];
+    let mut values = [FAILS; FORMULA_VALUES];
     let mut t = 0;
     while t <= last {
         fill_moment(and, or, job, formulas, count, history, t, &mut values);
@@ -134,10 +138,10 @@ pub fn formula_values(
 // The same by the lesser and the greater.
 pub fn standard_values(
     job: &[u32],
-    formulas: &[usize; 64],
+    formulas: &[usize; FORMULAS],
     count: usize,
-    history: &[u8; 16384],
-) -> [u8; 4096]
+    history: &[u8; STATES],
+) -> [u8; FORMULA_VALUES]
     requires { ⌜ Grounds (now job) (now formulas) count (now history) ⌝ }
     ensures { λ r. ⌜ ((starts : List ℕ) → History (now (job .entry)) starts (now (history .entry))
         → FormulaTable andTable orTable (now (job .entry)) (valueAt (now (job .entry)) starts) r) ⌝ }

@@ -4,7 +4,16 @@ ghost use Prim.Native.Nat.{ℕ, _+_, _*_, _<_, _≤_};
 ghost use lib.ListN.{getD};
 ghost use Rattle.bitset.specs.Code.Members.{In};
 ghost use Rattle.keeping.specs.Code.Tables.{pairAt};
+use words::CONDITIONS;
+use words::MEMBERS;
 use words::MOMENTS;
+
+// The sizes of a task set's tables: masks by condition and begin, entries by two members and a moment, rows by member and moment.
+pub const MASKS: usize = CONDITIONS * MOMENTS;
+
+pub const PAIRS: usize = MEMBERS * MEMBERS * MOMENTS;
+
+pub const ROWS: usize = MEMBERS * MOMENTS;
 
 // The begins and ends that one member may still have.
 pub struct Choice {
@@ -17,11 +26,11 @@ pub fn pair_index(i: usize, j: usize, x: u32) -> usize
     requires { ⌜ (i < 4) × (j < 4) × (x < 64) ⌝ }
     ensures { λ r. ⌜ (r ≡ (i * 4 + j) * 64 + x) × (r < 1024) ⌝ }
 {
-    (i * 4 + j) * MOMENTS + x as usize
+    (i * MEMBERS + j) * MOMENTS + x as usize
 }
 
-// That entry.
-pub fn pair_at(table: &[u64; 1024], i: usize, j: usize, x: u32) -> u64
+// Reads the table entry of members i and j at moment x.
+pub fn pair_at(table: &[u64; PAIRS], i: usize, j: usize, x: u32) -> u64
     requires { ⌜ (i < 4) × (j < 4) × (x < 64) ⌝ }
     ensures { λ r. ⌜ r ≡ pairAt (now (table .entry)) i j x ⌝ }
 {
@@ -30,9 +39,9 @@ pub fn pair_at(table: &[u64; 1024], i: usize, j: usize, x: u32) -> u64
 
 // What member j keeps where member i begins at x, within a window of moments.
 pub fn narrowed(
-    ends: &[u64; 1024],
-    goes: &[u64; 1024],
-    later: &[u64; 256],
+    ends: &[u64; PAIRS],
+    goes: &[u64; PAIRS],
+    later: &[u64; ROWS],
     i: usize,
     x: u32,
     j: usize,

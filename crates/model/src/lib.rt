@@ -3,16 +3,21 @@
 ghost use Prim.Native.Nat.{_<_};
 ghost use lib.ListN.{length};
 ghost use Rattle.model.specs.Code.Arrays.{SetWords};
+use words::ACTIONS;
+use words::CONDITION;
+use words::FORMULA_VALUES;
+use words::MEMBER;
+use words::NODES;
 
 // Node p's word stands at places[p] of the job, and after it those of its members and conditions; starts[a] is the set of the moments at
 // which action a starts; values has the value of formula k at moment t at k * 64 + t.
 pub struct Arrays {
     pub count: usize,
     pub last: usize,
-    pub places: [usize; 64],
-    pub starts: [u64; 64],
-    pub durations: [usize; 64],
-    pub values: [u8; 4096],
+    pub places: [usize; NODES],
+    pub starts: [u64; ACTIONS],
+    pub durations: [usize; ACTIONS],
+    pub values: [u8; FORMULA_VALUES],
 }
 
 // A node, read from the moment `begin` to the moment `end`.
@@ -34,8 +39,8 @@ pub fn set_counts(words: &[u32], place: usize) -> SetCounts
     ensures { λ r. ⌜ SetWords (now (words .entry)) place r ⌝ }
 {
     let first = place + 1;
-    let members = words::run_length(words, first, 7);
-    let conditions = words::run_length(words, first + members, 8);
+    let members = words::run_length(words, first, MEMBER);
+    let conditions = words::run_length(words, first + members, CONDITION);
     SetCounts {
         members,
         conditions,

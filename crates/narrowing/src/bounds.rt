@@ -7,15 +7,19 @@ ghost use Rattle.covering.specs.Code.Cover.{entryAt};
 ghost use Rattle.narrowing.specs.Code.Tables.{BoundsHave, Bounded};
 ghost use Rattle.narrowing.specs.Code.Open.{InDomains};
 use crate::Open;
+use keeping::PAIRS;
+use words::MEMBERS;
 use words::MOMENTS;
 
-// The bounds have 1024 words of later ends, 1024 of sooner ones, and for each member j a word of the members w for which they are filled.
-pub const SOONER: usize = 1024;
+// The bounds are a table of later ends by pairs, one of sooner ends, and for each member j a word of the members w for which both are filled.
+pub const SOONER: usize = PAIRS;
 
-pub const FILLED: usize = 2048;
+pub const FILLED: usize = 2 * PAIRS;
+
+pub const BOUNDS: usize = FILLED + MEMBERS;
 
 // The begins of row p with which an end may be one of `ends`.
-fn beside(bounds: &[u64; 2052], p: usize, ends: u64) -> u64
+fn beside(bounds: &[u64; BOUNDS], p: usize, ends: u64) -> u64
     requires { ⌜ p < 16 ⌝ }
     ensures { λ r. ⌜ ((y e : ℕ) → In ends e → Bounded (now (bounds .entry)) p y e → In r y) ⌝ }
 {
@@ -28,7 +32,7 @@ fn beside(bounds: &[u64; 2052], p: usize, ends: u64) -> u64
 }
 
 // What the ends of all members leave of the begins of member j.
-fn bounded(bounds: &[u64; 2052], count: usize, j: usize, begins: u64, ends: [u64; 4]) -> u64
+fn bounded(bounds: &[u64; BOUNDS], count: usize, j: usize, begins: u64, ends: [u64; MEMBERS]) -> u64
     requires { ⌜ (count ≤ 4) × (j < count) ⌝ }
     ensures { λ r. ⌜ ((bs es : ℕ → ℕ) → BoundsHave count (now (bounds .entry)) bs es → In begins (bs j) → ((i : ℕ) → i < count → In (entryAt ends i) (es i)) → In r (bs j)) × ((x : ℕ) → In r x → In begins x) ⌝ }
 {
@@ -36,14 +40,14 @@ fn bounded(bounds: &[u64; 2052], count: usize, j: usize, begins: u64, ends: [u64
     let mut rest = bitset::inter(bounds[FILLED + j], bitset::upto(count as u32 - 1));
     while rest != 0 {
         let w = bitset::lowest(rest) as usize;
-        r = bitset::inter(r, beside(bounds, w * 4 + j, ends[w]));
+        r = bitset::inter(r, beside(bounds, w * MEMBERS + j, ends[w]));
         rest = bitset::drop_lowest(rest);
     }
     r
 }
 
 // The set with the begins that the bounds leave. It has no ends where they leave none.
-pub fn tighten(bounds: &[u64; 2052], count: usize, state: Open) -> Open
+pub fn tighten(bounds: &[u64; BOUNDS], count: usize, state: Open) -> Open
     requires { ⌜ (count ≤ 4) × (state .last < count) ⌝ }
     ensures { λ r. ⌜ (r .from ≡ state .from) × (r .last ≡ state .last) × (r .left ≡ state .left) × ((bs es : ℕ → ℕ) → BoundsHave count (now (bounds .entry)) bs es → InDomains count state bs es → InDomains count r bs es) ⌝ }
 {
@@ -62,7 +66,7 @@ pub fn tighten(bounds: &[u64; 2052], count: usize, state: Open) -> Open
                     last,
                     left,
                     begins,
-                    ends: [0; 4],
+                    ends: [0; MEMBERS],
                 };
             }
             begins[j] = kept;

@@ -12,6 +12,10 @@ ghost use Rattle.narrowing.specs.Code.Open.{UnplacedReady, PutReady, InD
 
 pub mod bounds;
 
+use bounds::BOUNDS;
+use keeping::PAIRS;
+use keeping::ROWS;
+use words::MEMBERS;
 use words::MOMENTS;
 
 // A set from moment `from`: the begins and ends that each member may still have. Those in `left` are not placed; `last` ends last.
@@ -19,15 +23,15 @@ pub struct Open {
     pub from: u32,
     pub last: usize,
     pub left: u64,
-    pub begins: [u64; 4],
-    pub ends: [u64; 4],
+    pub begins: [u64; MEMBERS],
+    pub ends: [u64; MEMBERS],
 }
 
 // The set with member i begun at x. It has no end for `last` where nothing is left.
 fn put(
-    ends: &[u64; 1024],
-    goes: &[u64; 1024],
-    later: &[u64; 256],
+    ends: &[u64; PAIRS],
+    goes: &[u64; PAIRS],
+    later: &[u64; ROWS],
     count: usize,
     state: Open,
     i: usize,
@@ -170,10 +174,10 @@ fn beyond(state: Open, found: u64) -> Open
 
 // The set with member i begun at x, to ends that are not found yet. Where no end is left for `last`, the bounds are not asked.
 pub fn placed(
-    ends: &[u64; 1024],
-    goes: &[u64; 1024],
-    later: &[u64; 256],
-    bounds: &[u64; 2052],
+    ends: &[u64; PAIRS],
+    goes: &[u64; PAIRS],
+    later: &[u64; ROWS],
+    bounds: &[u64; BOUNDS],
     count: usize,
     state: Open,
     i: usize,
@@ -193,12 +197,12 @@ pub fn placed(
 }
 
 // The set from a to z before any member is placed: each may begin at any moment, and `last` ends at one of `goal`.
-pub fn unplaced(later: &[u64; 256], count: usize, a: u32, z: u32, last: usize, goal: u64) -> Open
+pub fn unplaced(later: &[u64; ROWS], count: usize, a: u32, z: u32, last: usize, goal: u64) -> Open
     requires { ⌜ UnplacedReady count last a z ⌝ }
     ensures { λ r. ⌜ (r .from ≡ a) × (r .last ≡ last) × ((i : ℕ) → In (r .left) i ↔ (i < count)) × ((ends goes : List ℕ) (bs es : ℕ → ℕ) → InTables ends goes (now (later .entry)) count a bs es → ((i : ℕ) → i < count → (a ≤ bs i) × (bs i ≤ es i) × (es i ≤ es last) × (es i ≤ z)) → In goal (es last) → InDomains count r bs es) ⌝ }
 {
     let every = bitset::between(a, z);
-    let mut ends = [0u64; 4];
+    let mut ends = [0u64; MEMBERS];
     let mut i = 0;
     while i < count {
         ends[i] = later[i * MOMENTS + a as usize];

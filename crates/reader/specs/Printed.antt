@@ -8,7 +8,7 @@ use Rattle.io.specs.Counts.{Counts}
 use Rattle.reader.specs.declared.Attempt.{Attempt}
 use Rattle.reader.specs.declared.File.{File}
 use Rattle.reader.specs.declared.File.the-variants.{Bytes, Bad}
-use Rattle.reader.specs.Reply.{badFile, Reply}
+use Rattle.reader.specs.Reply.{badFile, textRoom, Reply}
 
 -- a descriptor of 0 or more, n bytes, and what the read after them answered: the file ends there, it goes on, or the read failed
 abbrev pub fileBy : ℤ → ℕ → ℤ → File
@@ -24,7 +24,7 @@ fileOf a = fileBy (a .fd) (a .bytes) (a .next)
 pub record BothRead (ofJob ofPlan : Attempt) (job plan out : List ℕ) : Type 0 where
   pub in-job : Counts (ofJob .bytes) job
   pub in-plan : Counts (ofPlan .bytes) plan
-  pub wide : 36964 ≤ length out
+  pub wide : textRoom ≤ length out
 
 -- both files were read whole: the reply to exactly their bytes, at the start of the buffers; else 'bad file'
 abbrev pub Printed : File → File → List ℕ → List ℕ → List ℕ → Type 0

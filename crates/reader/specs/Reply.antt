@@ -16,6 +16,10 @@ badFile = 98 ∷ 97 ∷ 100 ∷ 32 ∷ 102 ∷ 105 ∷ 108 ∷ 101 ∷ 10 ∷ []
 abbrev pub goodFiles : List ℕ → List ℕ → Bool
 goodFiles job plan = sized (length job) && sized (length plan)
 
+-- the most bytes that are printed: a line of at most 100, and a line of nine for each of 4,096 words
+abbrev pub textRoom : ℕ
+textRoom = 36964
+
 -- the buffer that find is lent: 4,096 words
 unfoldable pub lent : List ℕ
 lent = replicate 4096 0

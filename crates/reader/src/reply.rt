@@ -5,14 +5,14 @@ ghost use Prim.Native.Nat.{_≤_};
 ghost use lib.ListN.{length, take};
 ghost use Rattle.io.specs.Counts.{Counts};
 ghost use Rattle.text.specs.Files.{sized, wordsOf};
-ghost use Rattle.reader.specs.Reply.{badFile, lent, Answered, Reply};
+ghost use Rattle.reader.specs.Reply.{badFile, textRoom, lent, Answered, Reply};
 ghost use Rattle.reader.specs.Code.Buffers.{ReplyRoom};
 use text::files;
 use text::report;
 
 // The text is at the start of out, and the answer is its length.
 pub fn reply(job: &[u8], plan: &[u8], out: &mut [u8]) -> usize
-    requires { ⌜ 36964 ≤ length (now out) ⌝ }
+    requires { ⌜ textRoom ≤ length (now out) ⌝ }
     ensures counts { λ r. ⌜ Counts r (now (out .exit)) ⌝ }
     ensures text { λ r. ⌜ Reply (now (job .entry)) (now (plan .entry)) (take r (now (out .exit))) ⌝ }
 {
@@ -26,7 +26,7 @@ pub fn reply(job: &[u8], plan: &[u8], out: &mut [u8]) -> usize
 }
 
 pub fn bad_file(out: &mut [u8]) -> usize
-    requires { ⌜ 36964 ≤ length (now out) ⌝ }
+    requires { ⌜ textRoom ≤ length (now out) ⌝ }
     ensures counts { λ r. ⌜ Counts r (now (out .exit)) ⌝ }
     ensures text { λ r. ⌜ take r (now (out .exit)) ≡ badFile ⌝ }
 {
@@ -45,6 +45,9 @@ fn are_sized(job: usize, plan: usize) -> bool
 
 const FILE_WORDS: usize = files::MAX_BYTES / 4;
 
+// How many words find is lent.
+const LENT_WORDS: usize = 4096;
+
 // Zeros, as values whose length alone is known: a goal does not write them out.
 fn file_words() -> [u32; FILE_WORDS]
     ensures { λ r. ⌜ 8192 ≡ length r ⌝ }
@@ -52,10 +55,10 @@ fn file_words() -> [u32; FILE_WORDS]
     [0; FILE_WORDS]
 }
 
-fn lent_words() -> [u32; 4096]
+fn lent_words() -> [u32; LENT_WORDS]
     ensures { λ r. ⌜ r ≡ lent ⌝ }
 {
-    [0; 4096]
+    [0; LENT_WORDS]
 }
 
 // The same for files of a good size, with the room that it needs.
@@ -77,7 +80,7 @@ fn reply_in(
 }
 
 fn reply_words(job: &[u32], plan: &[u32], buffer: &mut [u32], out: &mut [u8]) -> usize
-    requires { ⌜ (now buffer ≡ lent) × (36964 ≤ length (now out)) ⌝ }
+    requires { ⌜ (now buffer ≡ lent) × (textRoom ≤ length (now out)) ⌝ }
     ensures counts { λ r. ⌜ Counts r (now (out .exit)) ⌝ }
     ensures text { λ r. ⌜ Answered (now (job .entry)) (now (plan .entry)) (take r (now (out .exit))) ⌝ }
 {

@@ -16,7 +16,20 @@ use crate::pauses::Pause;
 use crate::pauses::Timeline;
 use crate::pauses::pause_of;
 use crate::pauses::quiet_upto;
+use words::ACTIONS;
+use words::FAILS;
+use words::FORMULA_VALUES;
+use words::HOLDS;
 use words::MOMENTS;
+use words::forms::ACT;
+use words::forms::CHOICE;
+use words::forms::END_WINDOW;
+use words::forms::IF;
+use words::forms::SEQUENCE;
+use words::forms::START_WINDOW;
+use words::forms::TASK_SET;
+use words::forms::TEST;
+use words::forms::WHILE;
 
 // The moments from `first` to `end`, none after `last`.
 fn window(first: usize, end: usize, last: usize) -> u64
@@ -67,7 +80,7 @@ fn test_row(value: u8, b: usize) -> u64
     requires { ⌜ b < 64 ⌝ }
     ensures { λ r. ⌜ ((e : ℕ) → In r e ↔ ((value ≡ holds) × (e ≡ b))) ⌝ }
 {
-    if value == 2 {
+    if value == HOLDS {
         return bitset::single(b as u32);
     }
     0
@@ -94,10 +107,10 @@ fn if_row(value: u8, table: &[u64], y: usize, m: usize, b: usize) -> u64
     requires { ⌜ TwoRows (now table) y m b ⌝ }
     ensures { λ r. ⌜ ((e : ℕ) → In r e ↔ (((value ≡ holds) × InTable (now (table .entry)) y b e) ⊎ ((value ≡ fails) × InTable (now (table .entry)) m b e))) ⌝ }
 {
-    if value == 2 {
+    if value == HOLDS {
         return table[y * MOMENTS + b];
     }
-    if value == 0 {
+    if value == FAILS {
         return table[m * MOMENTS + b];
     }
     0
@@ -109,10 +122,10 @@ fn while_row(guard: u8, last: usize, table: &[u64], p: usize, y: usize, b: usize
     requires { ⌜ TwoRows (now table) p y b ⌝ }
     ensures { λ r. ⌜ ((e : ℕ) → In r e ↔ (((guard ≡ fails) × (e ≡ b)) ⊎ ((guard ≡ holds) × InTurn (b + 1) last (InTable (now (table .entry)) y b) (λ m. InTable (now (table .entry)) p m e)))) ⌝ }
 {
-    if guard == 0 {
+    if guard == FAILS {
         return bitset::single(b as u32);
     }
-    if guard == 2 {
+    if guard == HOLDS {
         let passes = bitset::inter(table[y * MOMENTS + b], window(b + 1, last, last));
         return bitset::join_rows(passes, table, p * MOMENTS);
     }
@@ -153,9 +166,9 @@ fn end_window_row(last: usize, table: &[u64], x: usize, y: usize, pause: Pause, 
 // The row of a node, of which `word` is the word, at b: any form but 8, a task set, whose rows are filled together.
 pub fn row(
     word: u32,
-    starts: &[u64; 64],
-    durations: &[usize; 64],
-    values: &[u8; 4096],
+    starts: &[u64; ACTIONS],
+    durations: &[usize; ACTIONS],
+    values: &[u8; FORMULA_VALUES],
     timeline: Timeline,
     table: &[u64],
     p: usize,
@@ -170,15 +183,15 @@ pub fn row(
     let m = words::node_m(word);
     let most = words::node_n(word);
     match words::form_of(word) {
-        0 => act_row(starts[x], durations[x], last, b),
-        1 => test_row(values[x * MOMENTS + b], b),
-        2 => sequence_row(last, table, x, y, b),
-        3 => choice_row(table, x, y, b),
-        4 => if_row(values[x * MOMENTS + b], table, y, m, b),
-        5 => while_row(values[x * MOMENTS + b], last, table, p, y, b),
-        6 => start_window_row(last, table, x, y, m, most, b),
-        7 => end_window_row(last, table, x, y, pause_of(word, timeline.started), b),
-        // 9 to 15 are reserved: refused in a job, and nothing reads such a node (8 is none of `row`'s, see `fill_node`)
-        8.. => 0,
+        ACT => act_row(starts[x], durations[x], last, b),
+        TEST => test_row(values[x * MOMENTS + b], b),
+        SEQUENCE => sequence_row(last, table, x, y, b),
+        CHOICE => choice_row(table, x, y, b),
+        IF => if_row(values[x * MOMENTS + b], table, y, m, b),
+        WHILE => while_row(values[x * MOMENTS + b], last, table, p, y, b),
+        START_WINDOW => start_window_row(last, table, x, y, m, most, b),
+        END_WINDOW => end_window_row(last, table, x, y, pause_of(word, timeline.started), b),
+        // A task set never comes here (see `fill_node`). Forms 9 to 15 are reserved: a job that has one is refused, and nothing reads it.
+        TASK_SET.. => 0,
     }
 }

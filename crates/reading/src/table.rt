@@ -10,14 +10,21 @@ ghost use Rattle.reading.specs.Code.Forms.{Readable};
 ghost use Rattle.reading.specs.Code.Quiet.{startIn, AllStarts};
 ghost use Rattle.reading.specs.Code.Table.{NodeReady, NodeRows, Blank, Found, Tabulated, Entry};
 use crate::pauses::Timeline;
+use words::ACTIONS;
+use words::FORMULA_VALUES;
 use words::MOMENTS;
+use words::NODES;
+use words::forms::ACT;
+use words::forms::END_WINDOW;
+use words::forms::RESERVED;
+use words::forms::TASK_SET;
 
 // Fills the rows of node p, which is no task set, begins descending: a loop's row rests on its later rows.
 fn fill_rows(
     word: u32,
-    starts: &[u64; 64],
-    durations: &[usize; 64],
-    values: &[u8; 4096],
+    starts: &[u64; ACTIONS],
+    durations: &[usize; ACTIONS],
+    values: &[u8; FORMULA_VALUES],
     timeline: Timeline,
     p: usize,
     table: &mut [u64],
@@ -37,7 +44,7 @@ fn fill_rows(
 fn fill_set(
     words: &[u32],
     place: usize,
-    values: &[u8; 4096],
+    values: &[u8; FORMULA_VALUES],
     last: usize,
     p: usize,
     table: &mut [u64],
@@ -62,10 +69,10 @@ fn fill_set(
 // Fills the rows of node p.
 fn fill_node(
     words: &[u32],
-    places: &[usize; 64],
-    starts: &[u64; 64],
-    durations: &[usize; 64],
-    values: &[u8; 4096],
+    places: &[usize; NODES],
+    starts: &[u64; ACTIONS],
+    durations: &[usize; ACTIONS],
+    values: &[u8; FORMULA_VALUES],
     timeline: Timeline,
     p: usize,
     table: &mut [u64],
@@ -77,21 +84,29 @@ fn fill_node(
     let place = places[p];
     let word = words[place];
     match words::form_of(word) {
-        // a row for each begin, by the match of `row`
-        0..=7 | 9.. => fill_rows(word, starts, durations, values, timeline, p, table),
-        // a task set: all its rows together
-        8 => fill_set(words, place, values, timeline.last, p, table),
+        // Every other form has a row for each begin, by the match of `row`.
+        ACT..=END_WINDOW | RESERVED.. => fill_rows(
+            word,
+            starts,
+            durations,
+            values,
+            timeline,
+            p,
+            table,
+        ),
+        // The rows of a task set are filled together.
+        TASK_SET => fill_set(words, place, values, timeline.last, p, table),
     }
 }
 
 // Fills an empty table with the ends of all readings: node p has the end e from b exactly when (p, b, e) has a reading.
 pub fn fill_table(
     words: &[u32],
-    places: &[usize; 64],
+    places: &[usize; NODES],
     count: usize,
-    starts: &[u64; 64],
-    durations: &[usize; 64],
-    values: &[u8; 4096],
+    starts: &[u64; ACTIONS],
+    durations: &[usize; ACTIONS],
+    values: &[u8; FORMULA_VALUES],
     timeline: Timeline,
     table: &mut [u64],
 )
@@ -108,11 +123,11 @@ pub fn fill_table(
 // Fills an empty table, and counts the triples that have a reading.
 pub fn tabulate(
     words: &[u32],
-    places: &[usize; 64],
+    places: &[usize; NODES],
     count: usize,
-    starts: &[u64; 64],
-    durations: &[usize; 64],
-    values: &[u8; 4096],
+    starts: &[u64; ACTIONS],
+    durations: &[usize; ACTIONS],
+    values: &[u8; FORMULA_VALUES],
     timeline: Timeline,
     table: &mut [u64],
 ) -> u64

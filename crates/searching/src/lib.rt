@@ -2,16 +2,20 @@
 // member that is placed narrows those of all others.
 ghost use Rattle.ending.specs.Code.Search.{OpenReady, TryReady, Grown, FindsAll};
 use ending::Found;
+use keeping::MASKS;
+use keeping::PAIRS;
+use keeping::ROWS;
 use narrowing::Open;
+use narrowing::bounds::BOUNDS;
 
 // `found` with the ends to which the set reads.
 pub fn search(
     conds: &[u32],
-    allow: &[u64; 512],
-    ends: &[u64; 1024],
-    goes: &[u64; 1024],
-    later: &[u64; 256],
-    bounds: &[u64; 2052],
+    allow: &[u64; MASKS],
+    ends: &[u64; PAIRS],
+    goes: &[u64; PAIRS],
+    later: &[u64; ROWS],
+    bounds: &[u64; BOUNDS],
     count: usize,
     state: Open,
     found: Found,
@@ -54,11 +58,11 @@ pub fn search(
 // The same, where member i, which is left, is placed next: at each begin that it may have.
 fn tries(
     conds: &[u32],
-    allow: &[u64; 512],
-    ends: &[u64; 1024],
-    goes: &[u64; 1024],
-    later: &[u64; 256],
-    bounds: &[u64; 2052],
+    allow: &[u64; MASKS],
+    ends: &[u64; PAIRS],
+    goes: &[u64; PAIRS],
+    later: &[u64; ROWS],
+    bounds: &[u64; BOUNDS],
     count: usize,
     state: Open,
     i: usize,

@@ -8,12 +8,16 @@ ghost use Rattle.narrowing.specs.Code.Tables.{EndsHave, BoundsHave, Bounded};
 ghost use Rattle.sets.specs.Code.Tables.{InSpan};
 ghost use Rattle.sets.specs.Code.Bounds.{BoundsReady, Grows, EndMarked};
 use crate::tables::is_short;
+use keeping::PAIRS;
+use narrowing::bounds::BOUNDS;
 use narrowing::bounds::FILLED;
 use narrowing::bounds::SOONER;
 use words::MOMENTS;
+use words::forms::BEGIN_AFTER_END;
+use words::forms::HOLDS_BETWEEN;
 
 // Marks begin y in row p at the last and at the first of its ends.
-fn mark(p: usize, y: u32, mask: u64, bounds: &mut [u64; 2052])
+fn mark(p: usize, y: u32, mask: u64, bounds: &mut [u64; BOUNDS])
     requires { ⌜ (p < 16) × (y < 64) × (length (now bounds) ≡ 2052) ⌝ }
     ensures { λ _. ⌜ Grows (now (bounds .entry)) (now (bounds .exit)) × ((e : ℕ) → In mask e → EndMarked (now (bounds .exit)) p y e) ⌝ }
 {
@@ -28,7 +32,7 @@ fn mark(p: usize, y: u32, mask: u64, bounds: &mut [u64; 2052])
 }
 
 // Does so for the begins from a to z, by the ends in row p of the table.
-fn mark_pair(ends: &[u64; 1024], p: usize, a: u32, z: u32, bounds: &mut [u64; 2052])
+fn mark_pair(ends: &[u64; PAIRS], p: usize, a: u32, z: u32, bounds: &mut [u64; BOUNDS])
     requires { ⌜ (p < 16) × (a ≤ z) × (z < 64) × (length (now bounds) ≡ 2052) ⌝ }
     ensures { λ _. ⌜ Grows (now (bounds .entry)) (now (bounds .exit)) × ((y e : ℕ) → a ≤ y → y ≤ z → a ≤ e → e ≤ z → In (getD (now (ends .entry)) (p * 64 + y) 0) e → EndMarked (now (bounds .exit)) p y e) ⌝ }
 {
@@ -42,7 +46,7 @@ fn mark_pair(ends: &[u64; 1024], p: usize, a: u32, z: u32, bounds: &mut [u64; 20
 }
 
 // Adds to each of 64 entries what the entries after it have.
-fn join_down(base: usize, bounds: &mut [u64; 2052])
+fn join_down(base: usize, bounds: &mut [u64; BOUNDS])
     requires { ⌜ (base ≤ 1984) × (length (now bounds) ≡ 2052) ⌝ }
     ensures { λ _. ⌜ Grows (now (bounds .entry)) (now (bounds .exit)) × ((d e y : ℕ) → d ≤ e → e < 64 → In (getD (now (bounds .entry)) (base + e) 0) y → In (getD (now (bounds .exit)) (base + d) 0) y) ⌝ }
 {
@@ -55,7 +59,7 @@ fn join_down(base: usize, bounds: &mut [u64; 2052])
 }
 
 // Adds to each of 64 entries what the entries before it have.
-fn join_up(base: usize, bounds: &mut [u64; 2052])
+fn join_up(base: usize, bounds: &mut [u64; BOUNDS])
     requires { ⌜ (base ≤ 1984) × (length (now bounds) ≡ 2052) ⌝ }
     ensures { λ _. ⌜ Grows (now (bounds .entry)) (now (bounds .exit)) × ((d e y : ℕ) → e ≤ d → d < 64 → In (getD (now (bounds .entry)) (base + e) 0) y → In (getD (now (bounds .exit)) (base + d) 0) y) ⌝ }
 {
@@ -68,7 +72,7 @@ fn join_up(base: usize, bounds: &mut [u64; 2052])
 }
 
 // The bounds of row p.
-fn fill_pair(ends: &[u64; 1024], p: usize, a: u32, z: u32, bounds: &mut [u64; 2052])
+fn fill_pair(ends: &[u64; PAIRS], p: usize, a: u32, z: u32, bounds: &mut [u64; BOUNDS])
     requires { ⌜ (p < 16) × (a ≤ z) × (z < 64) × (length (now bounds) ≡ 2052) ⌝ }
     ensures { λ _. ⌜ Grows (now (bounds .entry)) (now (bounds .exit)) × ((y e : ℕ) → a ≤ y → y ≤ z → a ≤ e → e ≤ z → In (getD (now (ends .entry)) (p * 64 + y) 0) e → Bounded (now (bounds .exit)) p y e) ⌝ }
 {
@@ -85,8 +89,8 @@ fn tied(conds: &[u32]) -> u64 {
         let word = conds[c];
         let p = words::condition_i(word) * 4 + words::condition_j(word);
         match words::form_of(word) {
-            1 => pairs = bitset::union(pairs, bitset::single(p as u32)),
-            4 => pairs = bitset::union(pairs, bitset::single(p as u32)),
+            BEGIN_AFTER_END => pairs = bitset::union(pairs, bitset::single(p as u32)),
+            HOLDS_BETWEEN => pairs = bitset::union(pairs, bitset::single(p as u32)),
             _ => {}
         }
         c += 1;
@@ -96,13 +100,13 @@ fn tied(conds: &[u32]) -> u64 {
 
 // The bounds of the pair (w, j), where these are different members of the set.
 fn fill_members(
-    ends: &[u64; 1024],
+    ends: &[u64; PAIRS],
     count: usize,
     w: usize,
     j: usize,
     a: u32,
     z: u32,
-    bounds: &mut [u64; 2052],
+    bounds: &mut [u64; BOUNDS],
 )
     requires { ⌜ BoundsReady count a z (now bounds) ⌝ }
     ensures { λ _. ⌜ (length (now (bounds .exit)) ≡ 2052) × ((bs es : ℕ → ℕ) → InSpan count a z bs es → EndsHave count (now (ends .entry)) bs es → BoundsHave count (now (bounds .entry)) bs es → BoundsHave count (now (bounds .exit)) bs es) ⌝ }
@@ -122,11 +126,11 @@ fn fill_members(
 // The bounds of all pairs that are tied, but none where a..z is short.
 pub fn fill(
     conds: &[u32],
-    ends: &[u64; 1024],
+    ends: &[u64; PAIRS],
     count: usize,
     a: u32,
     z: u32,
-    bounds: &mut [u64; 2052],
+    bounds: &mut [u64; BOUNDS],
 )
     requires { ⌜ BoundsReady count a z (now bounds) × ((q : ℕ) → getD (now bounds) q 0 ≡ 0) ⌝ }
     ensures { λ _. ⌜ ((bs es : ℕ → ℕ) → InSpan count a z bs es → EndsHave count (now (ends .entry)) bs es → BoundsHave count (now (bounds .exit)) bs es) ⌝ }

@@ -10,10 +10,17 @@ ghost use Rattle.model.specs.Forms.{conditionNumber, HoldsBefore, HoldsAfter, H
 ghost use Rattle.sets.specs.Set.{MetAs, MetAt};
 ghost use Rattle.model.specs.Code.Arrays.{valueIn};
 ghost use Rattle.sets.specs.Code.Masks.{Allowed, Failing, MaskOf, OwnMask};
+use keeping::MASKS;
+use words::FORMULA_VALUES;
 use words::MOMENTS;
+use words::forms::BEGIN_AFTER_BEGIN;
+use words::forms::BEGIN_AFTER_END;
+use words::forms::HOLDS_AFTER;
+use words::forms::HOLDS_BEFORE;
+use words::forms::HOLDS_BETWEEN;
 
 // Of the moments from a to z, those at which formula k does not hold.
-fn failing(values: &[u8; 4096], k: usize, a: u32, z: u32) -> u64
+fn failing(values: &[u8; FORMULA_VALUES], k: usize, a: u32, z: u32) -> u64
     requires { ⌜ (k < 64) × (a ≤ z) × (z < 64) ⌝ }
     ensures { λ r. ⌜ ((t : ℕ) → a ≤ t → t ≤ z → In r t ↔ (valueIn (now (values .entry)) k t ≡ holds → ⊥)) ⌝ }
 {
@@ -50,14 +57,22 @@ fn forth(z: u32, d: u32, n: u32) -> u32
 }
 
 // The moments at which formula k does not hold, of those at which a condition of this form asks for it where it asks of moments of a..z.
-fn failing_for(values: &[u8; 4096], form: u32, k: usize, last: u32, a: u32, z: u32, n: u32) -> u64
+fn failing_for(
+    values: &[u8; FORMULA_VALUES],
+    form: u32,
+    k: usize,
+    last: u32,
+    a: u32,
+    z: u32,
+    n: u32,
+) -> u64
     requires { ⌜ (k < 64) × (last < 64) × (a ≤ z) × (z ≤ n) × (n < 64) ⌝ }
     ensures { λ r. ⌜ Failing (conditionNumber form) (valueIn (now (values .entry))) n k last a z r ⌝ }
 {
     match form {
-        2 => failing(values, k, back(a, last), z),
-        3 => failing(values, k, a, forth(z, last, n)),
-        4 => failing(values, k, a, z),
+        HOLDS_BEFORE => failing(values, k, back(a, last), z),
+        HOLDS_AFTER => failing(values, k, a, forth(z, last, n)),
+        HOLDS_BETWEEN => failing(values, k, a, z),
         _ => 0,
     }
 }
@@ -90,7 +105,7 @@ fn holds_after(fails: u64, first: u32, last: u32, y: u32, n: u32) -> bool
     bitset::inter(fails, bitset::between(y + first, y + last)) == 0
 }
 
-// The moments of a..z at which a condition of form 2, or else 3, is met.
+// The moments of a..z at which a condition of the form HOLDS_BEFORE, or else HOLDS_AFTER, is met.
 fn own_moments(form: u32, fails: u64, first: u32, last: u32, a: u32, z: u32, n: u32) -> u64
     requires { ⌜ (first < 64) × (last < 64) × (a ≤ z) × (z ≤ n) × (n < 64) ⌝ }
     ensures { λ r. ⌜ OwnMask form n first last a z fails r ⌝ }
@@ -98,7 +113,7 @@ fn own_moments(form: u32, fails: u64, first: u32, last: u32, a: u32, z: u32, n: 
     let mut mask = 0;
     let mut y = a;
     while y <= z {
-        let met = if form == 2 {
+        let met = if form == HOLDS_BEFORE {
             holds_before(fails, first, last, y)
         } else {
             holds_after(fails, first, last, y, n)
@@ -116,10 +131,10 @@ fn own_mask(form: u32, fails: u64, first: u32, last: u32, a: u32, z: u32, n: u32
     requires { ⌜ (first < 64) × (last < 64) × (a ≤ z) × (z ≤ n) × (n < 64) ⌝ }
     ensures { λ r. ⌜ OwnMask form n first last a z fails r ⌝ }
 {
-    if form < 2 {
+    if form < HOLDS_BEFORE {
         return 0;
     }
-    if 3 < form {
+    if HOLDS_AFTER < form {
         return 0;
     }
     own_moments(form, fails, first, last, a, z, n)
@@ -166,17 +181,25 @@ fn mask_at(form: u32, fails: u64, own: u64, first: u32, last: u32, x: u32, a: u3
     ensures { λ r. ⌜ ((value : ℕ → ℕ → ℕ) (n k : ℕ) → Failing (conditionNumber form) value n k last a z fails → ((form ≡ 2) → MaskOf HoldsBefore value n k first last a z x own) → ((form ≡ 3) → MaskOf HoldsAfter value n k first last a z x own) → MaskOf (conditionNumber form) value n k first last a z x r) ⌝ }
 {
     match form {
-        0 => bitset::inter(window(first, last, x), bitset::between(a, z)),
-        1 => bitset::inter(window(first, last, x), bitset::between(a, z)),
-        2 => own,
-        3 => own,
-        4 => holds_until(fails, first, last, x, a, z),
+        BEGIN_AFTER_BEGIN => bitset::inter(window(first, last, x), bitset::between(a, z)),
+        BEGIN_AFTER_END => bitset::inter(window(first, last, x), bitset::between(a, z)),
+        HOLDS_BEFORE => own,
+        HOLDS_AFTER => own,
+        HOLDS_BETWEEN => holds_until(fails, first, last, x, a, z),
         _ => 0,
     }
 }
 
 // The masks of condition w, number c, for each begin in a..z.
-fn fill_masks(values: &[u8; 4096], w: u32, c: usize, a: u32, z: u32, n: u32, allow: &mut [u64; 512])
+fn fill_masks(
+    values: &[u8; FORMULA_VALUES],
+    w: u32,
+    c: usize,
+    a: u32,
+    z: u32,
+    n: u32,
+    allow: &mut [u64; MASKS],
+)
     requires { ⌜ (c < 8) × (a ≤ z) × (z ≤ n) × (n < 64) × (length (now allow) ≡ 512) ⌝ }
     ensures { λ _. ⌜ ((x y : ℕ) → a ≤ x → x ≤ z → In (getD (now (allow .exit)) (c * 64 + x) 0) y ↔ ((a ≤ y) × (y ≤ z) × MetAt (valueIn (now (values .entry))) n w y y x)) × ((p : ℕ) → p < c * 64 → getD (now (allow .exit)) p 0 ≡ getD (now (allow .entry)) p 0) × (length (now (allow .exit)) ≡ 512) ⌝ }
 {
@@ -194,12 +217,12 @@ fn fill_masks(values: &[u8; 4096], w: u32, c: usize, a: u32, z: u32, n: u32, all
 
 // The masks of all conditions.
 pub fn fill_allowed(
-    values: &[u8; 4096],
+    values: &[u8; FORMULA_VALUES],
     conds: &[u32],
     a: u32,
     z: u32,
     n: u32,
-    allow: &mut [u64; 512],
+    allow: &mut [u64; MASKS],
 )
     requires { ⌜ (length (now conds) ≤ 8) × (a ≤ z) × (z ≤ n) × (n < 64) × (length (now allow) ≡ 512) ⌝ }
     ensures { λ _. ⌜ Allowed (valueIn (now (values .entry))) (now (conds .entry)) n a z (length (now (conds .entry))) (now (allow .exit)) ⌝ }

@@ -6,17 +6,22 @@ ghost use Rattle.bitset.specs.Code.Members.{In};
 ghost use Rattle.narrowing.specs.Code.Tables.{InTables, BoundsHave};
 ghost use Rattle.ending.specs.Code.Search.{Masked, SearchReady, Grown};
 use ending::Found;
+use keeping::MASKS;
+use keeping::PAIRS;
+use keeping::ROWS;
+use narrowing::bounds::BOUNDS;
+use words::MEMBERS;
 use words::MOMENTS;
 
 // `found` with the ends of `goal` from a where member `first` begins at a and `last` ends last. Nothing is placed where `last` has none that is
 // not found yet.
 fn from_first(
     conds: &[u32],
-    allow: &[u64; 512],
-    ends: &[u64; 1024],
-    goes: &[u64; 1024],
-    later: &[u64; 256],
-    bounds: &[u64; 2052],
+    allow: &[u64; MASKS],
+    ends: &[u64; PAIRS],
+    goes: &[u64; PAIRS],
+    later: &[u64; ROWS],
+    bounds: &[u64; BOUNDS],
     count: usize,
     a: u32,
     first: usize,
@@ -53,11 +58,11 @@ fn from_first(
 // The same for each member that may end last.
 fn from_each(
     conds: &[u32],
-    allow: &[u64; 512],
-    ends: &[u64; 1024],
-    goes: &[u64; 1024],
-    later: &[u64; 256],
-    bounds: &[u64; 2052],
+    allow: &[u64; MASKS],
+    ends: &[u64; PAIRS],
+    goes: &[u64; PAIRS],
+    later: &[u64; ROWS],
+    bounds: &[u64; BOUNDS],
     count: usize,
     a: u32,
     first: usize,
@@ -95,11 +100,11 @@ fn from_each(
 // The ends of `goal` to which the set reads from a, and perhaps other ends to which it reads.
 pub fn row(
     conds: &[u32],
-    allow: &[u64; 512],
-    ends: &[u64; 1024],
-    goes: &[u64; 1024],
-    later: &[u64; 256],
-    bounds: &[u64; 2052],
+    allow: &[u64; MASKS],
+    ends: &[u64; PAIRS],
+    goes: &[u64; PAIRS],
+    later: &[u64; ROWS],
+    bounds: &[u64; BOUNDS],
     count: usize,
     a: u32,
     z: u32,
@@ -111,7 +116,7 @@ pub fn row(
     let mut found = Found {
         upto: z,
         ends: 0,
-        begins: [0; 4],
+        begins: [0; MEMBERS],
     };
     let mut first = 0;
     while first < count {

@@ -7,10 +7,16 @@ ghost use Rattle.model.specs.Code.Table.{InTable};
 use crate::bounds;
 use crate::firsts;
 use crate::tables;
+use keeping::MASKS;
+use keeping::PAIRS;
+use keeping::ROWS;
+use narrowing::bounds::BOUNDS;
+use words::FORMULA_VALUES;
+use words::MEMBERS;
 
 pub struct Placement {
-    pub begins: [u32; 4],
-    pub ends: [u32; 4],
+    pub begins: [u32; MEMBERS],
+    pub ends: [u32; MEMBERS],
 }
 
 // The greatest member up to e. There is one.
@@ -25,11 +31,11 @@ fn greatest_upto(x: u64, e: u32) -> u32
 }
 
 // The greatest end up to e of each of the first count masks.
-fn greatest_ends(sets: [u64; 4], count: usize, e: u32) -> [u32; 4]
+fn greatest_ends(sets: [u64; MEMBERS], count: usize, e: u32) -> [u32; MEMBERS]
     requires { ⌜ (e < 64) × (count ≤ 4) × ((i : ℕ) → i < count → (y : ℕ) × In (entryAt sets i) y × (y ≤ e)) ⌝ }
     ensures { λ r. ⌜ ((i : ℕ) → i < count → Highest (entryAt sets i) e (entryAt r i)) ⌝ }
 {
-    let mut ends = [0u32; 4];
+    let mut ends = [0u32; MEMBERS];
     let mut i = 0;
     while i < count {
         ends[i] = greatest_upto(sets[i], e);
@@ -42,7 +48,7 @@ fn greatest_ends(sets: [u64; 4], count: usize, e: u32) -> [u32; 4]
 fn place_by_tables(
     members: &[u32],
     conds: &[u32],
-    values: &[u8; 4096],
+    values: &[u8; FORMULA_VALUES],
     table: &[u64],
     b: u32,
     e: u32,
@@ -52,11 +58,11 @@ fn place_by_tables(
     ensures { λ r. ⌜ Placed (taskSetOf (now (members .entry)) (now (conds .entry)) (now (values .entry)) n) (InTable (now (table .entry))) b e (entryAt (r .begins)) (entryAt (r .ends)) ⌝ }
 {
     let every = bitset::from(0);
-    let mut allow = [0u64; 512];
-    let mut ends = [every; 1024];
-    let mut goes = [every; 1024];
-    let mut later = [0u64; 256];
-    let mut bounds = [0u64; 2052];
+    let mut allow = [0u64; MASKS];
+    let mut ends = [every; PAIRS];
+    let mut goes = [every; PAIRS];
+    let mut later = [0u64; ROWS];
+    let mut bounds = [0u64; BOUNDS];
     tables::fill(
         members,
         conds,
@@ -95,7 +101,7 @@ fn place_by_tables(
 pub fn place(
     members: &[u32],
     conds: &[u32],
-    values: &[u8; 4096],
+    values: &[u8; FORMULA_VALUES],
     table: &[u64],
     b: u32,
     e: u32,

@@ -4,13 +4,18 @@ ghost use Rattle.sets.specs.Code.Rows.{taskSetOf, SetReady, SetRows};
 use crate::bounds;
 use crate::firsts;
 use crate::tables;
+use keeping::MASKS;
+use keeping::PAIRS;
+use keeping::ROWS;
+use narrowing::bounds::BOUNDS;
+use words::FORMULA_VALUES;
 use words::MOMENTS;
 
 // The rows of the task set at node p.
 pub fn set_rows(
     members: &[u32],
     conds: &[u32],
-    values: &[u8; 4096],
+    values: &[u8; FORMULA_VALUES],
     p: usize,
     n: u32,
     table: &mut [u64],
@@ -19,11 +24,11 @@ pub fn set_rows(
     ensures { λ _. ⌜ SetRows (taskSetOf (now (members .entry)) (now (conds .entry)) (now (values .entry)) n) p (now (table .entry)) (now (table .exit)) ⌝ }
 {
     let every = bitset::from(0);
-    let mut allow = [0u64; 512];
-    let mut ends = [every; 1024];
-    let mut goes = [every; 1024];
-    let mut later = [0u64; 256];
-    let mut bounds = [0u64; 2052];
+    let mut allow = [0u64; MASKS];
+    let mut ends = [every; PAIRS];
+    let mut goes = [every; PAIRS];
+    let mut later = [0u64; ROWS];
+    let mut bounds = [0u64; BOUNDS];
     tables::fill(
         members,
         conds,

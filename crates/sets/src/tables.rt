@@ -13,9 +13,15 @@ ghost use Rattle.keeping.specs.Code.Tables.{pairAt};
 ghost use Rattle.ending.specs.Code.Ends.{MetAtMask, MetByMask};
 ghost use Rattle.sets.specs.Code.Tables.{Have, LeftOut, Cut, ConditionReady, ConditionsReady, InSpan, OwnRow, OwnRows, LaterReady, TablesReady, Tables};
 use crate::conditions;
+use keeping::MASKS;
+use keeping::PAIRS;
+use keeping::ROWS;
 use keeping::pair_at;
 use keeping::pair_index;
+use words::FORMULA_VALUES;
 use words::MOMENTS;
+use words::forms::BEGIN_AFTER_BEGIN;
+use words::forms::HOLDS_BEFORE;
 
 const FEW: u32 = 4;
 
@@ -27,7 +33,7 @@ pub fn is_short(a: u32, z: u32) -> bool
 }
 
 // Leaves out of row p of a table, from a to z, what the masks of condition c leave out.
-fn cut(table: &mut [u64; 1024], p: usize, allow: &[u64; 512], c: usize, a: u32, z: u32)
+fn cut(table: &mut [u64; PAIRS], p: usize, allow: &[u64; MASKS], c: usize, a: u32, z: u32)
     requires { ⌜ (p < 16) × (c < 8) × (a ≤ z) × (z < 64) ⌝ }
     ensures { λ _. ⌜ Cut (now (table .entry)) p (now (allow .entry)) c a z (now (table .exit)) ⌝ }
 {
@@ -42,11 +48,11 @@ fn cut(table: &mut [u64; 1024], p: usize, allow: &[u64; 512], c: usize, a: u32, 
 fn cut_for(
     w: u32,
     c: usize,
-    allow: &[u64; 512],
+    allow: &[u64; MASKS],
     a: u32,
     z: u32,
-    ends: &mut [u64; 1024],
-    goes: &mut [u64; 1024],
+    ends: &mut [u64; PAIRS],
+    goes: &mut [u64; PAIRS],
 )
     requires { ⌜ ConditionReady w c a z ⌝ }
     ensures { λ _. ⌜ ((count : ℕ) (bs es : ℕ → ℕ) → InSpan count a z bs es → count ≤ 4 → conditionI w < count → conditionJ w < count → MetAtMask w (now (allow .entry)) bs c (es (conditionI w)) → Have (now (ends .entry)) (now (goes .entry)) count bs es → Have (now (ends .exit)) (now (goes .exit)) count bs es) ⌝ }
@@ -55,8 +61,8 @@ fn cut_for(
     let i = words::condition_i(w);
     let j = ending::ends::partner(form, i, words::condition_j(w));
     match form {
-        0 => cut(goes, j * 4 + i, allow, c, a, z),
-        2 => cut(goes, j * 4 + i, allow, c, a, z),
+        BEGIN_AFTER_BEGIN => cut(goes, j * 4 + i, allow, c, a, z),
+        HOLDS_BEFORE => cut(goes, j * 4 + i, allow, c, a, z),
         _ => cut(ends, i * 4 + j, allow, c, a, z),
     }
 }
@@ -64,11 +70,11 @@ fn cut_for(
 // Leaves out what the conditions leave out.
 fn cut_all(
     conds: &[u32],
-    allow: &[u64; 512],
+    allow: &[u64; MASKS],
     a: u32,
     z: u32,
-    ends: &mut [u64; 1024],
-    goes: &mut [u64; 1024],
+    ends: &mut [u64; PAIRS],
+    goes: &mut [u64; PAIRS],
 )
     requires { ⌜ ConditionsReady (now conds) a z ⌝ }
     ensures { λ _. ⌜ ((count : ℕ) (bs es : ℕ → ℕ) → InSpan count a z bs es → count ≤ 4 → ((c : ℕ) → c < length (now (conds .entry)) → (conditionI (getD (now (conds .entry)) c 0) < count) × (conditionJ (getD (now (conds .entry)) c 0) < count) × MetByMask (now (conds .entry)) (now (allow .entry)) bs c (es (conditionI (getD (now (conds .entry)) c 0)))) → Have (now (ends .entry)) (now (goes .entry)) count bs es → Have (now (ends .exit)) (now (goes .exit)) count bs es) ⌝ }
@@ -87,8 +93,8 @@ fn own_row(
     i: usize,
     x: u32,
     z: u32,
-    ends: &[u64; 1024],
-    goes: &[u64; 1024],
+    ends: &[u64; PAIRS],
+    goes: &[u64; PAIRS],
 ) -> u64
     requires { ⌜ (m * 64 + 64 ≤ length (now table)) × (i < 4) × (x ≤ z) × (z < 64) ⌝ }
     ensures { λ r. ⌜ ((e : ℕ) → In r e ↔ (InTable (now (table .entry)) m x e × (x ≤ e) × (e ≤ z) × In (pairAt (now (ends .entry)) i i x) e × In (pairAt (now (goes .entry)) i i x) x)) ⌝ }
@@ -107,8 +113,8 @@ fn fill_own_row(
     i: usize,
     a: u32,
     z: u32,
-    goes: &[u64; 1024],
-    ends: &mut [u64; 1024],
+    goes: &[u64; PAIRS],
+    ends: &mut [u64; PAIRS],
 )
     requires { ⌜ (m * 64 + 64 ≤ length (now table)) × (i < 4) × (a ≤ z) × (z < 64) ⌝ }
     ensures { λ _. ⌜ OwnRow (InTable (now (table .entry)) m) (now (goes .entry)) i a z (now (ends .entry)) (now (ends .exit)) (z + 1) ⌝ }
@@ -127,8 +133,8 @@ fn fill_own(
     table: &[u64],
     a: u32,
     z: u32,
-    goes: &[u64; 1024],
-    ends: &mut [u64; 1024],
+    goes: &[u64; PAIRS],
+    ends: &mut [u64; PAIRS],
 )
     requires { ⌜ (length (now members) ≤ 4) × ((i : ℕ) → i < length (now members) → memberNode (getD (now members) i 0) * 64 + 64 ≤ length (now table)) × (a ≤ z) × (z < 64) ⌝ }
     ensures { λ _. ⌜ OwnRows (now (members .entry)) (now (table .entry)) (now (goes .entry)) a z (now (ends .entry)) (now (ends .exit)) (length (now (members .entry))) ⌝ }
@@ -141,7 +147,7 @@ fn fill_own(
 }
 
 // Whether members i and j, begun at x and y, may both end, and each may begin where the other does.
-fn together(ends: &[u64; 1024], goes: &[u64; 1024], i: usize, x: u32, j: usize, y: u32) -> bool
+fn together(ends: &[u64; PAIRS], goes: &[u64; PAIRS], i: usize, x: u32, j: usize, y: u32) -> bool
     requires { ⌜ (i < 4) × (j < 4) × (x < 64) × (y < 64) ⌝ }
     ensures { λ r. ⌜ ((d e : ℕ) → In (pairAt (now (ends .entry)) i i x) d → In (pairAt (now (ends .entry)) i j y) d → In (pairAt (now (ends .entry)) j j y) e → In (pairAt (now (ends .entry)) j i x) e → In (pairAt (now (goes .entry)) j i y) x → r ≡ true) ⌝ }
 {
@@ -155,7 +161,7 @@ fn together(ends: &[u64; 1024], goes: &[u64; 1024], i: usize, x: u32, j: usize, 
 }
 
 // The begins of member j, where member i begins at x, with which both may end.
-fn partners(ends: &[u64; 1024], goes: &[u64; 1024], i: usize, x: u32, j: usize) -> u64
+fn partners(ends: &[u64; PAIRS], goes: &[u64; PAIRS], i: usize, x: u32, j: usize) -> u64
     requires { ⌜ (i < 4) × (j < 4) × (x < 64) ⌝ }
     ensures { λ r. ⌜ ((y d e : ℕ) → In (pairAt (now (goes .entry)) i j x) y → In (pairAt (now (ends .entry)) i i x) d → In (pairAt (now (ends .entry)) i j y) d → In (pairAt (now (ends .entry)) j j y) e → In (pairAt (now (ends .entry)) j i x) e → In (pairAt (now (goes .entry)) j i y) x → In r y) ⌝ }
 {
@@ -175,7 +181,7 @@ fn partners(ends: &[u64; 1024], goes: &[u64; 1024], i: usize, x: u32, j: usize) 
 }
 
 // The ends of member i where member j has one of these begins.
-fn some_ends(ends: &[u64; 1024], i: usize, j: usize, begins: u64) -> u64
+fn some_ends(ends: &[u64; PAIRS], i: usize, j: usize, begins: u64) -> u64
     requires { ⌜ (i < 4) × (j < 4) ⌝ }
     ensures { λ r. ⌜ ((y e : ℕ) → In begins y → In (pairAt (now (ends .entry)) i j y) e → In r e) ⌝ }
 {
@@ -190,7 +196,7 @@ fn some_ends(ends: &[u64; 1024], i: usize, j: usize, begins: u64) -> u64
 
 // Leaves out, for the pair of members i and j, the begins of j with which no ends of both are left, and the ends of i with which no begin of j
 // is left.
-fn cut_pair(i: usize, j: usize, a: u32, z: u32, ends: &mut [u64; 1024], goes: &mut [u64; 1024])
+fn cut_pair(i: usize, j: usize, a: u32, z: u32, ends: &mut [u64; PAIRS], goes: &mut [u64; PAIRS])
     requires { ⌜ (i < 4) × (j < 4) × (a ≤ z) × (z < 64) ⌝ }
     ensures { λ _. ⌜ ((count : ℕ) → i < count → j < count → count ≤ 4 → LeftOut count a z (now (ends .entry)) (now (goes .entry)) (now (ends .exit)) (now (goes .exit))) ⌝ }
 {
@@ -226,8 +232,8 @@ fn cut_members(
     j: usize,
     a: u32,
     z: u32,
-    ends: &mut [u64; 1024],
-    goes: &mut [u64; 1024],
+    ends: &mut [u64; PAIRS],
+    goes: &mut [u64; PAIRS],
 )
     requires { ⌜ (count ≤ 4) × (a ≤ z) × (z < 64) ⌝ }
     ensures { λ _. ⌜ LeftOut count a z (now (ends .entry)) (now (goes .entry)) (now (ends .exit)) (now (goes .exit)) ⌝ }
@@ -249,8 +255,8 @@ fn cut_pairs(
     count: usize,
     a: u32,
     z: u32,
-    ends: &mut [u64; 1024],
-    goes: &mut [u64; 1024],
+    ends: &mut [u64; PAIRS],
+    goes: &mut [u64; PAIRS],
 )
     requires { ⌜ (count ≤ 4) × (a ≤ z) × (z < 64) ⌝ }
     ensures { λ _. ⌜ LeftOut count a z (now (ends .entry)) (now (goes .entry)) (now (ends .exit)) (now (goes .exit)) ⌝ }
@@ -269,8 +275,8 @@ fn cut_constrained(
     count: usize,
     a: u32,
     z: u32,
-    ends: &mut [u64; 1024],
-    goes: &mut [u64; 1024],
+    ends: &mut [u64; PAIRS],
+    goes: &mut [u64; PAIRS],
 )
     requires { ⌜ (count ≤ 4) × (a ≤ z) × (z < 64) ⌝ }
     ensures { λ _. ⌜ LeftOut count a z (now (ends .entry)) (now (goes .entry)) (now (ends .exit)) (now (goes .exit)) ⌝ }
@@ -282,7 +288,7 @@ fn cut_constrained(
 }
 
 // The ends of member i begun at x or later, for each x from z down to a.
-fn fill_later_row(ends: &[u64; 1024], i: usize, a: u32, z: u32, later: &mut [u64; 256])
+fn fill_later_row(ends: &[u64; PAIRS], i: usize, a: u32, z: u32, later: &mut [u64; ROWS])
     requires { ⌜ (i < 4) × LaterReady a z (now later) ⌝ }
     ensures { λ _. ⌜ ((x y e : ℕ) → a ≤ x → x ≤ y → y ≤ z → In (pairAt (now (ends .entry)) i i y) e → In (getD (now (later .exit)) (i * 64 + x) 0) e) × ((p : ℕ) → p < i * 64 → getD (now (later .exit)) p 0 ≡ getD (now (later .entry)) p 0) × (length (now (later .exit)) ≡ 256) ⌝ }
 {
@@ -295,7 +301,7 @@ fn fill_later_row(ends: &[u64; 1024], i: usize, a: u32, z: u32, later: &mut [u64
     }
 }
 
-fn fill_later(ends: &[u64; 1024], count: usize, a: u32, z: u32, later: &mut [u64; 256])
+fn fill_later(ends: &[u64; PAIRS], count: usize, a: u32, z: u32, later: &mut [u64; ROWS])
     requires { ⌜ (count ≤ 4) × LaterReady a z (now later) ⌝ }
     ensures { λ _. ⌜ ((i x y e : ℕ) → i < count → a ≤ x → x ≤ y → y ≤ z → In (pairAt (now (ends .entry)) i i y) e → In (getD (now (later .exit)) (i * 64 + x) 0) e) ⌝ }
 {
@@ -310,15 +316,15 @@ fn fill_later(ends: &[u64; 1024], count: usize, a: u32, z: u32, later: &mut [u64
 pub fn fill(
     members: &[u32],
     conds: &[u32],
-    values: &[u8; 4096],
+    values: &[u8; FORMULA_VALUES],
     table: &[u64],
     a: u32,
     z: u32,
     n: u32,
-    allow: &mut [u64; 512],
-    ends: &mut [u64; 1024],
-    goes: &mut [u64; 1024],
-    later: &mut [u64; 256],
+    allow: &mut [u64; MASKS],
+    ends: &mut [u64; PAIRS],
+    goes: &mut [u64; PAIRS],
+    later: &mut [u64; ROWS],
 )
     requires { ⌜ TablesReady (taskSetOf (now members) (now conds) (now values) n) (now table) a z (now allow) (now ends) (now goes) (now later) ⌝ }
     ensures { λ _. ⌜ Tables (taskSetOf (now (members .entry)) (now (conds .entry)) (now (values .entry)) n) (InTable (now (table .entry))) a z (now (allow .exit)) (now (ends .exit)) (now (goes .exit)) (now (later .exit)) ⌝ }

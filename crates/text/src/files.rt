@@ -18,7 +18,7 @@ pub fn is_sized(n: usize) -> bool
 pub fn starts_length(plan: &[u32]) -> usize
     ensures { λ r. ⌜ r ≡ length (startsOf (now (plan .entry))) ⌝ }
 {
-    words::run_length(plan, 0, 9)
+    words::run_length(plan, 0, words::START)
 }
 
 // Writes the words of bytes, four bytes each and the lowest first, to the front of out, and answers how many.

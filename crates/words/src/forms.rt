@@ -32,6 +32,9 @@ pub const END_WINDOW: u32 = 7;
 
 pub const TASK_SET: u32 = 8;
 
+// The first of the node forms that are reserved, 9 to 15.
+pub const RESERVED: u32 = 9;
+
 // The forms of a condition of a task set.
 pub const BEGIN_AFTER_BEGIN: u32 = 0;
 

@@ -57,7 +57,7 @@ pub const OPEN: u8 = 1;
 
 pub const HOLDS: u8 = 2;
 
-// The sizes of tables: how many fluents, actions, moments and groups there can be.
+// How many fluents, actions, moments, groups, formulas and nodes there can be, and how many members and conditions a task set can have.
 pub const FLUENTS: usize = 256;
 
 pub const ACTIONS: usize = 64;
@@ -66,6 +66,14 @@ pub const MOMENTS: usize = 64;
 
 pub const GROUPS: usize = 8;
 
+pub const FORMULAS: usize = 64;
+
+pub const NODES: usize = 64;
+
+pub const MEMBERS: usize = 4;
+
+pub const CONDITIONS: usize = 8;
+
 // How many fluents a job may have whose head is not wide, and how many words the list of facts may have under either head.
 pub const NARROW_FLUENTS: usize = 64;
 
@@ -73,12 +81,16 @@ pub const NARROW_FACTS: usize = 4096;
 
 pub const WIDE_FACTS: usize = 16384;
 
-// The sizes of the tables by action and fluent, by moment and fluent, and by two actions.
+// The sizes of the tables by action and fluent, by moment and fluent, by two actions, by formula and moment, and by node and moment.
 pub const EFFECTS: usize = ACTIONS * FLUENTS;
 
 pub const STATES: usize = MOMENTS * FLUENTS;
 
 pub const ACTION_PAIRS: usize = ACTIONS * ACTIONS;
+
+pub const FORMULA_VALUES: usize = FORMULAS * MOMENTS;
+
+pub const ENDS: usize = NODES * MOMENTS;
 
 pub fn kind_of(w: u32) -> u32
     ensures { λ r. ⌜ (r ≡ kind w) × (r < 16) ⌝ }
@@ -168,13 +180,13 @@ fn test_by_head(head: u32, a: bool, b: bool) -> bool
 pub fn most_fluents(head: u32) -> usize
     ensures { λ r. ⌜ r ≡ mostFluents head ⌝ }
 {
-    by_head(head, 256, 64) as usize
+    by_head(head, FLUENTS as u32, NARROW_FLUENTS as u32) as usize
 }
 
 pub fn fact_room(head: u32) -> usize
     ensures { λ r. ⌜ r ≡ factRoom head ⌝ }
 {
-    by_head(head, 16384, 4096) as usize
+    by_head(head, WIDE_FACTS as u32, NARROW_FACTS as u32) as usize
 }
 
 pub fn fluents_of(head: u32) -> usize
@@ -182,7 +194,7 @@ pub fn fluents_of(head: u32) -> usize
 {
     let field = ((head >> 16) % 256) as usize;
     if is_wide(head) & (field == 0) {
-        256
+        FLUENTS
     } else {
         field
     }
@@ -254,13 +266,13 @@ pub fn role_of(head: u32, w: u32) -> u32
 pub fn makes_value(role: u32) -> bool
     ensures { λ r. ⌜ r ≡ makes role ⌝ }
 {
-    2 <= role
+    MAKES_TRUE <= role
 }
 
 pub fn made_value(role: u32) -> u8
     ensures { λ r. ⌜ r ≡ madeValue role ⌝ }
 {
-    holds_or_fails(role == 2)
+    holds_or_fails(role == MAKES_TRUE)
 }
 
 fn holds_or_fails(t: bool) -> u8
@@ -328,7 +340,7 @@ pub fn node_n(w: u32) -> usize
 pub fn is_set(w: u32) -> bool
     ensures { λ r. ⌜ r ≡ isSet w ⌝ }
 {
-    ((w >> 28) % 16 == NODE) & ((w >> 24) % 16 == 8)
+    ((w >> 28) % 16 == NODE) & ((w >> 24) % 16 == forms::TASK_SET)
 }
 
 // Member of a task set: its node, and whether the bits that it leaves spare are zero.
