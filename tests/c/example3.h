@@ -1,4 +1,4 @@
-/* The scope's case P3, Example 3 of 004 with the theory of its Example 1: the job, its starts, and 004's six states as facts. */
+/* The scope's case P3, Example 3 of 004 with the theory of its Example 1 without the action d: the job, its starts, and 004's six states as facts. */
 #ifndef EXAMPLE3_H
 #define EXAMPLE3_H
 #include <stdint.h>

@@ -43,7 +43,7 @@ p2 = record {
   number = 0x0d00000000000002;
 }
 
--- P3: Example 3 of 004 with the theory of its Example 1. Fluents 0, 1, 2 are f, g, h, all initially false; actions 0, 1, 2 are b (lasts 2, makes h), c (lasts
+-- P3: Example 3 of 004 with the theory of its Example 1, without its fourth action d, which no start uses. Fluents 0, 1, 2 are f, g, h, all initially false; actions 0, 1, 2 are b (lasts 2, makes h), c (lasts
 -- 2, makes g) and a (lasts 3, needs g and h, makes f); b start window 0..0 c, end window 0..0 a. The facts are 004's six states
 abbrev pub p3 : Case
 p3 = record {
