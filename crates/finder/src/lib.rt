@@ -6,7 +6,6 @@ ghost use Rattle.answers.specs.Code.Packed.{InRange};
 ghost use Rattle.finder.specs.Find.{Searched, Outcome};
 ghost use Rattle.finder.specs.Code.Seek.{Seekable};
 use answers::Answer;
-use answers::NO_READING;
 use answers::answer_of;
 use model::Arrays;
 use reading::pauses::Timeline;
@@ -15,6 +14,9 @@ use theory::arrays_of;
 use theory::buffer_refusal;
 use theory::judge_facts;
 use words::ENDS;
+
+// The number of the refusal that there is no reading, as an answer has it.
+const NO_READING: u64 = answers::NO_READING as u64;
 
 // Of a plan that passes: fills the table, counts, and writes a reading of the root where there is one.
 fn seek(job: &[u32], starts: &[u32], arrays: Arrays, buffer: &mut [u32]) -> Answer
@@ -48,7 +50,7 @@ fn seek(job: &[u32], starts: &[u32], arrays: Arrays, buffer: &mut [u32]) -> Answ
         return Answer::Accepted { length, count };
     }
     Answer::Refused {
-        number: NO_READING as u64,
+        number: NO_READING,
         position: 0,
         count,
     }
