@@ -33,7 +33,7 @@ use Rattle.finder.proofs.Job.{formed-job}
 use Rattle.finder.proofs.Refusals.{same-row}
 use Rattle.cases.specs.Cases.{Expected, refuses, unread, reads, Case, triple, table, bufferAfter, EachOwed}
 use Rattle.cases.proofs.Test.{decided, same, listed, distinct, sound, complete, exactly, fits, rooted, sameWords, only, answers, passed, allPassed}
-use Rattle.cases.proofs.Counts.{counted-once}
+use Rattle.reading.proofs.Counts.{counted-once}
 use Rattle.cases.proofs.Only.{on-each}
 use Rattle.cases.proofs.Computed.{computed}
 
@@ -139,7 +139,7 @@ module _ (job starts facts before : List ℕ) (room : 4096 ≤ length before) wh
   found rs h (sought e (with-reading {ws = ws} t r)) =
       let (a, b) = both-true (eqb (row .number) 0) _ h in
       let ok = formed (eq-law (row .number) 0 .0 a) in
-      (ws, r, ap (Accepted (length ws)) (counted-once t (exactly-law job starts ok rs (both-true (rooted job starts) _ b .1))), refl)
+      (ws, r, ap (Accepted (length ws)) (counted-once _ _ _ _ t (exactly-law job starts ok rs (both-true (rooted job starts) _ b .1))), refl)
 
   -- each reading of the root has these words
   root-words : (us : List ℕ) → only job starts us ≡ true → {ws : List ℕ} → RootReading job starts ws → ws ≡ us
@@ -170,7 +170,7 @@ module _ (job starts facts before : List ℕ) (room : 4096 ≤ length before) wh
       let (f, g) = both-true _ (eqb k (packed (Refused 13 0 (length rs)))) h in
       let (a, b) = both-true (eqb (row .number) 0) _ f in
       let ok = formed (eq-law (row .number) 0 .0 a) in
-      let count = counted-once t (exactly-law job starts ok rs (both-true (not (rooted job starts)) (exactly job starts rs) b .1)) in
+      let count = counted-once _ _ _ _ t (exactly-law job starts ok rs (both-true (not (rooted job starts)) (exactly job starts rs) b .1)) in
       (ap (λ (c : ℕ). packed (Refused 13 0 c)) count ∙ sym (eq-law k (packed (Refused 13 0 (length rs))) .0 g), refl)
   owed (unread rs) k h (sought e (with-reading {ws = ws} t r)) =
       let (f, g) = both-true _ (eqb k (packed (Refused 13 0 (length rs)))) h in

@@ -1,8 +1,8 @@
 -- The steps of the writers, at a node p that is to be written from b to e: that each call may be made, and that the pieces make a reading.
 -- Nothing here is about code. Assumes nothing.
 use Prim.Native.Nat.{ℕ, zero, suc, _+_, _-_, _≤_, _<_}
-use mathlib.Core.Path.{_≡_, refl, sym, ap, ap₂, _∙_}
-use mathlib.Core.Bool.{true, false, cond, true≢false}
+use mathlib.Core.Path.{_≡_, refl, ap₂, _∙_}
+use mathlib.Core.Bool.{cond}
 use mathlib.Core.Logic.{by-cases}
 use mathlib.Core.List.{List, [], _∷_, _++_, append-assoc, append-nil}
 use native.Mathlib.Decide.{ℕ-discrete}
@@ -17,12 +17,11 @@ use Rattle.words.specs.Fields.{readingWord}
 use Rattle.words.proofs.Concat.{concat-cong}
 use Rattle.model.specs.Trajectory.{Trajectory}
 use Rattle.model.specs.Procedure.{Procedure}
-use Rattle.model.specs.Forms.{Form, While, formAt, fieldY}
+use Rattle.model.specs.Forms.{While, formAt, fieldY}
 use Rattle.model.specs.declared.Triple.{Triple}
 use Rattle.reading.specs.Reading.{whole, passes, Reading, act, test, sequence, first, second, taken, otherwise, loop, done, pass, startWindow, endWindow, set}
 use Rattle.reading.proofs.Step.{onward}
 use Rattle.reading.specs.Code.Quiet.{atOnce}
-use Rattle.lengths.specs.Code.Bound.{isWhile}
 use Rattle.extract.specs.declared.parts.Parts.{Parts}
 use Rattle.extract.specs.Code.Parts.{Prepared, Choosable, Chosen, nodeOf, beginOf, endOf, partOf}
 use Rattle.extract.specs.Code.Search.{CutAt, CutReady}
@@ -45,24 +44,23 @@ nonempty (startWindow f x y g h d) = omega arith
 nonempty (endWindow f x y g h q) = omega arith
 nonempty (set f rs pl) = omega arith
 
--- a form is not another
-other : {A : Type 0} {k l : Form} (j : Form) → j ≡ k → j ≡ l → isWhile k ≡ false → isWhile l ≡ true → A
-other j f g h t = absurd (true≢false (sym t ∙ ap isWhile (sym g ∙ f) ∙ h))
+never : {A : Type 0} → _≡_ {A = ℕ} 0 1 → A
+never z = absurd (omega arith)
 
--- the reading of a loop is its word and its passes
+-- the reading of a loop is its word and its passes: a node has one form
 pub loop-of : {P : Procedure} {T : Trajectory} {p b e : ℕ} {ws : List ℕ} → formAt P p ≡ While → Reading P T whole p b e ws
     → (us : List ℕ) × Reading P T passes p b e us
-loop-of {P} {p = p} g (act f s d) = other (formAt P p) f g refl refl
-loop-of {P} {p = p} g (test f s d) = other (formAt P p) f g refl refl
-loop-of {P} {p = p} g (sequence f x y) = other (formAt P p) f g refl refl
-loop-of {P} {p = p} g (first f x) = other (formAt P p) f g refl refl
-loop-of {P} {p = p} g (second f y) = other (formAt P p) f g refl refl
-loop-of {P} {p = p} g (taken f t y) = other (formAt P p) f g refl refl
-loop-of {P} {p = p} g (otherwise f t y) = other (formAt P p) f g refl refl
+loop-of g (act f s d) = never (cc)
+loop-of g (test f s d) = never (cc)
+loop-of g (sequence f x y) = never (cc)
+loop-of g (first f x) = never (cc)
+loop-of g (second f y) = never (cc)
+loop-of g (taken f t y) = never (cc)
+loop-of g (otherwise f t y) = never (cc)
 loop-of g (loop f r) = (_, r)
-loop-of {P} {p = p} g (startWindow f x y l h d) = other (formAt P p) f g refl refl
-loop-of {P} {p = p} g (endWindow f x y l h q) = other (formAt P p) f g refl refl
-loop-of {P} {p = p} g (set f rs pl) = other (formAt P p) f g refl refl
+loop-of g (startWindow f x y l h d) = never (cc)
+loop-of g (endWindow f x y l h q) = never (cc)
+loop-of g (set f rs pl) = never (cc)
 
 pub no-pass : {P : Procedure} {T : Trajectory} {p b e : ℕ} {ws : List ℕ} → e ≤ b → Reading P T passes p b e ws → ws ≡ []
 no-pass l (done t d) = refl

@@ -1,18 +1,20 @@
--- The lists of facts ascend strictly. Assumes nothing.
+-- The list of facts ascends strictly. Assumes nothing.
 use mathlib.Core.Bool.{Bool, true, false, cond}
 use mathlib.Core.List.{List, [], _∷_, _++_}
 use Prim.Native.Nat.{ℕ, zero, suc, _+_, _*_, _^_, _≤_, _<_}
 use native.Mathlib.Nat.{le-refl, le-trans}
 use native.Mathlib.Omega.{arith}
 use lib.Dec.{eqb}
-use lib.ListN.{length, getD}
+use Rattle.words.specs.Lists.{Each, each-none, each-more, Pairs, pairs-none, pairs-more}
 use Rattle.words.specs.Scan.{concatBelow}
 use Rattle.words.specs.Fields.{unknown, holds, factMoment}
 use Rattle.job.specs.Parts.{headWord, fluents, lastMoment}
 use Rattle.job.specs.Code.WellFormed.{WellFormed}
+use Rattle.job.proofs.WellFormed.{well-formed}
 use Rattle.history.specs.Values.{valueAt}
-use Rattle.facts.specs.Facts.{factOf, factsAt, factsUpto, factsOf}
+use Rattle.facts.specs.Facts.{factOf, factsAt, factsUpto, factsOf, FactsAscend}
 use Rattle.words.proofs.Choices.{cond-all}
+use Rattle.words.proofs.Lists.{each-map}
 use Rattle.words.proofs.Wide.{moments-apart}
 
 -- the words ascend strictly, and lie from low to below high
@@ -37,16 +39,13 @@ unfolding concatBelow
 climbs-gather bound g zero h = done (le-refl (bound 0))
 climbs-gather bound g (suc n) h = climbs-append (climbs-gather bound g n (λ i l. h i (omega arith))) (h n (omega arith))
 
-climbs-at : {low high : ℕ} {ws : List ℕ} → Climbs low ws high → (i : ℕ) → i < length ws → low ≤ getD ws i 0
-climbs-at (done h) i l = absurd (omega arith)
-climbs-at (next h c) zero l = h
-climbs-at (next h c) (suc i) l = omega (arith, climbs-at c i (omega arith))
+climbs-above : {low high : ℕ} {ws : List ℕ} → Climbs low ws high → Each (λ w. low ≤ w) ws
+climbs-above (done h) = each-none
+climbs-above (next h c) = each-more h (each-map (λ w l. omega arith) (climbs-above c))
 
-climbs-ascends : {low high : ℕ} {ws : List ℕ} → Climbs low ws high → (i j : ℕ) → i < j → j < length ws → getD ws i 0 < getD ws j 0
-climbs-ascends (done h) i j l m = absurd (omega arith)
-climbs-ascends (next h c) i zero l m = absurd (omega arith)
-climbs-ascends (next h c) zero (suc j) l m = omega (arith, climbs-at c j (omega arith))
-climbs-ascends (next h c) (suc i) (suc j) l m = climbs-ascends c i j (omega arith) (omega arith)
+climbs-ascends : {low high : ℕ} {ws : List ℕ} → Climbs low ws high → Pairs (λ w w'. w < w') ws
+climbs-ascends (done h) = pairs-none
+climbs-ascends (next h c) = pairs-more (climbs-above c) (climbs-ascends c)
 
 -- the least word on moment t and fluent f
 abbrev least : ℕ → ℕ → ℕ → ℕ
@@ -63,18 +62,14 @@ fact-climbs head t f value = cases (eqb value unknown) (eqb value holds)
         let high : suc (least head t f + cond c 0 1) ≤ least head t (suc f) = omega arith in
         next low (done high)
 
-module _ {job : List ℕ} (w : WellFormed job) (starts : List ℕ) where
-  moment-climbs : (t : ℕ) → Climbs (least (headWord job) t 0) (factsAt job starts t) (least (headWord job) (suc t) 0)
-  unfolding factsAt
-  moment-climbs t =
-      let low : least (headWord job) t (fluents job) ≤ least (headWord job) (suc t) 0 = omega (arith, moments-apart (headWord job) t (fluents job) (w .fluents-by-head)) in
-      to-higher low
-      (climbs-gather (least (headWord job) t) (λ f. factOf (headWord job) t f (valueAt job starts t f)) (fluents job) (λ f l. fact-climbs (headWord job) t f (valueAt job starts t f)))
+moment-climbs : {job : List ℕ} → WellFormed job → (starts : List ℕ) (t : ℕ) → Climbs (least (headWord job) t 0) (factsAt job starts t) (least (headWord job) (suc t) 0)
+unfolding factsAt
+moment-climbs {job} w starts t =
+    let low : least (headWord job) t (fluents job) ≤ least (headWord job) (suc t) 0 = omega (arith, moments-apart (headWord job) t (fluents job) (w .fluents-by-head)) in
+    to-higher low
+    (climbs-gather (least (headWord job) t) (λ f. factOf (headWord job) t f (valueAt job starts t f)) (fluents job) (λ f l. fact-climbs (headWord job) t f (valueAt job starts t f)))
 
-  pub upto-ascend : (t i j : ℕ) → i < j → j < length (factsUpto job starts t) → getD (factsUpto job starts t) i 0 < getD (factsUpto job starts t) j 0
-  unfolding factsUpto
-  upto-ascend t = climbs-ascends (climbs-gather (λ u. least (headWord job) u 0) (factsAt job starts) (t + 1) (λ u l. moment-climbs u))
-
-  pub facts-ascend : (i j : ℕ) → i < j → j < length (factsOf job starts) → getD (factsOf job starts) i 0 < getD (factsOf job starts) j 0
-  unfolding factsOf
-  facts-ascend = upto-ascend (lastMoment job)
+pub facts-ascend : FactsAscend
+unfolding factsOf factsUpto
+facts-ascend job starts ok =
+    climbs-ascends (climbs-gather (λ u. least (headWord job) u 0) (factsAt job starts) (lastMoment job + 1) (λ u l. moment-climbs (well-formed job ok) starts u))

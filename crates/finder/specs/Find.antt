@@ -1,13 +1,14 @@
 -- What find answers and leaves in the lent buffer, for any lists of words.
 use mathlib.Core.List.{List, _∷_, _++_}
 use mathlib.Core.Path.{_≡_}
-use Prim.Native.Nat.{ℕ, _-_}
+use Prim.Native.Nat.{ℕ, _-_, _≤_, _<_}
 use lib.ListN.{length, drop}
 use Rattle.answers.specs.declared.Refusal.{Refusal}
 use Rattle.answers.specs.declared.Answer.{Answer}
 use Rattle.answers.specs.declared.Answer.the-variants.{Accepted, Refused}
 use Rattle.answers.specs.Rows.{refusal, firstRow}
 use Rattle.job.specs.Parts.{lastMoment, nodeCount}
+use Rattle.job.specs.Refusal.{jobRefusal}
 use Rattle.theory.specs.Answers.{bufferRefusal, checkRows}
 use Rattle.theory.specs.Trajectory.{planTrajectory}
 use Rattle.job.specs.Procedure.{procedureOf}
@@ -24,6 +25,13 @@ findRefusal room job starts facts = firstRow (findRows room job starts facts)
 -- the words are a reading of the root from 0 to n
 abbrev pub RootReading : List ℕ → List ℕ → List ℕ → Type 0
 RootReading job starts ws = Reading (procedureOf job) (planTrajectory job starts) whole (nodeCount job - 1) 0 (lastMoment job) ws
+
+-- No reading exceeds 4,032 words: every list of words that is a reading of any node of a well-formed job, by any starts, up to any moment of the
+-- job. `readings-bounded` (proofs/Job.antt) shows it.
+abbrev pub ReadingsBounded : Type 0
+ReadingsBounded =
+    (job starts : List ℕ) (p b e : ℕ) (ws : List ℕ) → jobRefusal job .number ≡ 0 → p < nodeCount job → e ≤ lastMoment job
+    → Reading (procedureOf job) (planTrajectory job starts) whole p b e ws → length ws ≤ 4032
 
 -- c triples (node, begin, end) have a reading
 abbrev pub Triples : List ℕ → List ℕ → ℕ → Type 0

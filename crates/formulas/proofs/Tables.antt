@@ -10,7 +10,7 @@ use borrow.Author.Tests.{eqb-true, leb-true}
 use lib.Dec.{eqb, leb}
 use lib.ListN.{length, getD, List·getD-eq-default}
 use Rattle.words.proofs.AllBelow.{allBelow, all-law}
-use Rattle.formulas.specs.Values.{andTable, orTable, byTable}
+use Rattle.formulas.specs.Values.{andTable, orTable, byTable, AndLesser, OrGreater}
 use Rattle.formulas.specs.Code.Table.{Small, Connectives}
 
 -- a table of three by three that passes is that operation
@@ -21,11 +21,11 @@ tabled op table e a b h l =
     let column : (a * 3 + b) % 3 ≡ b = omega arith in
     rw (row, column) at (eqb-true (getD table (a * 3 + b) 0) (op ((a * 3 + b) / 3) ((a * 3 + b) % 3)) (all-law (λ i. eqb (getD table i 0) (op (i / 3) (i % 3))) 9 .0 e (a * 3 + b) (omega arith)))
 
-pub and-lesser : (a b : ℕ) → a ≤ 2 → b ≤ 2 → byTable andTable a b ≡ min a b
+pub and-lesser : AndLesser
 unfolding allBelow
 and-lesser = tabled min andTable refl
 
-pub or-greater : (a b : ℕ) → a ≤ 2 → b ≤ 2 → byTable orTable a b ≡ max a b
+pub or-greater : OrGreater
 unfolding allBelow
 or-greater = tabled max orTable refl
 

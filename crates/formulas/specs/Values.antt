@@ -2,7 +2,7 @@
 use mathlib.Core.Bool.{cond}
 use mathlib.Core.List.{List, [], _∷_}
 use mathlib.Core.Path.{_≡_}
-use Prim.Native.Nat.{ℕ, zero, suc, _+_, _-_, _*_, _≤_}
+use Prim.Native.Nat.{ℕ, zero, suc, _+_, _-_, _*_, _≤_, min, max}
 use lib.Dec.{eqb, leb}
 use lib.ListN.{getD}
 use Rattle.words.specs.Fields.{form, unknown, holds, formulaX, formulaY, atomFluent}
@@ -17,6 +17,13 @@ orTable = 0 ∷ 1 ∷ 2 ∷ 1 ∷ 1 ∷ 2 ∷ 2 ∷ 2 ∷ 2 ∷ []
 
 abbrev pub byTable : List ℕ → ℕ → ℕ → ℕ
 byTable table a b = getD table (a * 3 + b) 0
+
+-- so 'and' of two values is the lesser of them, and 'or' the greater. `and-lesser`, `or-greater` (proofs/Tables.antt) show it.
+abbrev pub AndLesser : Type 0
+AndLesser = (a b : ℕ) → a ≤ holds → b ≤ holds → byTable andTable a b ≡ min a b
+
+abbrev pub OrGreater : Type 0
+OrGreater = (a b : ℕ) → a ≤ holds → b ≤ holds → byTable orTable a b ≡ max a b
 
 -- the value k moments before t: open before moment 0
 abbrev pub ago : (ℕ → ℕ) → ℕ → ℕ → ℕ

@@ -5,6 +5,7 @@ use mathlib.Core.Logic.{_↔_}
 use mathlib.Core.Path.{_≡_}
 use Prim.Native.Nat.{ℕ, suc, _≤_, _<_}
 use lib.Dec.{eqb, ltb}
+use lib.ListN.{length, getD, take}
 use Rattle.words.specs.Fields.{startMoment, startAction}
 use Rattle.words.specs.Lists.{Each, Pairs}
 use Rattle.words.specs.Scan.{filter}
@@ -32,6 +33,15 @@ Lasting job starts = Each (λ s. 0 < duration job (startAction s)) starts
 
 abbrev pub Ascending : List ℕ → Type 0
 Ascending starts = Pairs (λ s s'. startMoment s ≤ startMoment s') starts
+
+-- a table, by action, has the duration of each start
+abbrev pub Timed : List ℕ → List ℕ → List ℕ → Type 0
+Timed job durations starts = Each (λ s. getD durations (startAction s) 0 ≡ duration job (startAction s)) starts
+
+-- a list in which the code carries the starts in hand: its first `count` words are exactly the starts in hand at moment t, in their order
+pub record HeldList (job starts : List ℕ) (t : ℕ) (list : List ℕ) (count : ℕ) : Type 0 where
+  pub inside : count ≤ length list
+  pub words : take count list ≡ heldAt job starts t
 
 -- at each moment t, exactly the starts with u ≤ t < u + d are in hand; at moment 0 they are those that begin then, and at each next moment
 -- those in hand that have not finished, and then those that begin. `held-exactly`, `held-start`, `held-next` (proofs/Held.antt) show it.

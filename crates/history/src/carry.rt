@@ -1,11 +1,13 @@
 // The starts in hand, in a list that a walk of the states carries: those that finish leave it, and those that begin join it.
 ghost use mathlib.Core.Path.{_≡_};
-ghost use Prim.Native.Nat.{ℕ, _<_, _≤_};
+ghost use mathlib.Core.List.{List};
+ghost use Prim.Native.Nat.{ℕ, _+_, _<_, _≤_};
 ghost use lib.ListN.{length, getD, drop};
 ghost use Rattle.words.specs.Scan.{takeWhile};
-ghost use Rattle.history.specs.Held.{beginsAt};
+ghost use Rattle.history.specs.Held.{beginsAt, startingAt, Lasting, Ascending, Timed, HeldList};
 ghost use Rattle.history.specs.Code.Held.{unfinishedBy, Filtered};
 use crate::tables::finish_of;
+use words::copy_words;
 use words::start_moment;
 
 // How many starts from position `from` on begin at moment `t`, up to the first that does not; these starts.
@@ -47,4 +49,31 @@ pub fn keep_unfinished(durations: &[usize; 64], t: usize, held: &mut [u32], coun
         i += 1;
     }
     n
+}
+
+// Makes the list of starts in hand at moment 0, in the first words of `held`: the starts that begin then. Returns their number.
+pub(crate) fn hold_first(starts: &[u32], held: &mut [u32]) -> usize
+    requires { ⌜ Ascending (now starts) × (length (now starts) ≤ length (now held)) ⌝ }
+    ensures { λ r. ⌜ ((job : List ℕ) → Lasting job (now (starts .entry)) → HeldList job (now (starts .entry)) 0 (now (held .exit)) r) ⌝ }
+{
+    let first = starting_at(starts, 0, 0);
+    copy_words(first, 0, held);
+    first.len()
+}
+
+// Carries the list of starts in hand, the first `count` words of `held`, from moment `t` to the next: the starts that finish then leave
+// it, and those in `starting`, which begin then, join it. Returns the number of starts in hand.
+pub(crate) fn hold_next(
+    durations: &[usize; 64],
+    starting: &[u32],
+    t: usize,
+    held: &mut [u32],
+    count: usize,
+) -> usize
+    requires { ⌜ ((a : ℕ) → getD (now durations) a 0 < 64) × (t < 64) × (count + length (now starting) ≤ length (now held)) ⌝ }
+    ensures { λ r. ⌜ ((job starts : List ℕ) → Timed job (now (durations .entry)) starts → Lasting job starts → Ascending starts → now (starting .entry) ≡ startingAt starts (t + 1) → HeldList job starts t (now (held .entry)) count → HeldList job starts (t + 1) (now (held .exit)) r) ⌝ }
+{
+    let kept = keep_unfinished(durations, t + 1, held, count);
+    copy_words(starting, kept, held);
+    kept + starting.len()
 }

@@ -13,14 +13,14 @@ ghost use Rattle.history.specs.Held.{startingAt, Ascending};
 ghost use Rattle.history.specs.Code.Held.{Carried, Steppable};
 ghost use Rattle.history.specs.Code.Stores.{Overlaid, Mapped};
 ghost use Rattle.history.specs.Code.Passes.{changed, changedBy, AfterPass};
-use crate::carry::keep_unfinished;
+use crate::carry::hold_first;
+use crate::carry::hold_next;
 use crate::carry::starting_at;
 use crate::tables::finish_of;
 use crate::tables::store_row;
 use words::FLUENTS;
 use words::KNOWN;
 use words::OPEN;
-use words::copy_words;
 use words::fluent_of;
 use words::fluents_of;
 use words::kind_of;
@@ -132,9 +132,8 @@ fn step(
     ensures { λ r. ⌜ ((S : List ℕ) → Named (now (job .entry)) S → Ascending S → now (starting .entry) ≡ startingAt S (t + 1) → Carried (now (job .entry)) S t (now (held .entry)) count (now (state .entry)) → Carried (now (job .entry)) S (t + 1) (now (held .exit)) r (now (state .exit))) ⌝ }
 {
     apply_starts(job, durations, effects, &held[..count], false, t + 1, state);
-    let kept = keep_unfinished(durations, t + 1, held, count);
-    copy_words(starting, kept, held);
-    let all = kept + starting.len();
+    let all = hold_next(durations, starting, t, held, count);
+    let kept = all - starting.len();
     apply_starts(job, durations, effects, &held[..kept], true, t + 1, state);
     all
 }
@@ -154,10 +153,8 @@ pub fn history(
     let mut state = initial_state(job);
     store_row(&state, 0, &mut table);
     let mut held = [0u32; 4096];
-    let first = starting_at(starts, 0, 0);
-    copy_words(first, 0, &mut held);
-    let mut next = first.len();
-    let mut count = next;
+    let mut count = hold_first(starts, &mut held);
+    let mut next = count;
     let mut t = 0;
     while t < last {
         let starting = starting_at(starts, next, t + 1);

@@ -7,6 +7,7 @@
 --     Nodes     nodes by their words
 --     Tables    the table as it is filled
 --     Listing   the table's ends, listed
+--     Counts    two counts of the same triples agree
 pub mod Step
 pub mod Transfer
 pub mod Agreement
@@ -15,3 +16,4 @@ pub mod Windows
 pub mod Nodes
 pub mod Tables
 pub mod Listing
+pub mod Counts

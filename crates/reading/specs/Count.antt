@@ -18,9 +18,13 @@ pub data Distinct {A : Type 0} : List A → Type 0 where
 abbrev pub Read : Procedure → Trajectory → Triple → Type 0
 Read P T s = (s .node < P .count) × (s .begin ≤ s .end) × HasReading P T (s .node) (s .begin) (s .end)
 
--- r triples have a reading; there is one such r alone (`counted-once`, of the crate cases)
+-- r triples have a reading
 pub record Counted (P : Procedure) (T : Trajectory) (r : ℕ) : Type 0 where
   pub triples : List Triple
   pub distinct : Distinct triples
   pub exact : (s : Triple) → List·Memᴰ s triples ↔ Read P T s
   pub many : length triples ≡ r
+
+-- The count is one number: two counts for the same procedure and trajectory are equal. `counted-once` (proofs/Counts.antt) shows it.
+abbrev pub CountedOnce : Type 0
+CountedOnce = (P : Procedure) (T : Trajectory) (a b : ℕ) → Counted P T a → Counted P T b → a ≡ b

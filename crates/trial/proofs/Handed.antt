@@ -8,8 +8,7 @@ use lib.ListN.{length, getD, take, drop, set, replicate, length-drop, length-rep
 use lib.Seq.{sets, sets-eq, length-take-le, length-front}
 use Rattle.moves.specs.Calls.{trialWords, trialIn}
 use Rattle.trial.specs.declared.Trial.{Trial}
-use Rattle.trial.specs.Stepped.{trialOf}
-use Rattle.trial.specs.Code.Given.{Sized}
+use Rattle.trial.specs.Stepped.{trialOf, Sized}
 use Rattle.trial.proofs.Judging.{starts-taken}
 
 -- a list written over an array of as many words

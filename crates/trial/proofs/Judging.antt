@@ -26,8 +26,8 @@ use Rattle.moves.specs.Trials.{outside, trialRefusal}
 use Rattle.moves.proofs.Passing.{InBounds, in-bounds}
 use Rattle.applicable.specs.Code.Given.{Present}
 use Rattle.trial.specs.declared.Trial.{Trial}
-use Rattle.trial.specs.Stepped.{trialOf}
-use Rattle.trial.specs.Code.Given.{Sized, TrialJudged}
+use Rattle.trial.specs.Stepped.{trialOf, Sized}
+use Rattle.trial.specs.Code.Given.{TrialJudged}
 
 -- with the rows of the job before those of the trial
 pub trial-rows : (job : List ℕ) (t : Trial) (checked : Checked) → checked ≡ checkedOf job → {plan : Plan} → TrialJudged (checked .refusal) job t plan

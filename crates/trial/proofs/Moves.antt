@@ -28,8 +28,8 @@ use Rattle.moves.specs.Calls.{shownFacts}
 use Rattle.moves.proofs.Played.{named}
 use Rattle.moves.proofs.Shown.{refused-keeps}
 use Rattle.trial.specs.declared.Trial.{Trial}
-use Rattle.trial.specs.Stepped.{trialOf, Stepped}
-use Rattle.trial.specs.Code.Given.{Sized, TrialJudged, WithWord}
+use Rattle.trial.specs.Stepped.{trialOf, Stepped, Sized}
+use Rattle.trial.specs.Code.Given.{TrialJudged, WithWord}
 use Rattle.trial.proofs.Judging.{trial-rows, starts-taken}
 
 -- a word put into the words in front of an array

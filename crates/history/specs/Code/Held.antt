@@ -1,4 +1,4 @@
--- Between functions: the starts in hand as a held list, its first `count` words, which a walk of the states carries along with the state.
+-- Between functions: a walk of the states, which carries the list of starts in hand along with the state.
 use mathlib.Core.Bool.{Bool}
 use mathlib.Core.List.{List}
 use mathlib.Core.Path.{_≡_}
@@ -6,8 +6,7 @@ use Prim.Native.Nat.{ℕ, _+_, _<_, _≤_}
 use lib.Dec.{ltb}
 use lib.ListN.{length, take}
 use Rattle.words.specs.Scan.{filter}
-use Rattle.job.specs.Parts.{fluents}
-use Rattle.history.specs.Held.{heldAt}
+use Rattle.history.specs.Held.{startingAt, Ascending, HeldList}
 use Rattle.history.specs.Code.Tables.{tabledFinish, Walkable, StateAt}
 
 -- `unfinished`, by a table of durations
@@ -22,12 +21,14 @@ pub record Filtered (test : ℕ → Bool) (count : ℕ) (old : List ℕ) (n : �
 -- a walk at moment t: its state and its held list are those of that moment
 pub record Carried (job starts : List ℕ) (t : ℕ) (held : List ℕ) (count : ℕ) (bytes : List ℕ) : Type 0 where
   pub state : StateAt job starts t bytes
-  pub inside : count ≤ length held
-  pub words : take count held ≡ heldAt job starts t
+  pub list : HeldList job starts t held count
 
--- what a step is made from, whatever the starts of the plan
+-- what a step is made from: a walk of some plan at moment t, and the starts of the plan that begin at the next moment
 pub record Steppable (job durations effects starting : List ℕ) (t : ℕ) (held : List ℕ) (count : ℕ) (bytes : List ℕ) : Type 0 where
-  pub walk : Walkable job durations effects (take count held)
+  pub plan : List ℕ
+  pub walk : Walkable job durations effects plan
+  pub ascends : Ascending plan
+  pub begin : starting ≡ startingAt plan (t + 1)
+  pub carried : Carried job plan t held count bytes
   pub soon : t < 64
-  pub held-room : count + length starting ≤ length held
-  pub state-room : fluents job ≤ length bytes
+  pub room : length plan ≤ length held

@@ -1,8 +1,8 @@
--- Between functions: a trial that was judged, that has a start more, that can be stored.
+-- Between functions: a trial that was judged, that has a start more.
 use mathlib.Core.Bool.{Bool}
 use mathlib.Core.List.{List}
 use mathlib.Core.Path.{_≡_}
-use Prim.Native.Nat.{ℕ, _≤_, _<_}
+use Prim.Native.Nat.{ℕ}
 use lib.ListN.{length, take}
 use Rattle.words.specs.Lists.{insert}
 use Rattle.answers.specs.declared.Refusal.{Refusal}
@@ -11,14 +11,7 @@ use Rattle.theory.specs.declared.Plan.{Plan}
 use Rattle.moves.specs.Trials.{outside, trialRefusal}
 use Rattle.applicable.specs.Code.Given.{Present}
 use Rattle.trial.specs.declared.Trial.{Trial}
-use Rattle.trial.specs.declared.Moved.{Moved}
-use Rattle.trial.specs.Stepped.{trialOf}
-
--- a struct whose starts stand in its array
-pub record Sized (t : Trial) : Type 0 where
-  pub size : length (t .starts) ≡ 4096
-  pub few : t .length ≤ 4096
-  pub soon : t .moment < 64
+use Rattle.trial.specs.Stepped.{trialOf, Sized}
 
 -- whether a trial is outside its bounds; the array has its length in any case
 pub record Measured (job : List ℕ) (t : Trial) (r : Bool) : Type 0 where
@@ -35,7 +28,3 @@ pub record TrialJudged (rows : Refusal) (job : List ℕ) (t : Trial) (plan : Pla
 pub record WithWord (t : Trial) (w : ℕ) (r : Trial) : Type 0 where
   pub trial : trialOf r ≡ record { moment = t .moment; starts = insert w (take (t .length) (t .starts)) }
   pub sized : Sized r
-
--- a trial that an accepted move hands back
-abbrev pub Storable : Moved → Type 0
-Storable r = r .refusal .number ≡ 0 → Sized (r .trial)

@@ -6,11 +6,13 @@ use lib.ListN.{length}
 use Prim.Native.Nat.{ℕ, _+_, _-_, _≤_}
 use Rattle.job.specs.Parts.{fluents}
 use Rattle.history.specs.Values.{valueAt}
+use Rattle.history.specs.Held.{HeldList}
 use Rattle.history.specs.Code.Held.{Carried}
+use Rattle.history.proofs.Held.{held-start}
 use Rattle.history.proofs.HeldList.{Begun, begun-none, begun-more, begun-starting, begun-first}
 use Rattle.history.proofs.Stores.{Rows, rows-none, rows-more}
 use Rattle.history.proofs.Moments.{state-start}
-use Rattle.history.proofs.Carried.{each-lasts, carried-start, held-named, held-room}
+use Rattle.history.proofs.Carried.{each-lasts, list-count}
 use native.Mathlib.Omega.{arith}
 use borrow.Author.Needs.{needs}
 use Rattle.history.proofs.states.history.Statement.{statement}
@@ -25,10 +27,10 @@ record Walked (job starts : List ℕ) (last t next : ℕ) (state held : List ℕ
   stored : Rows (valueAt job starts) (fluents job) (t + 1) table
 
 abbrev Inv-loop : tie.InvT-loop
-Inv-loop job durations effects starts last table₀ state₀ held₀ next₀ count₀ t₀ table state held next count t = Walked job starts last t next state held count table
+Inv-loop job durations effects starts last table₀ state₀ held₀ count₀ next₀ t₀ table state held count next t = Walked job starts last t next state held count table
 
 abbrev μ-loop : tie.MeasureT-loop
-μ-loop job durations effects starts last table₀ state₀ held₀ next₀ count₀ t₀ table state held next count t = last - t
+μ-loop job durations effects starts last table₀ state₀ held₀ count₀ next₀ t₀ table state held count next t = last - t
 
 -- the entry from the state at moment 0, and that state from the loop
 abbrev entry : tie.After-initial-state Inv-loop μ-loop → tie.Start Inv-loop μ-loop
@@ -37,43 +39,44 @@ entry c = c .before .before .before
 abbrev initial : tie.After-store-row Inv-loop μ-loop → tie.After-initial-state Inv-loop μ-loop
 initial c = c .before .before .before
 
-abbrev found : tie.After-copy-words Inv-loop μ-loop → tie.After-starting-at Inv-loop μ-loop
-found c = c .before .before
-
-abbrev start : tie.After-starting-at Inv-loop μ-loop → tie.Start Inv-loop μ-loop
-start c = entry (initial (c .before))
+abbrev start : tie.After-hold-first Inv-loop μ-loop → tie.Start Inv-loop μ-loop
+start c = entry (initial (c .before .before))
 
 abbrev begin : tie.At-loop Inv-loop μ-loop → tie.Start Inv-loop μ-loop
-begin c = start (found (c .before .before))
+begin c = start (c .before .before)
 
 -- a turn: where the starts of its moment are found, and where its step is made
-abbrev head : tie.After-starting-at2 Inv-loop μ-loop → tie.At-loop Inv-loop μ-loop
+abbrev head : tie.After-starting-at Inv-loop μ-loop → tie.At-loop Inv-loop μ-loop
 head c = c .before .before
 
-abbrev joined : tie.After-step Inv-loop μ-loop → tie.After-starting-at2 Inv-loop μ-loop
+abbrev joined : tie.After-step Inv-loop μ-loop → tie.After-starting-at Inv-loop μ-loop
 joined c = c .before .before .before
 
 abbrev stepped : tie.After-store-row2 Inv-loop μ-loop → tie.After-step Inv-loop μ-loop
 stepped c = c .before .before .before .before
 
--- the starts of moment 0 have room in the held list
-first-fits : (f : tie.After-starting-at Inv-loop μ-loop) → length (f .starting-at .result .now) ≤ 4096
-first-fits f = let p = start f .pre in rw (f .starting-at .ensures) (omega (arith, begun-first (p .1) .inside, p .2))
+-- the held list of moment 0; its words are the first starts
+first : (f : tie.After-hold-first Inv-loop μ-loop) → HeldList (start f .args .job .now) (start f .args .starts .now) 0 (f .hold-first .last .1 .0) (f .hold-first .result)
+first f = let p = start f .pre in f .hold-first .ensures (start f .args .job .now) (each-lasts (p .0 .well) (p .0 .named))
+
+first-begun : (f : tie.After-hold-first Inv-loop μ-loop) → Begun (start f .args .starts .now) 1 (f .hold-first .result)
+first-begun f =
+    let p = start f .pre in
+    let same = held-start (start f .args .job .now) (start f .args .starts .now) (each-lasts (p .0 .well) (p .0 .named)) in
+    rw (list-count (first f), same, ← begun-starting (p .1) begun-none) (begun-first (p .1))
 
 loop-holds : tie.Need-loop-holds Inv-loop μ-loop
 loop-holds c =
-    let copied = c .before in
-    let f = found copied in
+    let f = c .before in
     let s = start f in
-    let state = initial (f .before) .initial-state .ensures in
-    let ascends = s .pre .1 in
+    let state = initial (f .before .before) .initial-state .ensures in
     record {
       bound = omega arith;
       few = omega (arith, s .pre .3);
-      size = copied .copy-words .kept .1 .1 .0;
-      carried = rw (copied .copy-words .ensures) (carried-start (each-lasts (s .pre .0 .well) (s .pre .0 .named)) state _ (f .starting-at .ensures ∙ begun-starting ascends begun-none) (first-fits f));
-      begun = rw (f .starting-at .ensures) (begun-first ascends);
-      stored = rows-more (s .pre .0 .well .few-fluents) rows-none (f .before .store-row .ensures) (state-start state .value);
+      size = f .hold-first .kept .1 .0;
+      carried = record { state = state-start state; list = first f };
+      begun = first-begun f;
+      stored = rows-more (s .pre .0 .well .few-fluents) rows-none (f .before .before .store-row .ensures) (state-start state .value);
     }
 
 step-requires : tie.Need-step-requires Inv-loop μ-loop
@@ -82,11 +85,13 @@ step-requires c κs =
     let s = begin (head j) in
     let inv = head j .loop .inv in
     record {
-      walk = record { well = s .pre .0 .well; tables = s .pre .0 .tables; named = held-named (inv .carried) (s .pre .0 .named) };
+      plan = s .args .starts .now;
+      walk = s .pre .0;
+      ascends = s .pre .1;
+      begin = j .starting-at .ensures ∙ begun-starting (s .pre .1) (inv .begun);
+      carried = inv .carried;
       soon = omega (arith, inv .bound, inv .few);
-      held-room =
-          rw (j .starting-at2 .ensures, begun-starting (s .pre .1) (inv .begun), inv .size) (omega (arith, held-room (inv .carried), s .pre .2));
-      state-room = inv .carried .state .room;
+      room = rw (inv .size) (s .pre .2);
     }
 
 loop-again : tie.Need-loop-again Inv-loop μ-loop
@@ -96,13 +101,13 @@ loop-again c =
     let s = begin (head j) in
     let inv = head j .loop .inv in
     let ascends = s .pre .1 in
-    let new = d .step .ensures (s .args .starts .now) (s .pre .0 .named) (s .pre .1) (j .starting-at2 .ensures ∙ begun-starting ascends (inv .begun)) (inv .carried) in
+    let new = d .step .ensures (s .args .starts .now) (s .pre .0 .named) ascends (j .starting-at .ensures ∙ begun-starting ascends (inv .begun)) (inv .carried) in
     record {
       bound = omega (arith, j .before .loop-test .taken);
       few = inv .few;
       size = d .step .kept .1 .1 .1 .1 .1 .0 ∙ inv .size;
       carried = new;
-      begun = rw (j .starting-at2 .ensures) (begun-more ascends (inv .begun));
+      begun = rw (j .starting-at .ensures) (begun-more ascends (inv .begun));
       stored = rows-more (s .pre .0 .well .few-fluents) (inv .stored) (c .store-row2 .ensures) (new .state .value);
     }
 
@@ -114,6 +119,6 @@ returns c =
 pub history-spec : {M : Type 1} → statement M
 history-spec =
     tie.close
-    (tie.spec Inv-loop μ-loop (λ c κs. search needs) (λ c κs. search needs) (λ c κs. search needs) (λ c. search needs) (λ c κs. search (needs, first-fits (c .before)))
+    (tie.spec Inv-loop μ-loop (λ c κs. search needs) (λ c κs. search needs) (λ c. search needs) (λ c κs. let s = entry (initial (c .before)) in (s .pre .1, s .pre .2))
     loop-holds (λ c. search needs) (λ c κs. search needs) (λ c. search needs) step-requires (λ c. search needs) (λ c. search needs)
     (λ c κs. search needs) (λ c. search needs) loop-again returns)

@@ -10,8 +10,7 @@ use Rattle.answers.specs.declared.Refusal.{Refusal}
 use Rattle.theory.proofs.Passing.{job-checked}
 use Rattle.moves.specs.Trials.{Start, moveRefusal}
 use Rattle.applicable.proofs.NewStart.{present-formed, present-order}
-use Rattle.trial.specs.Stepped.{trialOf}
-use Rattle.trial.specs.Code.Given.{Sized}
+use Rattle.trial.specs.Stepped.{trialOf, Sized}
 use Rattle.trial.proofs.Moves.{early-refused, own-next, stepped-refused, stepped-moved, own-start, named-start, moved-start}
 use Rattle.trial.proofs.Trial.start.Statement.{statement}
 use Rattle.trial.proofs.Trial.start.Tie as tie

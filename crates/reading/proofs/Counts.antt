@@ -1,13 +1,11 @@
 -- A list without repeats is no longer than one that has all its elements: so two counts of the same triples agree. Assumes nothing.
-use Prim.Native.Nat.{ℕ, suc, _≤_, zero-le}
+use Prim.Native.Nat.{suc, _≤_, zero-le}
 use mathlib.Core.Path.{_≡_, refl, sym, ap, _∙_, subst}
 use mathlib.Core.Logic.{_⊎_, inl, inr, ⊎-elim}
 use mathlib.Core.List.{List, _∷_, List·Memᴰ, List·Memᴰ·head, List·Memᴰ·tail, List·Memᴰ·cases-cons}
 use native.Mathlib.Omega.{arith}
 use lib.ListN.{length}
-use Rattle.model.specs.Trajectory.{Trajectory}
-use Rattle.model.specs.Procedure.{Procedure}
-use Rattle.reading.specs.Count.{Distinct, none, more, Counted}
+use Rattle.reading.specs.Count.{Distinct, none, more, CountedOnce}
 
 module _ {A : Type 0} where
   -- a list without one of its elements: one shorter, and it keeps all others
@@ -25,8 +23,8 @@ module _ {A : Type 0} where
       let l = no-longer d (λ z m. ⊎-elim (λ q. absurd (h (subst (λ (v : A). List·Memᴰ v xs) q m))) (λ t. t) (r .2 z (f z (List·Memᴰ·tail m)))) in
       omega (arith, r .1)
 
-pub counted-once : {P : Procedure} {T : Trajectory} {a b : ℕ} → Counted P T a → Counted P T b → a ≡ b
-counted-once x y =
+pub counted-once : CountedOnce
+counted-once P T a b x y =
     let l = no-longer (x .distinct) (λ s m. y .exact s .1 (x .exact s .0 m)) in
     let g = no-longer (y .distinct) (λ s m. x .exact s .1 (y .exact s .0 m)) in
     omega (arith, x .many, y .many)

@@ -1,2 +1,0 @@
--- What passes between functions, and no public contract reaches: Bound (the sum over all nodes).
-pub mod Bound
