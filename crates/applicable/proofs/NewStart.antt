@@ -17,6 +17,7 @@ use Rattle.job.specs.Parts.{headWord, actions, lastMoment, duration, lawsOf}
 use Rattle.job.specs.Refusal.{jobRefusal}
 use Rattle.job.specs.Code.WellFormed.{WellFormed, Indexed}
 use Rattle.answers.proofs.Rows.{or-none, or-assoc}
+use Rattle.history.specs.Code.Tables.{Ruled}
 use Rattle.starts.specs.Rows.{clashing, mayStart, overLimit, unmet, unmetAt, startsRefusal}
 use Rattle.starts.specs.Lawful.{Lawful}
 use Rattle.starts.specs.Code.Given.{StartsFormed, Recorded}
@@ -50,7 +51,7 @@ module _ {job starts : List ℕ} {u : ℕ} {plan : Plan} (given : Present job st
   pub present-few : Each (λ s. s < 2 ^ 32) starts → length starts ≤ 4096
   present-few small = few-words job starts (small-at small) (length starts) (present-words .right)
 
-  pub present-indexed : Indexed job 3 (plan .index .actions .position)
+  present-indexed : Indexed job 3 (plan .index .actions .position)
   present-indexed = actions-indexed job (job-clear job starts (given .passed .clear)) (given .passed .index)
 
   pub present-facing : {a : ℕ} → a < actions job → FacingAll job (plan .durations) (plan .effects) starts u a
@@ -62,14 +63,16 @@ module _ {job starts : List ℕ} {u : ℕ} {plan : Plan} (given : Present job st
     new = k;
   }
 
+  pub present-ruled : Ruled job (plan .index .actions .position) (plan .ends)
+  present-ruled = record { formed = present-formed; indexed = present-indexed; laws = given .passed .laws }
+
   -- the needs of an action by the history
   pub present-unmet : {a : ℕ} → a < actions job → {laws : List ℕ} → laws ≡ lawsOf job a
       → {r : Bool} → r ≡ any (unmet (headWord job) (λ f. getD (plan .history) (u * 256 + f) 0)) laws → r ≡ unmetAt job starts u a
   present-unmet {a} k el er =
-      let recorded : Recorded job (plan .index .actions .position) (plan .history) starts =
+      let recorded : Recorded job (plan .index .actions .position) (plan .ends) (plan .history) starts =
       record {
-        formed = present-formed;
-        indexed = present-indexed;
+        rules = present-ruled;
         words = present-words;
         last = u;
         past = each-at (given .past);

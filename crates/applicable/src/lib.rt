@@ -9,11 +9,19 @@ ghost use Rattle.starts.specs.Rows.{clashing};
 ghost use Rattle.job.specs.Parts.{actions};
 ghost use Rattle.moves.specs.Trials.{busy};
 ghost use Rattle.applicable.specs.Code.Given.{Facing, FacingAll, Present, heldRefusal, StartTested};
+use answers::GROUP_OVER_LIMIT;
 use answers::Refusal;
+use answers::START_CLASHES;
+use answers::START_ENDS_LATE;
+use answers::START_IN_HAND;
+use answers::START_NEEDS;
+use answers::START_OUTSIDE_WINDOWS;
+use answers::START_WORD;
 use answers::first_refusal;
 use answers::refuse;
 use answers::row_of;
 use groups::some_full;
+use history::HELD_ROOM;
 use history::finish_of;
 use history::keep_unfinished;
 use history::laws_of;
@@ -23,8 +31,8 @@ use starts::has_unmet;
 use theory::Plan;
 use words::*;
 
-// Whether the start `s` is one of action `a` that is in hand at moment `u`.
-fn is_busy(job: &[u32], durations: &[usize; 64], s: u32, u: usize, a: usize) -> bool
+// Returns whether the start `s` is one of action `a` that is in hand at moment `u`.
+fn is_busy(job: &[u32], durations: &[usize; ACTIONS], s: u32, u: usize, a: usize) -> bool
     requires { ⌜ Durations (now job) (now durations) × (startAction s < actions (now job)) ⌝ }
     ensures { λ r. ⌜ r ≡ busy (now (job .entry)) u a s ⌝ }
 {
@@ -34,8 +42,8 @@ fn is_busy(job: &[u32], durations: &[usize; 64], s: u32, u: usize, a: usize) -> 
     (start_moment(s) <= u) & (u < finish_of(durations, s))
 }
 
-// Whether some start is.
-fn some_busy(job: &[u32], durations: &[usize; 64], starts: &[u32], u: usize, a: usize) -> bool
+// Returns whether some start in the list is one of action `a` that is in hand at moment `u`.
+fn some_busy(job: &[u32], durations: &[usize; ACTIONS], starts: &[u32], u: usize, a: usize) -> bool
     requires { ⌜ Durations (now job) (now durations) × Named (now job) (now starts) ⌝ }
     ensures { λ r. ⌜ r ≡ any (busy (now (job .entry)) u a) (now (starts .entry)) ⌝ }
 {
@@ -49,11 +57,11 @@ fn some_busy(job: &[u32], durations: &[usize; 64], starts: &[u32], u: usize, a: 
     false
 }
 
-// Whether the start `s`, which is not later, clashes with action `a` started at moment `u`.
+// Returns whether the start `s`, which is not later, clashes with action `a` started at moment `u`.
 fn clashes_with(
     job: &[u32],
-    durations: &[usize; 64],
-    effects: &[u8; 16384],
+    durations: &[usize; ACTIONS],
+    effects: &[u8; EFFECTS],
     s: u32,
     u: usize,
     a: usize,
@@ -67,11 +75,11 @@ fn clashes_with(
     has_clash(job, effects, start_action(s), a)
 }
 
-// Whether some start does.
+// Returns whether some start in the list, of which none is later, clashes with action `a` started at moment `u`.
 fn some_clash(
     job: &[u32],
-    durations: &[usize; 64],
-    effects: &[u8; 16384],
+    durations: &[usize; ACTIONS],
+    effects: &[u8; EFFECTS],
     starts: &[u32],
     u: usize,
     a: usize,
@@ -89,49 +97,59 @@ fn some_clash(
     false
 }
 
-// Rows 8, 9, 15 and 16 of action `a` started at moment `u`, in this order: of the starts only those in hand then count.
+// Runs rows 8, 9, 15 and 16 of action `a` started at moment `u`, in this order. Of the starts only those in hand then count.
 fn held_refusal(job: &[u32], plan: Plan, starts: &[u32], u: usize, a: usize) -> Refusal
     requires { ⌜ Present (now job) (now starts) u plan × (a < actions (now job)) × (length (now starts) ≤ 4096) ⌝ }
     ensures { λ r. ⌜ r ≡ heldRefusal (now (job .entry)) (now (starts .entry)) u a ⌝ }
 {
     let durations = plan.durations;
-    let mut held = [0u32; 4096];
+    let mut held = [0u32; HELD_ROOM];
     copy_words(starts, 0, &mut held);
     let count = keep_unfinished(&durations, u, &mut held, starts.len());
     if some_busy(job, &durations, &held[..count], u, a) {
-        return refuse(8, 0);
+        return refuse(START_IN_HAND, 0);
     }
     if some_clash(job, &durations, &plan.effects, &held[..count], u, a) {
-        return refuse(9, 0);
+        return refuse(START_CLASHES, 0);
     }
     let shifts = plan.shifts;
     let inside = shifts.inside;
-    let outside = row_of(!may_start(shifts.windowed, &inside, u, a), 15, 0);
+    let outside = row_of(
+        !may_start(shifts.windowed, &inside, u, a),
+        START_OUTSIDE_WINDOWS,
+        0,
+    );
     let groups = plan.groups;
     let limits = groups.limits;
     let members = groups.members;
-    let over = row_of(some_full(&limits, &members, &held[..count], a), 16, 0);
+    let over = row_of(
+        some_full(&limits, &members, &held[..count], a),
+        GROUP_OVER_LIMIT,
+        0,
+    );
     first_refusal(outside, over)
 }
 
-// Rows 6 to 9, 15, 16 and 10, in this order. Starts to which another can be added leave room for it.
+// Runs rows 6 to 9, 15, 16 and 10 of action `a` started at moment `u`, in this order. If none refuses, there are fewer than 4,096
+// starts.
 pub fn start_refusal(job: &[u32], plan: Plan, starts: &[u32], u: usize, a: usize) -> Refusal
     requires { ⌜ Present (now job) (now starts) u plan ⌝ }
     ensures { λ r. ⌜ StartTested (now (job .entry)) (now (starts .entry)) u a r ⌝ }
 {
     let head = job[0];
     if actions_of(head) <= a {
-        return refuse(6, 0);
+        return refuse(START_WORD, 0);
     }
     let durations = plan.durations;
     if last_of(head) < u + durations[a] {
-        return refuse(7, 0);
+        return refuse(START_ENDS_LATE, 0);
     }
     let held = held_refusal(job, plan, starts, u, a);
     let index = plan.index;
     let actions = index.actions;
     let places = actions.position;
-    let laws = laws_of(job, &places, a);
-    let unmet = row_of(has_unmet(head, &plan.history, u, laws), 10, 0);
+    let ends = plan.ends;
+    let laws = laws_of(job, &places, &ends, a);
+    let unmet = row_of(has_unmet(head, &plan.history, u, laws), START_NEEDS, 0);
     first_refusal(held, unmet)
 }

@@ -12,23 +12,25 @@ ghost use Rattle.job.specs.Code.WellFormed.{WellFormed};
 ghost use Rattle.history.specs.Code.Held.{unfinishedBy, Filtered};
 ghost use Rattle.starts.specs.Rows.{groupExceeded, numbered};
 ghost use Rattle.groups.specs.Code.GroupTable.{GroupTable, LimitStored, MemberStored, heldOf, isFull, someFull, Grouped};
+use answers::GROUP_OVER_LIMIT;
 use answers::Refusal;
 use answers::none;
 use answers::refuse;
 use bitset::has;
 use bitset::single;
 use bitset::union;
+use history::HELD_ROOM;
 use history::keep_unfinished;
 use words::*;
 
 // The limit of each group, and the set of its actions.
 pub struct Groups {
-    pub limits: [usize; 8],
-    pub members: [u64; 8],
+    pub limits: [usize; GROUPS],
+    pub members: [u64; GROUPS],
 }
 
-// Stores the limit of the group that the word `w` declares, and the action that it lists in a group.
-fn store_limit(w: u32, limits: &mut [usize; 8])
+// Stores the limit of the group that the word `w` declares, if it declares one.
+fn store_limit(w: u32, limits: &mut [usize; GROUPS])
     requires { ⌜ (kind w ≡ 13 → groupNumber w < 8) × (length (now limits) ≡ 8) ⌝ }
     ensures { λ _. ⌜ LimitStored w (now (limits .entry)) (now (limits .exit)) ⌝ }
 {
@@ -37,7 +39,8 @@ fn store_limit(w: u32, limits: &mut [usize; 8])
     }
 }
 
-fn store_member(w: u32, members: &mut [u64; 8])
+// Stores the action that the word `w` lists in a group, if it lists one.
+fn store_member(w: u32, members: &mut [u64; GROUPS])
     requires { ⌜ (kind w ≡ 14 → groupNumber w < 8) × (length (now members) ≡ 8) ⌝ }
     ensures { λ _. ⌜ MemberStored w (now (members .entry)) (now (members .exit)) ⌝ }
 {
@@ -47,13 +50,13 @@ fn store_member(w: u32, members: &mut [u64; 8])
     }
 }
 
-// The groups of a job, in one pass over it: from the last word to the first, so that of two words on one limit the first counts.
+// Returns the groups of a job, in one pass over it: from the last word to the first, so that of two words on one limit the first counts.
 pub fn groups_of(job: &[u32]) -> Groups
     requires { ⌜ WellFormed (now job) ⌝ }
     ensures { λ r. ⌜ GroupTable (now (job .entry)) r ⌝ }
 {
-    let mut limits = [0usize; 8];
-    let mut members = [0u64; 8];
+    let mut limits = [0usize; GROUPS];
+    let mut members = [0u64; GROUPS];
     let mut i = job.len();
     while 0 < i {
         i -= 1;
@@ -64,7 +67,7 @@ pub fn groups_of(job: &[u32]) -> Groups
     Groups { limits, members }
 }
 
-// How many of the starts have an action in the set.
+// Returns how many of the starts have an action in the set.
 fn held_of(members: u64, held: &[u32]) -> usize
     ensures { λ r. ⌜ r ≡ heldOf members (now (held .entry)) ⌝ }
 {
@@ -79,8 +82,7 @@ fn held_of(members: u64, held: &[u32]) -> usize
     n
 }
 
-// Whether a group, by its limit and the set of its actions, has no room for a start of action `a` beside those in hand; whether some group
-// has none.
+// Returns whether a group, by its limit and the set of its actions, has no room for a start of action `a` beside those in hand.
 fn is_full(limit: usize, members: u64, held: &[u32], a: usize) -> bool
     requires { ⌜ a < 64 ⌝ }
     ensures { λ r. ⌜ r ≡ isFull limit members (now (held .entry)) a ⌝ }
@@ -91,7 +93,8 @@ fn is_full(limit: usize, members: u64, held: &[u32], a: usize) -> bool
     limit <= held_of(members, held)
 }
 
-pub fn some_full(limits: &[usize; 8], members: &[u64; 8], held: &[u32], a: usize) -> bool
+// Returns whether some group has no room for a start of action `a` beside those in hand.
+pub fn some_full(limits: &[usize; GROUPS], members: &[u64; GROUPS], held: &[u32], a: usize) -> bool
     requires { ⌜ a < 64 ⌝ }
     ensures { λ r. ⌜ r ≡ someFull (now (limits .entry)) (now (members .entry)) (now (held .entry)) a ⌝ }
 {
@@ -105,8 +108,8 @@ pub fn some_full(limits: &[usize; 8], members: &[u64; 8], held: &[u32], a: usize
     false
 }
 
-// Whether no group has an action.
-fn all_empty(members: &[u64; 8]) -> bool
+// Returns whether no group has an action.
+fn all_empty(members: &[u64; GROUPS]) -> bool
     ensures { λ r. ⌜ r ≡ not (anyBelow (λ g. not (eqb (getD (now (members .entry)) g 0) 0)) 8) ⌝ }
 {
     let mut g = 0;
@@ -120,8 +123,14 @@ fn all_empty(members: &[u64; 8]) -> bool
 }
 
 // Keeps of the first `count` starts, which all finish after moment `t`, those that finish after moment `u`, which is not before `t`.
-// At the same moment that is all of them, without a pass.
-fn keep_from(durations: &[usize; 64], t: usize, u: usize, held: &mut [u32], count: usize) -> usize
+// At the same moment that is all of them, without a pass. Returns their number.
+fn keep_from(
+    durations: &[usize; ACTIONS],
+    t: usize,
+    u: usize,
+    held: &mut [u32],
+    count: usize,
+) -> usize
     requires { ⌜ (t ≤ u) × ((a : ℕ) → getD (now durations) a 0 < 64) × (count ≤ length (now held)) × Each (λ s. unfinishedBy (now durations) t s ≡ true) (take count (now held)) ⌝ }
     ensures { λ r. ⌜ Filtered (unfinishedBy (now (durations .entry)) u) count (now (held .entry)) r (now (held .exit)) ⌝ }
 {
@@ -131,8 +140,14 @@ fn keep_from(durations: &[usize; 64], t: usize, u: usize, held: &mut [u32], coun
     keep_unfinished(durations, u, held, count)
 }
 
-// Row 16. Of the words before, those in hand at the moment `t` of the last one are in the list `held`.
-pub fn over_limit(job: &[u32], durations: &[usize; 64], groups: Groups, starts: &[u32]) -> Refusal
+// Row 16: refuses the first start with which a group exceeds its limit. The list `held` has the starts before it that are in hand at the
+// moment `t` of the last one.
+pub fn over_limit(
+    job: &[u32],
+    durations: &[usize; ACTIONS],
+    groups: Groups,
+    starts: &[u32],
+) -> Refusal
     requires { ⌜ Grouped (now job) (now durations) (now starts) groups ⌝ }
     ensures { λ r. ⌜ r ≡ firstOf (numbered 16 (groupExceeded (now (job .entry)) (now (starts .entry)))) (length (now (starts .entry))) ⌝ }
 {
@@ -141,7 +156,7 @@ pub fn over_limit(job: &[u32], durations: &[usize; 64], groups: Groups, starts: 
     if all_empty(&members) {
         return none();
     }
-    let mut held = [0u32; 4096];
+    let mut held = [0u32; HELD_ROOM];
     let mut count = 0;
     let mut t = 0;
     let mut i = 0;
@@ -150,7 +165,7 @@ pub fn over_limit(job: &[u32], durations: &[usize; 64], groups: Groups, starts: 
         let u = start_moment(s);
         count = keep_from(durations, t, u, &mut held, count);
         if some_full(&limits, &members, &held[..count], start_action(s)) {
-            return refuse(16, i);
+            return refuse(GROUP_OVER_LIMIT, i);
         }
         held[count] = s;
         count += 1;

@@ -7,10 +7,15 @@ ghost use Rattle.words.specs.Scan.{takeWhile};
 ghost use Rattle.history.specs.Held.{beginsAt, startingAt, Lasting, Ascending, Timed, HeldList};
 ghost use Rattle.history.specs.Code.Held.{unfinishedBy, Filtered};
 use crate::tables::finish_of;
+use words::ACTIONS;
+use words::MOMENTS;
 use words::copy_words;
 use words::start_moment;
 
-// How many starts from position `from` on begin at moment `t`, up to the first that does not; these starts.
+// The room of a list of starts in hand: as many as a plan can have, one for each moment and action.
+pub const HELD_ROOM: usize = MOMENTS * ACTIONS;
+
+// Returns how many starts from position `from` on begin at moment `t`, up to the first that does not.
 fn starting_count(starts: &[u32], from: usize, t: usize) -> usize
     requires { ⌜ from ≤ length (now starts) ⌝ }
     ensures { λ r. ⌜ r ≡ length (takeWhile (beginsAt t) (drop from (now (starts .entry)))) ⌝ }
@@ -25,6 +30,7 @@ fn starting_count(starts: &[u32], from: usize, t: usize) -> usize
     i - from
 }
 
+// Returns the starts from position `from` on that begin at moment `t`, up to the first that does not.
 pub(crate) fn starting_at<'a>(starts: &'a [u32], from: usize, t: usize) -> &'a [u32]
     requires { ⌜ from ≤ length (now starts) ⌝ }
     ensures { λ r. ⌜ now r ≡ takeWhile (beginsAt t) (drop from (now (starts .entry))) ⌝ }
@@ -33,8 +39,13 @@ pub(crate) fn starting_at<'a>(starts: &'a [u32], from: usize, t: usize) -> &'a [
     &starts[from..end]
 }
 
-// Keeps of the first `count` starts those that finish after moment `t`, in their order, and says how many they are.
-pub fn keep_unfinished(durations: &[usize; 64], t: usize, held: &mut [u32], count: usize) -> usize
+// Keeps of the first `count` starts those that finish after moment `t`, in their order. Returns their number.
+pub fn keep_unfinished(
+    durations: &[usize; ACTIONS],
+    t: usize,
+    held: &mut [u32],
+    count: usize,
+) -> usize
     requires { ⌜ ((a : ℕ) → getD (now durations) a 0 < 64) × (count ≤ length (now held)) ⌝ }
     ensures { λ r. ⌜ Filtered (unfinishedBy (now (durations .entry)) t) count (now (held .entry)) r (now (held .exit)) ⌝ }
 {
@@ -64,7 +75,7 @@ pub(crate) fn hold_first(starts: &[u32], held: &mut [u32]) -> usize
 // Carries the list of starts in hand, the first `count` words of `held`, from moment `t` to the next: the starts that finish then leave
 // it, and those in `starting`, which begin then, join it. Returns the number of starts in hand.
 pub(crate) fn hold_next(
-    durations: &[usize; 64],
+    durations: &[usize; ACTIONS],
     starting: &[u32],
     t: usize,
     held: &mut [u32],

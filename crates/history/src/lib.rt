@@ -3,9 +3,11 @@ mod carry;
 pub mod states;
 pub mod tables;
 
+pub use carry::HELD_ROOM;
 pub use carry::keep_unfinished;
 pub use states::history;
 pub use tables::durations;
 pub use tables::effects;
 pub use tables::finish_of;
+pub use tables::law_ends;
 pub use tables::laws_of;

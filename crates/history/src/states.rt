@@ -13,14 +13,18 @@ ghost use Rattle.history.specs.Held.{startingAt, Ascending};
 ghost use Rattle.history.specs.Code.Held.{Carried, Steppable};
 ghost use Rattle.history.specs.Code.Stores.{Overlaid, Mapped};
 ghost use Rattle.history.specs.Code.Passes.{changed, changedBy, AfterPass};
+use crate::carry::HELD_ROOM;
 use crate::carry::hold_first;
 use crate::carry::hold_next;
 use crate::carry::starting_at;
 use crate::tables::finish_of;
 use crate::tables::store_row;
+use words::ACTIONS;
+use words::EFFECTS;
 use words::FLUENTS;
 use words::KNOWN;
 use words::OPEN;
+use words::STATES;
 use words::fluent_of;
 use words::fluents_of;
 use words::kind_of;
@@ -28,7 +32,7 @@ use words::known_value;
 use words::start_action;
 
 // Stores what the word `w` says that is initially known.
-fn store_known(head: u32, w: u32, state: &mut [u8; 256])
+fn store_known(head: u32, w: u32, state: &mut [u8; FLUENTS])
     requires { ⌜ length (now state) ≡ 256 ⌝ }
     ensures { λ _. ⌜ Overlaid 256 (lists head) (λ f. knownValue head) (now (state .entry)) (w ∷ []) (now (state .exit)) ⌝ }
 {
@@ -38,12 +42,12 @@ fn store_known(head: u32, w: u32, state: &mut [u8; 256])
 }
 
 // The state at moment 0: from the last word to the first, so that the first on a fluent prevails.
-fn initial_state(job: &[u32]) -> [u8; 256]
+fn initial_state(job: &[u32]) -> [u8; FLUENTS]
     requires { ⌜ WellFormed (now job) ⌝ }
     ensures { λ r. ⌜ StateAt (now (job .entry)) [] 0 r ⌝ }
 {
     let head = job[0];
-    let mut state = [OPEN; 256];
+    let mut state = [OPEN; FLUENTS];
     let mut i = job.len();
     while 0 < i {
         i -= 1;
@@ -66,7 +70,7 @@ fn changed(hiding: bool, value: u8, old: u8) -> u8
 }
 
 // The same for the first `n` fluents and action `a`.
-fn apply(effects: &[u8; 16384], a: usize, n: usize, hiding: bool, state: &mut [u8; 256])
+fn apply(effects: &[u8; EFFECTS], a: usize, n: usize, hiding: bool, state: &mut [u8; FLUENTS])
     requires { ⌜ (a < 64) × (n ≤ 256) × (n ≤ length (now state)) ⌝ }
     ensures { λ _. ⌜ Mapped n (changedBy (now (effects .entry)) a hiding) (now (state .entry)) (now (state .exit)) ⌝ }
 {
@@ -80,12 +84,12 @@ fn apply(effects: &[u8; 16384], a: usize, n: usize, hiding: bool, state: &mut [u
 // Applies the start `s`, if it acts in a pass to moment `t`: in the hiding pass each does, in the other one that finishes then.
 fn apply_start(
     job: &[u32],
-    durations: &[usize; 64],
-    effects: &[u8; 16384],
+    durations: &[usize; ACTIONS],
+    effects: &[u8; EFFECTS],
     s: u32,
     hiding: bool,
     t: usize,
-    state: &mut [u8; 256],
+    state: &mut [u8; FLUENTS],
 )
     requires { ⌜ Walkable (now job) (now durations) (now effects) (s ∷ []) × (fluents (now job) ≤ length (now state)) ⌝ }
     ensures { λ _. ⌜ AfterPass (now (job .entry)) hiding t (s ∷ []) (now (state .entry)) (now (state .exit)) ⌝ }
@@ -98,12 +102,12 @@ fn apply_start(
 // Applies all starts that act in a pass to moment `t`: from the last to the first, so that the first prevails.
 fn apply_starts(
     job: &[u32],
-    durations: &[usize; 64],
-    effects: &[u8; 16384],
+    durations: &[usize; ACTIONS],
+    effects: &[u8; EFFECTS],
     starts: &[u32],
     hiding: bool,
     t: usize,
-    state: &mut [u8; 256],
+    state: &mut [u8; FLUENTS],
 )
     requires { ⌜ Walkable (now job) (now durations) (now effects) (now starts) × (fluents (now job) ≤ length (now state)) ⌝ }
     ensures { λ _. ⌜ AfterPass (now (job .entry)) hiding t (now (starts .entry)) (now (state .entry)) (now (state .exit)) ⌝ }
@@ -120,13 +124,13 @@ fn apply_starts(
 // in hand then.
 fn step(
     job: &[u32],
-    durations: &[usize; 64],
-    effects: &[u8; 16384],
+    durations: &[usize; ACTIONS],
+    effects: &[u8; EFFECTS],
     starting: &[u32],
     t: usize,
     held: &mut [u32],
     count: usize,
-    state: &mut [u8; 256],
+    state: &mut [u8; FLUENTS],
 ) -> usize
     requires { ⌜ Steppable (now job) (now durations) (now effects) (now starting) t (now held) count (now state) ⌝ }
     ensures { λ r. ⌜ ((S : List ℕ) → Named (now (job .entry)) S → Ascending S → now (starting .entry) ≡ startingAt S (t + 1) → Carried (now (job .entry)) S t (now (held .entry)) count (now (state .entry)) → Carried (now (job .entry)) S (t + 1) (now (held .exit)) r (now (state .exit))) ⌝ }
@@ -141,18 +145,18 @@ fn step(
 // The one walk of the states, up to moment `last`. The first `next` starts have begun.
 pub fn history(
     job: &[u32],
-    durations: &[usize; 64],
-    effects: &[u8; 16384],
+    durations: &[usize; ACTIONS],
+    effects: &[u8; EFFECTS],
     starts: &[u32],
     last: usize,
-) -> [u8; 16384]
+) -> [u8; STATES]
     requires { ⌜ Walkable (now job) (now durations) (now effects) (now starts) × Ascending (now starts) × (length (now starts) ≤ 4096) × (last < 64) ⌝ }
     ensures { λ r. ⌜ HistoryUpto (now (job .entry)) (now (starts .entry)) last r ⌝ }
 {
-    let mut table = [OPEN; 16384];
+    let mut table = [OPEN; STATES];
     let mut state = initial_state(job);
     store_row(&state, 0, &mut table);
-    let mut held = [0u32; 4096];
+    let mut held = [0u32; HELD_ROOM];
     let mut count = hold_first(starts, &mut held);
     let mut next = count;
     let mut t = 0;

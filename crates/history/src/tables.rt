@@ -1,4 +1,4 @@
-// Tables of the actions, made once for a job: durations, and effects by action and fluent.
+// Tables of the actions, made once for a job: durations, where their laws end, and effects by action and fluent.
 ghost use mathlib.Core.Path.{_≡_};
 ghost use Prim.Native.Nat.{_<_};
 ghost use mathlib.Core.List.{_∷_, []};
@@ -7,8 +7,10 @@ ghost use Rattle.words.specs.Fields.{unknown, startAction};
 ghost use Rattle.job.specs.Parts.{actions, lawsOf};
 ghost use Rattle.job.specs.Code.WellFormed.{WellFormed, Indexed};
 ghost use Rattle.history.specs.Actions.{makesFluent, lawValue};
-ghost use Rattle.history.specs.Code.Tables.{Durations, Effects, tabledFinish};
+ghost use Rattle.history.specs.Code.Tables.{Durations, LawEnds, Ruled, Effects, tabledFinish};
 ghost use Rattle.history.specs.Code.Stores.{Overlaid, RowStored};
+use words::ACTIONS;
+use words::EFFECTS;
 use words::FLUENTS;
 use words::LAW;
 use words::OPEN;
@@ -22,12 +24,13 @@ use words::run_length;
 use words::start_action;
 use words::start_moment;
 
-pub fn durations(job: &[u32], places: &[usize; 64]) -> [usize; 64]
+// Returns the duration of each action.
+pub fn durations(job: &[u32], places: &[usize; ACTIONS]) -> [usize; ACTIONS]
     requires { ⌜ WellFormed (now job) × Indexed (now job) 3 (now places) ⌝ }
     ensures { λ r. ⌜ Durations (now (job .entry)) r ⌝ }
 {
     let n = actions_of(job[0]);
-    let mut table = [0usize; 64];
+    let mut table = [0usize; ACTIONS];
     let mut a = 0;
     while a < n {
         let at = places[a];
@@ -38,25 +41,46 @@ pub fn durations(job: &[u32], places: &[usize; 64]) -> [usize; 64]
 }
 
 // The moment at which a start finishes.
-pub fn finish_of(durations: &[usize; 64], s: u32) -> usize
+pub fn finish_of(durations: &[usize; ACTIONS], s: u32) -> usize
     requires { ⌜ getD (now durations) (startAction s) 0 < 64 ⌝ }
     ensures { λ r. ⌜ r ≡ tabledFinish (now (durations .entry)) s ⌝ }
 {
     start_moment(s) + durations[start_action(s)]
 }
 
-// The laws of action `a`: the words of kind 4 after its own.
-pub fn laws_of<'a>(job: &'a [u32], places: &[usize; 64], a: usize) -> &'a [u32]
-    requires { ⌜ WellFormed (now job) × Indexed (now job) 3 (now places) × (a < actions (now job)) ⌝ }
+// Returns the position at which the laws of each action end. Each law is read once.
+pub fn law_ends(job: &[u32], places: &[usize; ACTIONS]) -> [usize; ACTIONS]
+    requires { ⌜ WellFormed (now job) × Indexed (now job) 3 (now places) ⌝ }
+    ensures { λ r. ⌜ LawEnds (now (job .entry)) (now (places .entry)) r ⌝ }
+{
+    let n = actions_of(job[0]);
+    let mut table = [0usize; ACTIONS];
+    let mut a = 0;
+    while a < n {
+        let from = places[a] + 1;
+        table[a] = from + run_length(job, from, LAW);
+        a += 1;
+    }
+    table
+}
+
+// Returns the laws of action `a`: they stand directly after its own word, up to the end that the table has for it.
+pub fn laws_of<'a>(
+    job: &'a [u32],
+    places: &[usize; ACTIONS],
+    ends: &[usize; ACTIONS],
+    a: usize,
+) -> &'a [u32]
+    requires { ⌜ Ruled (now job) (now places) (now ends) × (a < actions (now job)) ⌝ }
     ensures { λ r. ⌜ now r ≡ lawsOf (now (job .entry)) a ⌝ }
 {
     let from = places[a] + 1;
-    let end = from + run_length(job, from, LAW);
+    let end = ends[a];
     &job[from..end]
 }
 
 // Stores what the law `w` makes, over the values that later laws made.
-fn store_law(head: u32, w: u32, row: &mut [u8; 256])
+fn store_law(head: u32, w: u32, row: &mut [u8; FLUENTS])
     requires { ⌜ length (now row) ≡ 256 ⌝ }
     ensures { λ _. ⌜ Overlaid 256 (makesFluent head) (λ f. lawValue head) (now (row .entry)) (w ∷ []) (now (row .exit)) ⌝ }
 {
@@ -67,10 +91,10 @@ fn store_law(head: u32, w: u32, row: &mut [u8; 256])
 }
 
 // The values that an action with these laws makes of the fluents: from the last law to the first, so that the first prevails.
-fn effects_row(head: u32, laws: &[u32]) -> [u8; 256]
+fn effects_row(head: u32, laws: &[u32]) -> [u8; FLUENTS]
     ensures { λ r. ⌜ Overlaid 256 (makesFluent head) (λ f. lawValue head) (replicate 256 unknown) (now (laws .entry)) r ⌝ }
 {
-    let mut row = [OPEN; 256];
+    let mut row = [OPEN; FLUENTS];
     let mut i = laws.len();
     while 0 < i {
         i -= 1;
@@ -80,7 +104,7 @@ fn effects_row(head: u32, laws: &[u32]) -> [u8; 256]
 }
 
 // Stores row `a` of a table.
-pub(crate) fn store_row(row: &[u8; 256], a: usize, table: &mut [u8; 16384])
+pub(crate) fn store_row(row: &[u8; FLUENTS], a: usize, table: &mut [u8; EFFECTS])
     requires { ⌜ (a < 64) × (length (now table) ≡ 16384) ⌝ }
     ensures { λ _. ⌜ RowStored (now (row .entry)) a 256 (now (table .entry)) (now (table .exit)) ⌝ }
 {
@@ -91,16 +115,17 @@ pub(crate) fn store_row(row: &[u8; 256], a: usize, table: &mut [u8; 16384])
     }
 }
 
-pub fn effects(job: &[u32], places: &[usize; 64]) -> [u8; 16384]
-    requires { ⌜ WellFormed (now job) × Indexed (now job) 3 (now places) ⌝ }
+// Returns the value that each action makes of each fluent.
+pub fn effects(job: &[u32], places: &[usize; ACTIONS], ends: &[usize; ACTIONS]) -> [u8; EFFECTS]
+    requires { ⌜ Ruled (now job) (now places) (now ends) ⌝ }
     ensures { λ r. ⌜ Effects (now (job .entry)) r ⌝ }
 {
     let head = job[0];
     let n = actions_of(head);
-    let mut table = [OPEN; 16384];
+    let mut table = [OPEN; EFFECTS];
     let mut a = 0;
     while a < n {
-        let row = effects_row(head, laws_of(job, places, a));
+        let row = effects_row(head, laws_of(job, places, ends, a));
         store_row(&row, a, &mut table);
         a += 1;
     }

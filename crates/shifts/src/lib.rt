@@ -10,6 +10,7 @@ ghost use Rattle.starts.specs.Rows.{insideWindow, outsideWindows, numbered};
 ghost use Rattle.starts.specs.Code.Given.{StartsFormed};
 ghost use Rattle.shifts.specs.Code.ShiftSets.{ShiftTable};
 use answers::Refusal;
+use answers::START_OUTSIDE_WINDOWS;
 use answers::none;
 use answers::refuse;
 use bitset::between;
@@ -21,10 +22,10 @@ use words::*;
 // As sets: the actions that have shift windows, and for each action the moments at which it may start in one of them.
 pub struct Shifts {
     pub windowed: u64,
-    pub inside: [u64; 64],
+    pub inside: [u64; ACTIONS],
 }
 
-// The moments at which an action of duration `d` may start in the window `w`.
+// Returns the moments at which an action of duration `d` may start in the window `w`.
 fn moments_in(w: u32, d: usize) -> u64
     ensures { λ r. ⌜ IsSetOf r (λ u. insideWindow d u w) ⌝ }
 {
@@ -35,13 +36,13 @@ fn moments_in(w: u32, d: usize) -> u64
     between(shift_window_from(w) as u32, (to - d) as u32)
 }
 
-// The windows of all actions, in one pass over the job.
-pub fn shifts_of(job: &[u32], durations: &[usize; 64]) -> Shifts
+// Returns the windows of all actions, in one pass over the job.
+pub fn shifts_of(job: &[u32], durations: &[usize; ACTIONS]) -> Shifts
     requires { ⌜ Durations (now job) (now durations) ⌝ }
     ensures { λ r. ⌜ ShiftTable (now (job .entry)) r ⌝ }
 {
     let mut windowed: u64 = 0;
-    let mut inside = [0u64; 64];
+    let mut inside = [0u64; ACTIONS];
     let mut i = job.len();
     while 0 < i {
         i -= 1;
@@ -55,15 +56,15 @@ pub fn shifts_of(job: &[u32], durations: &[usize; 64]) -> Shifts
     Shifts { windowed, inside }
 }
 
-// Whether action `a` may start at moment `u`, by its shift windows.
-pub fn may_start(windowed: u64, inside: &[u64; 64], u: usize, a: usize) -> bool
+// Returns whether action `a` may start at moment `u`, by its shift windows.
+pub fn may_start(windowed: u64, inside: &[u64; ACTIONS], u: usize, a: usize) -> bool
     requires { ⌜ (u < 64) × (a < 64) ⌝ }
     ensures { λ r. ⌜ r ≡ (not (has windowed a) || has (getD (now (inside .entry)) a 0) u) ⌝ }
 {
     !has(windowed, a as u32) | has(inside[a], u as u32)
 }
 
-// Row 15.
+// Row 15: refuses the first start outside the shift windows of its action.
 pub fn outside_windows(job: &[u32], shifts: Shifts, starts: &[u32]) -> Refusal
     requires { ⌜ ShiftTable (now job) shifts × StartsFormed (now job) (now starts) ⌝ }
     ensures { λ r. ⌜ r ≡ firstOf (numbered 15 (outsideWindows (now (job .entry)) (now (starts .entry)))) (length (now (starts .entry))) ⌝ }
@@ -74,7 +75,7 @@ pub fn outside_windows(job: &[u32], shifts: Shifts, starts: &[u32]) -> Refusal
     while i < starts.len() {
         let s = starts[i];
         if !may_start(windowed, &inside, start_moment(s), start_action(s)) {
-            return refuse(15, i);
+            return refuse(START_OUTSIDE_WINDOWS, i);
         }
         i += 1;
     }

@@ -20,11 +20,11 @@ use Rattle.starts.specs.Rows.{unmet, unmetAt, needsUnmet}
 use Rattle.starts.specs.Code.Given.{Recorded}
 use Rattle.starts.proofs.StartsFormed.{right-word}
 
-module _ {job places history starts : List ℕ} (given : Recorded job places history starts) (a : ℕ) (h : a < actions job) where
+module _ {job places ends history starts : List ℕ} (given : Recorded job places ends history starts) (a : ℕ) (h : a < actions job) where
   -- the laws of an action speak of fluents of the job
   law-fluent : (i : ℕ) → i < length (lawsOf job a) → fluentOf (headWord job) (getD (lawsOf job a) i 0) < fluents job
   law-fluent i l =
-      let e = laws-place (given .indexed) a (action-counted (given .formed) h) in
+      let e = laws-place (given .rules .indexed) a (action-counted (given .rules .formed) h) in
       rw e (leads (rw e at l))
     where
       p : ℕ
@@ -35,7 +35,7 @@ module _ {job places history starts : List ℕ} (given : Recorded job places his
           let entry = takeWhile-entry (ofKind 4) (drop p job) i l in
           let same : getD (drop p job) i 0 ≡ getD job (p + i) 0 = rw getD-drop in
           rw (entry .0, same)
-          (given .formed .law (p + i) (omega (arith, entry .2, length-drop p job)) (eqb-true (kind (getD job (p + i) 0)) 4 (rw same at (entry .1))))
+          (given .rules .formed .law (p + i) (omega (arith, entry .2, length-drop p job)) (eqb-true (kind (getD job (p + i) 0)) 4 (rw same at (entry .1))))
 
   pub needs-read : (t : ℕ) → t ≤ given .last → any (unmet (headWord job) (λ f. getD history (t * 256 + f) 0)) (lawsOf job a) ≡ unmetAt job starts t a
   needs-read t m = any-agree _ _ (each-of (lawsOf job a) agree)
@@ -45,7 +45,7 @@ module _ {job places history starts : List ℕ} (given : Recorded job places his
       agree i l = rw (given .values .entry t (fluentOf (headWord job) (getD (lawsOf job a) i 0)) m (law-fluent i l))
 
 -- row 10 by what the code has read of word i: its action a with its laws, its moment u, and whether one of them is unmet then
-pub unmet-read : {job places history starts : List ℕ} → Recorded job places history starts → {i : ℕ} → i < length starts
+pub unmet-read : {job places ends history starts : List ℕ} → Recorded job places ends history starts → {i : ℕ} → i < length starts
     → {a : ℕ} → a ≡ startAction (getD starts i 0) → {laws : List ℕ} → laws ≡ lawsOf job a → {u : ℕ} → u ≡ startMoment (getD starts i 0)
     → {r : Bool} → r ≡ any (unmet (headWord job) (λ f. getD history (u * 256 + f) 0)) laws → needsUnmet job starts i ≡ r
 unfolding needsUnmet

@@ -1,10 +1,11 @@
--- Two starts clash whichever comes first; when a start clashes with one that does not begin later. Assumes nothing.
+-- Two actions, and two starts, clash whichever comes first, and no action clashes with itself; when a start clashes with one that does not
+-- begin later. Assumes nothing.
 use mathlib.Core.Bool.{Bool, true, false, _&&_, _||_, and-comm, or-comm}
 use mathlib.Core.List.{List}
 use mathlib.Core.Path.{_≡_, refl}
 use Prim.Native.Nat.{ℕ, _+_, _≤_, _<_}
 use native.Mathlib.Omega.{arith}
-use borrow.Author.Tests.{ltb-true, ltb-false}
+use borrow.Author.Tests.{eqb-true, ltb-true, ltb-false}
 use lib.Dec.{eqb, ltb}
 use Rattle.words.specs.Fields.{holds, fails, startMoment, startAction}
 use Rattle.words.specs.Scan.{anyBelow}
@@ -16,7 +17,7 @@ use Rattle.history.proofs.Held.{in-hand-true, true-in-hand}
 use Rattle.starts.specs.Rows.{opposed, clash, together, clashing}
 
 module _ (job : List ℕ) where
-  clash-swap : (a b : ℕ) → clash job a b ≡ clash job b a
+  pub clash-swap : (a b : ℕ) → clash job a b ≡ clash job b a
   unfolding clash
   clash-swap a b =
       some-cong (opposed job a b) (opposed job b a) (fluents job)
@@ -24,6 +25,18 @@ module _ (job : List ℕ) where
     where
       swap : (p q r s : Bool) → ((p && q) || (r && s)) ≡ ((s && r) || (q && p))
       swap p q r s = rw (and-comm p q, and-comm r s) (or-comm (q && p) (s && r))
+
+  pub clash-self : (a : ℕ) → clash job a a ≡ false
+  unfolding clash
+  clash-self a =
+      some-none (opposed job a a) (fluents job)
+      (λ f l. never (eqb (effect job a f) holds) (eqb (effect job a f) fails) (λ p q. omega (arith, eqb-true (effect job a f) 2 p, eqb-true (effect job a f) 0 q)))
+    where
+      never : (p q : Bool) → (p ≡ true → q ≡ true → ⊥) → ((p && q) || (q && p)) ≡ false
+      never true true h = absurd (h refl refl)
+      never true false h = refl
+      never false true h = refl
+      never false false h = refl
 
   together-swap : (s s' : ℕ) → together job s s' ≡ together job s' s
   unfolding together

@@ -1,5 +1,5 @@
 // The rows on starts, 6 to 10, of a well-formed job; the crates `shifts` and `groups` have the code of rows 15 and 16. Each row's function
-// answers its number at the first word that it fits.
+// returns its number at the first word that it fits.
 ghost use mathlib.Core.Path.{_≡_};
 ghost use lib.ListN.{length};
 ghost use Rattle.starts.specs.Rows.{rowsRefusal};
@@ -18,13 +18,15 @@ pub use times::late_end;
 pub use times::restart;
 pub use unmet::check_needs;
 pub use unmet::has_unmet;
+use words::ACTIONS;
+use words::EFFECTS;
 
-// The first of rows 6 to 9 that fits, at the first word that it fits. Rows 15 (`shifts::outside_windows`), 16
+// Returns the first of rows 6 to 9 that fits, at the first word that it fits. Rows 15 (`shifts::outside_windows`), 16
 // (`groups::over_limit`) and 10 (`check_needs`) come after them.
 pub fn check_times(
     job: &[u32],
-    durations: &[usize; 64],
-    effects: &[u8; 16384],
+    durations: &[usize; ACTIONS],
+    effects: &[u8; EFFECTS],
     starts: &[u32],
 ) -> Refusal
     requires { ⌜ Tabled (now job) (now durations) (now effects) ⌝ }

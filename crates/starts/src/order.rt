@@ -6,11 +6,12 @@ ghost use Rattle.answers.specs.Rows.{firstOf};
 ghost use Rattle.job.specs.Code.WellFormed.{WellFormed};
 ghost use Rattle.starts.specs.Rows.{isStart, ascends, wrongWord, numbered};
 use answers::Refusal;
+use answers::START_WORD;
 use answers::none;
 use answers::refuse;
 use words::*;
 
-// Whether a word is a start of the job, and above the word before it.
+// Returns whether a word is a start of the job.
 fn is_start(job: &[u32], s: u32) -> bool
     requires { ⌜ 0 < length (now job) ⌝ }
     ensures { λ r. ⌜ r ≡ isStart (now (job .entry)) s ⌝ }
@@ -22,6 +23,7 @@ fn is_start(job: &[u32], s: u32) -> bool
         & (start_action(s) < actions_of(head))
 }
 
+// Returns whether the word at `i` is above the word before it, if there is one.
 fn is_above(starts: &[u32], i: usize) -> bool
     requires { ⌜ i < length (now starts) ⌝ }
     ensures { λ r. ⌜ r ≡ ascends (now (starts .entry)) i ⌝ }
@@ -32,7 +34,7 @@ fn is_above(starts: &[u32], i: usize) -> bool
     starts[i - 1] < starts[i]
 }
 
-// Row 6.
+// Row 6: refuses the first word that is no start of the job or not above the word before it.
 pub fn wrong_word(job: &[u32], starts: &[u32]) -> Refusal
     requires { ⌜ WellFormed (now job) ⌝ }
     ensures { λ r. ⌜ r ≡ firstOf (numbered 6 (wrongWord (now (job .entry)) (now (starts .entry)))) (length (now (starts .entry))) ⌝ }
@@ -40,7 +42,7 @@ pub fn wrong_word(job: &[u32], starts: &[u32]) -> Refusal
     let mut i = 0;
     while i < starts.len() {
         if !(is_start(job, starts[i]) & is_above(starts, i)) {
-            return refuse(6, i);
+            return refuse(START_WORD, i);
         }
         i += 1;
     }

@@ -9,6 +9,7 @@ use formulas::standard_values;
 use model::Arrays;
 use words::last_of;
 
+// Returns the procedure and the trajectory of a plan that passed, as arrays.
 pub fn arrays_of(job: &[u32], starts: &[u32], plan: Plan) -> Arrays
     requires { ⌜ Passed (now job) (now starts) plan ⌝ }
     ensures { λ r. ⌜ Represents (now (job .entry)) r (procedureOf (now (job .entry))) (planTrajectory (now (job .entry)) (now (starts .entry))) ⌝ }

@@ -13,6 +13,8 @@ ghost use Rattle.theory.specs.Answers.{bufferRefusal, planRefusal, facts
 ghost use Rattle.theory.specs.Code.Judged.{roomCheckedOf, JobChecked, Judgeable, JudgedUpto, Judged};
 ghost use Rattle.theory.specs.Code.Compared.{partRefusal};
 use answers::Answer;
+use answers::BUFFER_SHORT;
+use answers::FACTS_DIFFER;
 use answers::Refusal;
 use answers::answer_of;
 use answers::first_refusal;
@@ -26,6 +28,7 @@ use groups::groups_of;
 use groups::over_limit;
 use history::durations;
 use history::effects;
+use history::law_ends;
 use job::Checked;
 use job::Index;
 use job::check_job;
@@ -34,7 +37,11 @@ use shifts::outside_windows;
 use shifts::shifts_of;
 use starts::check_needs;
 use starts::check_times;
+use words::ACTIONS;
+use words::EFFECTS;
 use words::FLUENTS;
+use words::GROUPS;
+use words::STATES;
 use words::fact_room;
 use words::last_of;
 
@@ -43,37 +50,40 @@ pub mod moments;
 
 pub use arrays::arrays_of;
 
-// The refusal of the rows that were run, and of a plan that passes them the index of the job's words, the durations, effects and shift
-// windows of its actions, its groups, and its history.
+// The refusal of the rows that were run; for a plan that passes them also the index of the job's words, the durations of its actions, where
+// their laws end, their effects and shift windows, its groups, and its history.
 pub struct Plan {
     pub refusal: Refusal,
     pub index: Index,
-    pub durations: [usize; 64],
-    pub effects: [u8; 16384],
+    pub durations: [usize; ACTIONS],
+    pub ends: [usize; ACTIONS],
+    pub effects: [u8; EFFECTS],
     pub shifts: Shifts,
     pub groups: Groups,
-    pub history: [u8; 16384],
+    pub history: [u8; STATES],
 }
 
-// A refused plan: nothing is promised of its tables.
+// Returns a refused plan. Nothing is promised of its tables.
 pub fn refused(refusal: Refusal, index: Index) -> Plan
     ensures { λ r. ⌜ r .refusal ≡ refusal ⌝ }
 {
-    let durations = [0usize; 64];
-    let effects = [0u8; 16384];
+    let durations = [0usize; ACTIONS];
+    let ends = [0usize; ACTIONS];
+    let effects = [0u8; EFFECTS];
     let shifts = Shifts {
         windowed: 0,
-        inside: [0u64; 64],
+        inside: [0u64; ACTIONS],
     };
     let groups = Groups {
-        limits: [0usize; 8],
-        members: [0u64; 8],
+        limits: [0usize; GROUPS],
+        members: [0u64; GROUPS],
     };
-    let history = [0u8; 16384];
+    let history = [0u8; STATES];
     Plan {
         refusal,
         index,
         durations,
+        ends,
         effects,
         shifts,
         groups,
@@ -81,7 +91,7 @@ pub fn refused(refusal: Refusal, index: Index) -> Plan
     }
 }
 
-// The rows of the starts, of a job that no row refuses, and the history up to moment `last`.
+// Runs the rows of the starts, of a job that no row refuses, and makes the history up to moment `last`.
 pub fn judge_starts(job: &[u32], index: Index, starts: &[u32], last: usize) -> Plan
     requires { ⌜ Judgeable (now job) (now starts) index last ⌝ }
     ensures { λ r. ⌜ JudgedUpto (planRefusal (now (job .entry)) (now (starts .entry))) (now (job .entry)) (now (starts .entry)) last r ⌝ }
@@ -89,7 +99,8 @@ pub fn judge_starts(job: &[u32], index: Index, starts: &[u32], last: usize) -> P
     let actions = index.actions;
     let places = actions.position;
     let durations = durations(job, &places);
-    let effects = effects(job, &places);
+    let ends = law_ends(job, &places);
+    let effects = effects(job, &places, &ends);
     let shifts = shifts_of(job, &durations);
     let groups = groups_of(job);
     let times = check_times(job, &durations, &effects, starts);
@@ -99,12 +110,13 @@ pub fn judge_starts(job: &[u32], index: Index, starts: &[u32], last: usize) -> P
     let history = history::history(job, &durations, &effects, starts, last);
     let outside = outside_windows(job, shifts, starts);
     let over = over_limit(job, &durations, groups, starts);
-    let unmet = check_needs(job, &places, &history, starts);
+    let unmet = check_needs(job, &places, &ends, &history, starts);
     let refusal = first_refusal(outside, first_refusal(over, unmet));
     Plan {
         refusal,
         index,
         durations,
+        ends,
         effects,
         shifts,
         groups,
@@ -112,7 +124,7 @@ pub fn judge_starts(job: &[u32], index: Index, starts: &[u32], last: usize) -> P
     }
 }
 
-// The first word of a job, and 0 of an empty one.
+// Returns the first word of a job, and 0 if the job is empty.
 fn head_of(job: &[u32]) -> u32
     ensures { λ r. ⌜ r ≡ headWord (now (job .entry)) ⌝ }
 {
@@ -122,18 +134,18 @@ fn head_of(job: &[u32]) -> u32
     job[0]
 }
 
-// The rows of the job, then row 12 again: whether there is room for the facts of its plans.
+// Runs the rows of the job, then row 12 again: whether there is room for the facts of its plans.
 pub fn check_job_and_room(job: &[u32], room: usize) -> Checked
     ensures { λ r. ⌜ r ≡ roomCheckedOf room (now (job .entry)) ⌝ }
 {
     let checked = check_job(job);
     let index = checked.index;
-    let short = row_of(room < fact_room(head_of(job)), 12, 0);
+    let short = row_of(room < fact_room(head_of(job)), BUFFER_SHORT, 0);
     let refusal = first_refusal(checked.refusal, short);
     Checked { refusal, index }
 }
 
-// The rows of the starts, after those that gave `checked`.
+// Runs the rows of the starts, after those that gave `checked`.
 pub fn judge(job: &[u32], checked: Checked, starts: &[u32]) -> Plan
     requires { ⌜ JobChecked (now job) checked ⌝ }
     ensures { λ r. ⌜ Judged (firstRefusal (checked .refusal) (startsRefusal (now (job .entry)) (now (starts .entry)))) (now (job .entry)) (now (starts .entry)) r ⌝ }
@@ -146,7 +158,7 @@ pub fn judge(job: &[u32], checked: Checked, starts: &[u32]) -> Plan
     judge_starts(job, index, starts, last_of(job[0]))
 }
 
-// Row 11 on the part of the list that is wanted at position `at`.
+// Row 11 on one part of the facts: refuses the first difference of the given list, from position `at` on, from that part.
 fn compare_part(given: &[u32], at: usize, part: &[u32]) -> Refusal
     requires { ⌜ at ≤ length (now given) ⌝ }
     ensures { λ r. ⌜ r ≡ partRefusal (drop at (now (given .entry))) (now (part .entry)) at ⌝ }
@@ -155,10 +167,10 @@ fn compare_part(given: &[u32], at: usize, part: &[u32]) -> Refusal
     let mut j = at;
     while i < part.len() {
         if given.len() <= j {
-            return refuse(11, j);
+            return refuse(FACTS_DIFFER, j);
         }
         if given[j] != part[i] {
-            return refuse(11, j);
+            return refuse(FACTS_DIFFER, j);
         }
         i += 1;
         j += 1;
@@ -166,8 +178,8 @@ fn compare_part(given: &[u32], at: usize, part: &[u32]) -> Refusal
     none()
 }
 
-// Row 11: the first difference from the facts of a plan, which are made for one moment at a time.
-fn compare_facts(job: &[u32], history: &[u8; 16384], given: &[u32]) -> Refusal
+// Row 11: refuses the first difference from the facts of a plan, which are made for one moment at a time.
+fn compare_facts(job: &[u32], history: &[u8; STATES], given: &[u32]) -> Refusal
     requires { ⌜ WellFormed (now job) ⌝ }
     ensures { λ r. ⌜ ((starts : List ℕ) → History (now (job .entry)) starts (now (history .entry)) → r ≡ factsRefusal (now (given .entry)) (factsOf (now (job .entry)) starts) 0) ⌝ }
 {
@@ -185,12 +197,12 @@ fn compare_facts(job: &[u32], history: &[u8; 16384], given: &[u32]) -> Refusal
         t += 1;
     }
     if at < given.len() {
-        return refuse(11, at);
+        return refuse(FACTS_DIFFER, at);
     }
     none()
 }
 
-// The rows of the job and of the starts, then row 11.
+// Runs the rows of the job and of the starts, then row 11.
 pub fn judge_facts(job: &[u32], starts: &[u32], facts: &[u32]) -> Plan
     ensures { λ r. ⌜ Judged (checkRefusal (now (job .entry)) (now (starts .entry)) (now (facts .entry))) (now (job .entry)) (now (starts .entry)) r ⌝ }
 {
@@ -204,6 +216,7 @@ pub fn judge_facts(job: &[u32], starts: &[u32], facts: &[u32]) -> Plan
     plan
 }
 
+// The check call: runs every row on the job, the starts and the facts.
 pub fn check_plan(job: &[u32], starts: &[u32], facts: &[u32]) -> Answer
     ensures { λ r. ⌜ r ≡ checkAnswer (now (job .entry)) (now (starts .entry)) (now (facts .entry)) ⌝ }
 {
@@ -214,14 +227,14 @@ pub fn check_plan(job: &[u32], starts: &[u32], facts: &[u32]) -> Answer
 // The words that a lent buffer has at least: more than a reading has, and as many as there can be facts, if the head is not wide.
 pub const BUFFER_WORDS: usize = 4096;
 
-// The first row 12, of fill, find and trial_show.
+// The first row 12, of fill, find and trial_show: refuses a lent buffer that is too short for any job.
 pub fn buffer_refusal(room: usize) -> Refusal
     ensures { λ r. ⌜ r ≡ bufferRefusal room ⌝ }
 {
-    row_of(room < BUFFER_WORDS, 12, 0)
+    row_of(room < BUFFER_WORDS, BUFFER_SHORT, 0)
 }
 
-// Row 12, those of the job, row 12 again, those of the starts; then the facts are written to the front of the buffer.
+// The fill call: runs row 12, the rows of the job, row 12 again and the rows of the starts, then writes the facts to the front of the buffer.
 pub fn fill_plan(job: &[u32], starts: &[u32], buffer: &mut [u32]) -> Answer
     ensures { λ r. ⌜ r ≡ fillAnswer (length (now (buffer .entry))) (now (job .entry)) (now (starts .entry)) ⌝ }
     ensures { λ r. ⌜ now (buffer .exit) ≡ written r (factsOf (now (job .entry)) (now (starts .entry))) (now (buffer .entry)) ⌝ }

@@ -1,5 +1,5 @@
 // The four calls on the words of a trial, as the host in C lends them: the moment, the number of starts, the starts. The words are taken
-// apart into a trial, a method is called, and the trial's words are put back where it accepts.
+// apart into a trial, a method is called, and the trial's words are put back if it accepts.
 ghost use mathlib.Core.Path.{_≡_};
 ghost use mathlib.Core.List.{_++_};
 ghost use Prim.Native.Nat.{_≤_};
@@ -10,10 +10,12 @@ ghost use Rattle.theory.specs.Answers.{written};
 ghost use Rattle.moves.specs.Trials.{Start, On, fresh, after};
 ghost use Rattle.moves.specs.Calls.{trialWords, trialIn, beginAnswer, moveAnswer, shownFacts, showAnswer, handedBack};
 ghost use Rattle.trial.specs.Stepped.{trialOf, Sized, Storable};
+use crate::MOST_STARTS;
 use crate::Moved;
 use crate::Trial;
 use answers::Answer;
 use answers::Refusal;
+use answers::TRIAL_BOUNDS;
 use answers::answer_of;
 use answers::first_refusal;
 use answers::refuse;
@@ -23,16 +25,16 @@ use theory::check_job_and_room;
 use words::copy_words;
 
 // The words that a trial takes: the moment, the number, and room for the starts.
-const TRIAL_WORDS: usize = 4098;
+const TRIAL_WORDS: usize = 2 + MOST_STARTS;
 
-// The trial that words say.
+// Returns the trial that words say.
 fn taken(words: &[u32]) -> Trial
     requires { ⌜ 4098 ≤ length (now words) ⌝ }
     ensures { λ r. ⌜ trialOf r ≡ trialIn (now (words .entry)) ⌝ }
 {
     let moment = words[0] as usize;
     let length = words[1] as usize;
-    let mut starts = [0u32; 4096];
+    let mut starts = [0u32; MOST_STARTS];
     copy_words(&words[2..TRIAL_WORDS], 0, &mut starts);
     Trial {
         moment,
@@ -53,7 +55,7 @@ fn store(trial: Trial, words: &mut [u32])
     copy_words(&starts[..length], 2, words);
 }
 
-// Answers for what a method handed back, and writes the trial where it was accepted.
+// Answers for what a method handed back, and writes the trial if it was accepted.
 fn put_back(moved: Moved, words: &mut [u32]) -> Answer
     requires { ⌜ Storable moved × (4098 ≤ length (now words)) ⌝ }
     ensures { λ r. ⌜ (r ≡ answerOf (moved .refusal) 0 0) × (now (words .exit) ≡ handedBack r (trialOf (moved .trial)) (now (words .entry))) ⌝ }
@@ -66,11 +68,11 @@ fn put_back(moved: Moved, words: &mut [u32]) -> Answer
     answer_of(refusal, 0, 0)
 }
 
-// Words that are too few for a trial: the refusal of the rows before, or 14.
+// Returns the refusal for words that are too few for a trial: that of the rows before, or 14.
 fn short_refusal(before: Refusal) -> Refusal
     ensures { λ r. ⌜ r ≡ firstRefusal before (refusal 14 0) ⌝ }
 {
-    first_refusal(before, refuse(14, 0))
+    first_refusal(before, refuse(TRIAL_BOUNDS, 0))
 }
 
 // Begins a trial.

@@ -16,6 +16,7 @@ ghost use Rattle.trial.specs.Stepped.{trialOf, Stepped, Sized, Storable,
 ghost use Rattle.trial.specs.Code.Given.{Measured, TrialJudged, WithWord};
 use answers::Answer;
 use answers::Refusal;
+use answers::TRIAL_BOUNDS;
 use answers::answer_of;
 use answers::none;
 use answers::refuse;
@@ -29,6 +30,8 @@ use theory::buffer_refusal;
 use theory::check_job_and_room;
 use theory::judge_starts;
 use theory::refused;
+use words::ACTIONS;
+use words::MOMENTS;
 use words::insert_word;
 use words::last_of;
 use words::start_moment;
@@ -36,14 +39,14 @@ use words::start_word;
 
 pub mod calls;
 
-// The starts that a trial has room for.
-const MOST_STARTS: usize = 4096;
+// How many starts a trial has room for: one for each moment and action.
+pub const MOST_STARTS: usize = MOMENTS * ACTIONS;
 
 // The moment, the number of starts, and the starts, ascending; the words after them say nothing.
 pub struct Trial {
     pub moment: usize,
     pub length: usize,
-    pub starts: [u32; 4096],
+    pub starts: [u32; MOST_STARTS],
 }
 
 // What a move hands back.
@@ -52,7 +55,7 @@ pub struct Moved {
     pub trial: Trial,
 }
 
-// A refusal's number, at position 0.
+// Returns a refusal with the same number at position 0.
 fn at_zero(refusal: Refusal) -> Refusal
     ensures { λ r. ⌜ r ≡ refusalAt 0 (refusal .number) ⌝ }
 {
@@ -63,7 +66,7 @@ fn at_zero(refusal: Refusal) -> Refusal
     }
 }
 
-// Whether a word of the starts has a moment after `u`.
+// Returns whether a word of the starts has a moment after `u`.
 fn some_later(starts: &[u32], u: usize) -> bool
     ensures { λ r. ⌜ r ≡ any (λ s. ltb u (startMoment s)) (now (starts .entry)) ⌝ }
 {
@@ -78,14 +81,14 @@ fn some_later(starts: &[u32], u: usize) -> bool
 }
 
 impl Trial {
-    // A fresh trial, beside the job's refusal where it has one.
+    // Returns a fresh trial, beside the job's refusal if it has one.
     pub fn begin(job: &[u32]) -> Moved
         ensures { λ r. ⌜ (r .refusal ≡ jobRefusal (now (job .entry))) × (trialOf (r .trial) ≡ fresh) ⌝ }
         ensures { λ r. ⌜ Storable r ⌝ }
     {
         let checked = check_job(job);
         let refusal = checked.refusal;
-        let starts = [0u32; 4096];
+        let starts = [0u32; MOST_STARTS];
         let trial = Trial {
             moment: 0,
             length: 0,
@@ -94,7 +97,7 @@ impl Trial {
         Moved { refusal, trial }
     }
 
-    // Whether the trial has too many starts, is after the last moment, or has a start after its own moment.
+    // Returns whether the trial has too many starts, is after the last moment, or has a start after its own moment.
     fn is_outside(self, job: &[u32]) -> bool
         requires { ⌜ 0 < length (now job) ⌝ }
         ensures { λ r. ⌜ Measured (now (job .entry)) self r ⌝ }
@@ -111,7 +114,7 @@ impl Trial {
         some_later(&starts[..length], moment)
     }
 
-    // The rows of the trial itself, after those that gave `checked`.
+    // Runs the rows of the trial itself, after those that gave `checked`.
     fn judged(self, job: &[u32], checked: Checked) -> Plan
         requires { ⌜ JobChecked (now job) checked ⌝ }
         ensures { λ r. ⌜ TrialJudged (checked .refusal) (now (job .entry)) self r ⌝ }
@@ -122,7 +125,7 @@ impl Trial {
             return refused(refusal, index);
         }
         if self.is_outside(job) {
-            return refused(refuse(14, 0), index);
+            return refused(refuse(TRIAL_BOUNDS, 0), index);
         }
         let moment = self.moment;
         let length = self.length;
@@ -133,7 +136,7 @@ impl Trial {
         plan
     }
 
-    // The trial with one more start, at its place.
+    // Returns the trial with one more start, at its place.
     fn with_word(self, w: u32) -> Trial
         requires { ⌜ Sized self × (self .length < 4096) × Pairs (λ s s'. s < s') (take (self .length) (self .starts)) ⌝ }
         ensures { λ r. ⌜ WithWord self w r ⌝ }
@@ -197,7 +200,7 @@ impl Trial {
         let moment = self.moment;
         let length = self.length;
         let starts = self.starts;
-        let refusal = row_of(last_of(job[0]) <= moment, 14, 0);
+        let refusal = row_of(last_of(job[0]) <= moment, TRIAL_BOUNDS, 0);
         if refusal.number != 0 {
             return Moved {
                 refusal,

@@ -10,7 +10,7 @@ use lib.ListN.{getD}
 use Rattle.words.specs.Lists.{Each}
 use Rattle.words.proofs.Lists.{each-of}
 use Rattle.job.specs.Parts.{actions, lastMoment, duration}
-use Rattle.applicable.proofs.NewStart.{present-formed, present-few, present-indexed, present-unmet, tested, row-6, row-7, rows-rest}
+use Rattle.applicable.proofs.NewStart.{present-formed, present-few, present-ruled, present-unmet, tested, row-6, row-7, rows-rest}
 use Rattle.applicable.proofs.start_refusal.Statement.{statement}
 use Rattle.applicable.proofs.start_refusal.Tie as tie
 
@@ -64,15 +64,15 @@ held-refusal-requires c κs =
     let f = first (c .before) in
     (entry f .pre, below (c .before), present-few (entry f .pre) (small f))
 
--- the refusal by the other starts, from where the places of actions are taken
-abbrev held : tie.After-places2 → tie.After-held-refusal
-held c = c .before .before .before .before
+-- the refusal by the other starts, from where the places of actions and the ends of their laws are taken
+abbrev held : tie.After-ends2 → tie.After-held-refusal
+held c = c .before .before .before .before .before .before
 
 laws-of-requires : tie.Need-laws-of-requires
 laws-of-requires c κs =
     let l = second (held c) in
     let s = entry (first l) in
-    (present-formed (s .pre), present-indexed (s .pre), below l)
+    (present-ruled (s .pre), below l)
 
 has-unmet-requires : tie.Need-has-unmet-requires
 has-unmet-requires c κs =

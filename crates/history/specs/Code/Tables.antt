@@ -4,8 +4,8 @@ use mathlib.Core.Path.{_≡_}
 use Prim.Native.Nat.{ℕ, _+_, _*_, _<_, _≤_}
 use lib.ListN.{length, getD}
 use Rattle.words.specs.Fields.{startMoment, startAction}
-use Rattle.job.specs.Parts.{fluents, actions, lastMoment, duration}
-use Rattle.job.specs.Code.WellFormed.{WellFormed}
+use Rattle.job.specs.Parts.{fluents, actions, lastMoment, duration, lawsOf}
+use Rattle.job.specs.Code.WellFormed.{WellFormed, Indexed}
 use Rattle.history.specs.Actions.{effect}
 use Rattle.history.specs.Values.{valueAt}
 
@@ -17,6 +17,16 @@ pub record Durations (job table : List ℕ) : Type 0 where
 -- the moment at which a start finishes, by such a table
 abbrev pub tabledFinish : List ℕ → ℕ → ℕ
 tabledFinish table s = startMoment s + getD table (startAction s) 0
+
+-- entry a has the position at which the laws of action a end: they follow its own word, whose position is entry a of `places`
+pub record LawEnds (job places ends : List ℕ) : Type 0 where
+  pub entry : (a : ℕ) → a < actions job → getD ends a 0 ≡ getD places a 0 + 1 + length (lawsOf job a)
+
+-- a well-formed job with the positions of its actions and of the ends of their laws
+pub record Ruled (job places ends : List ℕ) : Type 0 where
+  pub formed : WellFormed job
+  pub indexed : Indexed job 3 places
+  pub laws : LawEnds job places ends
 
 -- entry a * 256 + f has the value that action a makes of fluent f
 pub record Effects (job table : List ℕ) : Type 0 where

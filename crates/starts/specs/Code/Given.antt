@@ -6,10 +6,10 @@ use Prim.Native.Nat.{ℕ, _≤_, _<_}
 use lib.ListN.{length, getD, take}
 use Rattle.words.specs.Fields.{startMoment}
 use Rattle.job.specs.Parts.{actions}
-use Rattle.job.specs.Code.WellFormed.{WellFormed, Indexed}
-use Rattle.history.specs.Code.Tables.{Durations, Effects, HistoryUpto}
+use Rattle.job.specs.Code.WellFormed.{WellFormed}
+use Rattle.history.specs.Code.Tables.{Durations, Ruled, Effects, HistoryUpto}
 use Rattle.starts.specs.Rows.{wrongWord, startRows}
-use Rattle.starts.specs.Code.Latest.{Clashes}
+use Rattle.starts.specs.Code.Latest.{Told, Clashes}
 
 -- the rows on times: 6 to 9
 abbrev pub timeRows : List ℕ → List ℕ → List (ℕ × (ℕ → Bool))
@@ -31,22 +31,35 @@ pub record Timed (job durations starts : List ℕ) : Type 0 where
   pub lasts : Durations job durations
   pub words : StartsFormed job starts
 
--- row 9: two of its actions; one of them, with the table of the pairs that clash
+-- row 9: two actions of the job, with the table of effects
 pub record Paired (job effects : List ℕ) (a b : ℕ) : Type 0 where
   pub formed : WellFormed job
   pub makes : Effects job effects
   pub first : a < actions job
   pub second : b < actions job
 
-pub record Compared (job table : List ℕ) (b : ℕ) : Type 0 where
-  pub formed : WellFormed job
-  pub entries : Clashes job table
-  pub action : b < actions job
+-- two such actions, and a table of clashes to store them in
+pub record Storable (job effects : List ℕ) (a b : ℕ) (table : List ℕ) : Type 0 where
+  pub two : Paired job effects a b
+  pub size : length table ≡ 4096
 
--- row 10: once row 6 fits no start, the positions of the job's actions and the history of the plan, up to a moment that no start is after
-pub record Recorded (job places history starts : List ℕ) : Type 0 where
+-- an action, and the table of clashes of the actions that have a latest finish
+pub record Comparable (job effects latest : List ℕ) (a : ℕ) (table : List ℕ) : Type 0 where
   pub formed : WellFormed job
-  pub indexed : Indexed job 3 places
+  pub makes : Effects job effects
+  pub action : a < actions job
+  pub told : Clashes job latest table
+
+-- action b, and a table that tells of it with each action that has a latest finish
+pub record Compared (job latest table : List ℕ) (b : ℕ) : Type 0 where
+  pub formed : WellFormed job
+  pub action : b < actions job
+  pub told : (a : ℕ) → a < actions job → 0 < getD latest a 0 → Told job table b a
+
+-- row 10: once row 6 fits no start, the positions of the job's actions and of the ends of their laws, and the history of the plan, up to a
+-- moment that no start is after
+pub record Recorded (job places ends history starts : List ℕ) : Type 0 where
+  pub rules : Ruled job places ends
   pub words : StartsFormed job starts
   pub last : ℕ
   pub past : (i : ℕ) → i < length starts → startMoment (getD starts i 0) ≤ last

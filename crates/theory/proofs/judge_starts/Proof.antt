@@ -6,6 +6,7 @@ use lib.ListN.{getD}
 use Rattle.answers.specs.declared.Refusal.{Refusal}
 use Rattle.job.specs.Refusal.{jobRefusal}
 use Rattle.job.proofs.WellFormed.{well-formed}
+use Rattle.history.specs.Code.Tables.{Ruled}
 use Rattle.starts.specs.Rows.{startsRefusal}
 use Rattle.starts.specs.Code.Given.{StartsFormed}
 use Rattle.starts.proofs.Rows.{starts-found, starts-next}
@@ -25,9 +26,12 @@ placed c = c .before .before .before .before .before
 words : (c : tie.After-places2) (i : ℕ) → getD (placed c .args .starts .now) i 0 < 2 ^ 32
 words c i = omega (arith, c .before .before .before .shared-slice-known2 .given i)
 
--- the four tables, one from the other, all from rows 6 to 9, and the entry from there
+-- the five tables, one from the other, all from rows 6 to 9, and the entry from there
+abbrev ruling : tie.After-effects → tie.After-law-ends
+ruling c = c .before .before .before
+
 abbrev lasting : tie.After-effects → tie.After-durations
-lasting c = c .before .before
+lasting c = ruling c .before .before
 
 abbrev making : tie.After-shifts-of → tie.After-effects
 making c = c .before .before
@@ -68,10 +72,17 @@ durations-requires c κs =
     let s = placed c in
     (well-formed _ (s .pre .good), actions-indexed _ (s .pre .good) (s .pre .index))
 
-effects-requires : tie.Need-effects-requires
-effects-requires c κs =
+law-ends-requires : tie.Need-law-ends-requires
+law-ends-requires c κs =
     let s = placed (c .before .before) in
     (well-formed _ (s .pre .good), actions-indexed _ (s .pre .good) (s .pre .index))
+
+-- the laws of the job's actions
+ruled : (c : tie.After-law-ends) → let s = placed (c .before .before .before) in
+    Ruled (s .args .job .now) (s .args .index .actions .position) (c .law-ends .result)
+ruled c =
+    let s = placed (c .before .before .before) in
+    record { formed = well-formed _ (s .pre .good); indexed = actions-indexed _ (s .pre .good) (s .pre .index); laws = c .law-ends .ensures }
 
 check-times-requires : tie.Need-check-times-requires
 check-times-requires c κs =
@@ -121,12 +132,11 @@ over-limit-requires c κs =
 
 check-needs-requires : tie.Need-check-needs-requires
 check-needs-requires c κs =
-    let h = walked (outside (c .before .before)) in
+    let h = walked (outside (c .before .before .before)) in
     let passing = told h in
     let s = timed (passing .before .before) in
     record {
-      formed = well-formed _ (s .pre .good);
-      indexed = actions-indexed _ (s .pre .good) (s .pre .index);
+      rules = ruled (ruling (making (windowed (grouped (passing .before .before)))));
       words = starting passing;
       last = s .args .last;
       past = λ i l. s .pre .past i l (right-word (starting passing) i l .moment);
@@ -136,7 +146,7 @@ check-needs-requires c κs =
 returns-2 : tie.Need-returns-2
 returns-2 c =
     let needs = c .before .before in
-    let over = needs .before .before .before in
+    let over = needs .before .before .before .before in
     let h = walked (outside over) in
     let passing = told h in
     let times = passing .before .before in
@@ -150,6 +160,7 @@ returns-2 c =
         clear = z;
         index = timed times .pre .index;
         durations = tabled times .durations .ensures;
+        laws = ruling (making (windowed (grouped times))) .law-ends .ensures;
         effects = making (windowed (grouped times)) .effects .ensures;
         shifts = windowed (grouped times) .shifts-of .ensures;
         groups = grouped times .groups-of .ensures;
@@ -160,6 +171,6 @@ returns-2 c =
 pub judge-starts-spec : {M : Type 1} → statement M
 judge-starts-spec =
     tie.close
-    (tie.spec durations-requires effects-requires (λ c κs. lasting (c .before) .durations .ensures)
+    (tie.spec durations-requires law-ends-requires (λ c κs. ruled (c .before .before)) (λ c κs. lasting (c .before) .durations .ensures)
     (λ c κs. well-formed _ (placed (lasting (making c) .before) .pre .good)) check-times-requires (λ c κs. search needs) returns
     history-requires outside-windows-requires over-limit-requires check-needs-requires (λ c κs. search needs) (λ c κs. search needs) returns-2)

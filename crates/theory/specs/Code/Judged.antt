@@ -11,7 +11,7 @@ use Rattle.job.specs.declared.Index.{Index}
 use Rattle.job.specs.Parts.{lastMoment}
 use Rattle.job.specs.Refusal.{jobRefusal}
 use Rattle.job.specs.Code.Index.{checkedOf}
-use Rattle.history.specs.Code.Tables.{Durations, Effects, HistoryUpto}
+use Rattle.history.specs.Code.Tables.{Durations, LawEnds, Effects, HistoryUpto}
 use Rattle.shifts.specs.Code.ShiftSets.{ShiftTable}
 use Rattle.groups.specs.Code.GroupTable.{GroupTable}
 use Rattle.theory.specs.Answers.{factRoomRefusal, planRefusal}
@@ -27,12 +27,13 @@ pub record JobChecked (job : List ℕ) (r : Checked) : Type 0 where
   pub good : r .refusal .number ≡ 0 → jobRefusal job .number ≡ 0
   pub index : r .index ≡ checkedOf job .index
 
--- of a plan that passes the rows of its job and its starts: the index of its job's words, the durations, effects and shift windows of its
--- actions, its groups, its history up to moment k; the same with the whole history
+-- of a plan that passes the rows of its job and its starts: the index of its job's words, the durations of its actions, where their laws end,
+-- their effects and shift windows, its groups, its history up to moment k; the same with the whole history
 pub record PassedUpto (job starts : List ℕ) (k : ℕ) (plan : Plan) : Type 0 where
   pub clear : planRefusal job starts .number ≡ 0
   pub index : plan .index ≡ checkedOf job .index
   pub durations : Durations job (plan .durations)
+  pub laws : LawEnds job (plan .index .actions .position) (plan .ends)
   pub effects : Effects job (plan .effects)
   pub shifts : ShiftTable job (plan .shifts)
   pub groups : GroupTable job (plan .groups)

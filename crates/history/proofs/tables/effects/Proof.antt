@@ -15,10 +15,10 @@ record Turn (job : List ℕ) (n a : ℕ) (table : List ℕ) : Type 0 where
   stored : Rows (effect job) 256 a table
 
 abbrev Inv-loop : tie.InvT-loop
-Inv-loop job places head n table₀ a₀ table a = Turn job n a table
+Inv-loop job places ends head n table₀ a₀ table a = Turn job n a table
 
 abbrev μ-loop : tie.MeasureT-loop
-μ-loop job places head n table₀ a₀ table a = n - a
+μ-loop job places ends head n table₀ a₀ table a = n - a
 
 abbrev entry-of : tie.At-loop Inv-loop μ-loop → tie.Start Inv-loop μ-loop
 entry-of c = c .before .before .before .before
@@ -31,7 +31,7 @@ after-laws-of c = c .before .before .before .before
 
 loop-holds : tie.Need-loop-holds Inv-loop μ-loop
 loop-holds c =
-    record { bound = omega arith; few = rw (c .actions-of .ensures .0) (c .before .before .before .pre .0 .few-actions); stored = rows-none }
+    record { bound = omega arith; few = rw (c .actions-of .ensures .0) (c .before .before .before .pre .formed .few-actions); stored = rows-none }
 
 loop-again : tie.Need-loop-again Inv-loop μ-loop
 loop-again c =
@@ -45,7 +45,7 @@ returns c =
     let rows = c .before .loop .inv .stored in
     record {
       size = rows .size;
-      entry = λ b f l m. rows .entry b f (omega (arith, c .before .before .actions-of .ensures .0)) (omega (arith, p .0 .few-fluents));
+      entry = λ b f l m. rows .entry b f (omega (arith, c .before .before .actions-of .ensures .0)) (omega (arith, p .formed .few-fluents));
     }
 
 pub effects-spec : {M : Type 1} → statement M

@@ -1,4 +1,5 @@
 -- `starts::clashes::clashes_after` meets its contract. The invariant: no action below `a` clashes and is in hand. Assumes nothing.
+use mathlib.Core.Path.{_∙_}
 use Prim.Native.Nat.{_-_, _<_}
 use Rattle.job.specs.Parts.{actions}
 use Rattle.starts.specs.Code.Latest.{clashesAfter}
@@ -28,12 +29,12 @@ rows c = let pre = entry c .pre in omega (arith, below c, pre .action, pre .form
 returns : tie.Need-returns Inv-loop μ-loop
 returns c =
     let body = c .before .before .before in
-    sought-found (body .before .loop .inv) (below body) (rw (clash-read (entry body .pre) (body .before .loop .a) (below body)) (c .if1 .taken))
+    sought-found (body .before .loop .inv) (below body) (clash-read (entry body .pre) (entry body .args .u) (body .before .loop .a) (below body) ∙ c .if1 .taken)
 
 loop-again : tie.Need-loop-again Inv-loop μ-loop
 loop-again c =
     let body = c .before .before .before in
-    sought-more (body .before .loop .inv) (below body) (rw (clash-read (entry body .pre) (body .before .loop .a) (below body)) (c .if1 .left))
+    sought-more (body .before .loop .inv) (below body) (clash-read (entry body .pre) (entry body .args .u) (body .before .loop .a) (below body) ∙ c .if1 .left)
 
 pub clashes-after-spec : {M : Type 1} → statement M
 clashes-after-spec =

@@ -12,10 +12,10 @@ use Rattle.starts.proofs.unmet.check_needs.Statement.{statement}
 use Rattle.starts.proofs.unmet.check_needs.Tie as tie
 
 abbrev Inv-loop : tie.InvT-loop
-Inv-loop job places history starts head i₀ i = Tried 10 (needsUnmet job starts) (length starts) i
+Inv-loop job places ends history starts head i₀ i = Tried 10 (needsUnmet job starts) (length starts) i
 
 abbrev μ-loop : tie.MeasureT-loop
-μ-loop job places history starts head i₀ i = length starts - i
+μ-loop job places ends history starts head i₀ i = length starts - i
 
 abbrev entry : tie.After-start-action Inv-loop μ-loop → tie.Start Inv-loop μ-loop
 entry c = c .before .before .before .before .before .before .before
@@ -36,7 +36,7 @@ value c =
 laws-of-requires : tie.Need-laws-of-requires Inv-loop μ-loop
 laws-of-requires c κs =
     let pre = entry c .pre in
-    (pre .formed, pre .indexed, rw (c .start-action .ensures .0) (right-word (pre .words) _ (c .before .before .loop-test .taken) .action))
+    (pre .rules, rw (c .start-action .ensures .0) (right-word (pre .words) _ (c .before .before .loop-test .taken) .action))
 
 returns : tie.Need-returns Inv-loop μ-loop
 returns c =
