@@ -8,9 +8,12 @@ ghost use Rattle.job.specs.Refusal.{nameRefusal, endRefusal};
 ghost use Rattle.job.specs.Code.State.{Tied};
 use crate::State;
 use crate::rules;
+use answers::JOB_NODES;
+use answers::JOB_VALUE;
 use answers::Refusal;
 use answers::first_refusal;
 use answers::row_of;
+use words::forms::TASK_SET;
 
 fn less_one(n: usize) -> usize
     ensures { λ r. ⌜ r ≡ n - 1 ⌝ }
@@ -38,7 +41,7 @@ fn name_refusal(job: &[u32], root: usize) -> Refusal
     let mut v = 0;
     while v < root {
         if times_named(job, v) != 1 {
-            return answers::refuse(5, v);
+            return answers::refuse(JOB_NODES, v);
         }
         v += 1;
     }
@@ -51,9 +54,13 @@ pub fn end_refusal(job: &[u32], s: State) -> Refusal
 {
     let declared = words::actions_of(job[0]);
     let root = less_one(s.nodes);
-    let count = row_of(!(s.actions == declared), 3, job.len());
-    let none = row_of(s.nodes == 0, 5, 0);
-    let empty = row_of((words::form_of(s.node) == 8) & (s.members == 0), 5, root);
+    let count = row_of(!(s.actions == declared), JOB_VALUE, job.len());
+    let none = row_of(s.nodes == 0, JOB_NODES, 0);
+    let empty = row_of(
+        (words::form_of(s.node) == TASK_SET) & (s.members == 0),
+        JOB_NODES,
+        root,
+    );
     let names = name_refusal(job, root);
     first_refusal(count, first_refusal(none, first_refusal(empty, names)))
 }

@@ -35,7 +35,7 @@ pub const GROUP: u32 = words::GROUP;
 
 pub const GROUP_MEMBER: u32 = words::GROUP_MEMBER;
 
-pub const TASK_SET: u32 = 16;
+pub const SET_NODE: u32 = 16;
 
 pub const NOTHING: u32 = 17;
 
@@ -96,7 +96,7 @@ fn job_refusal(job: &[u32]) -> Refusal
 {
     let n = job.len();
     if !((1 <= n) & (n <= MAX_WORDS)) {
-        return answers::refuse(1, 0);
+        return answers::refuse(answers::JOB_LENGTH, 0);
     }
     let words = scan_words(job);
     let refusal = words.refusal;

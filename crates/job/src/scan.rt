@@ -23,11 +23,12 @@ use crate::LAW;
 use crate::MEMBER;
 use crate::NODE;
 use crate::NOTHING;
+use crate::SET_NODE;
 use crate::SHIFT_WINDOW;
 use crate::Scanned;
 use crate::State;
-use crate::TASK_SET;
 use crate::rules;
+use answers::JOB_SHAPE;
 
 // What stands directly before position `i`.
 fn predecessor(job: &[u32], i: usize) -> u32
@@ -38,7 +39,7 @@ fn predecessor(job: &[u32], i: usize) -> u32
         return NOTHING;
     }
     let w = job[i - 1];
-    rules::pick_word(words::is_set(w), TASK_SET, words::kind_of(w))
+    rules::pick_word(words::is_set(w), SET_NODE, words::kind_of(w))
 }
 
 // Whether a word since the last one of kind `k` lists what `w` lists.
@@ -60,6 +61,7 @@ fn listed(job: &[u32], i: usize, k: u32, head: u32, w: u32) -> bool
     false
 }
 
+// The refusal of the word at position `i`, by the rule of its kind, at what the scan keeps of the words before it.
 fn word_refusal(job: &[u32], i: usize, s: State) -> u32
     requires { ⌜ (i < length (now job)) × Tied (before (now job) i) s ⌝ }
     ensures { λ r. ⌜ r ≡ refusalOf (now (job .entry)) i ⌝ }
@@ -68,7 +70,7 @@ fn word_refusal(job: &[u32], i: usize, s: State) -> u32
     let head = job[0];
     let k = words::kind_of(w);
     if !rules::may_follow(k, predecessor(job, i)) {
-        return 2;
+        return JOB_SHAPE;
     }
     match k {
         HEAD => rules::head(w),
@@ -82,7 +84,7 @@ fn word_refusal(job: &[u32], i: usize, s: State) -> u32
         SHIFT_WINDOW => rules::shift_window(s.actions, w),
         GROUP => rules::group(s.groups, w),
         GROUP_MEMBER => rules::group_member(s.actions, s.groups, listed(job, i, GROUP, head, w), w),
-        _ => 2,
+        _ => JOB_SHAPE,
     }
 }
 
