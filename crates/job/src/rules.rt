@@ -5,9 +5,7 @@ ghost use mathlib.Core.Path.{_≡_};
 ghost use Prim.Native.Nat.{_≤_};
 ghost use Rattle.words.specs.Fields.{groupNumber};
 ghost use Rattle.words.specs.Tests.{indicator};
-ghost use Rattle.words.specs.Scan.{count};
 ghost use Rattle.bitset.specs.Code.Members.{has};
-ghost use Rattle.job.specs.Children.{wordChildren};
 ghost use Rattle.job.specs.Follow.{mayFollow};
 ghost use Rattle.job.specs.Parts.{listsIn};
 ghost use Rattle.job.specs.Rules.{wordRefusalOf, limited, headRefusal, knownRefusal, actionRefusal, lawRefusal, sameFluent, formulaShape, formulaRange, formulaRefusal, nodeShape, nodeRange, nodeRefusal, memberRefusal, conditionShape, conditionRange, conditionRefusal, shiftWindowRefusal, groupRefusal, groupMemberRefusal};
@@ -311,20 +309,4 @@ pub fn same_entry(head: u32, w: u32, v: u32) -> bool
         return lists_in(words::group_number(w), words::group_action(w), v);
     }
     same_fluent(head, w, v)
-}
-
-// How often a word names node `v` as a child.
-pub fn names_of(v: usize, w: u32) -> usize
-    ensures { λ r. ⌜ (r ≡ count v (wordChildren w)) × (r ≤ 4) ⌝ }
-{
-    let k = words::kind_of(w);
-    let f = words::form_of(w);
-    let pair = (forms::SEQUENCE <= f) & (f <= forms::CHOICE);
-    let window = (forms::START_WINDOW <= f) & (f <= forms::END_WINDOW);
-    let body = (forms::SEQUENCE <= f) & (f <= forms::END_WINDOW);
-    let x = (k == NODE) & (pair | window) & (v == words::node_x(w));
-    let y = (k == NODE) & body & (v == words::node_y(w));
-    let m = (k == NODE) & (f == forms::IF) & (v == words::node_m(w));
-    let z = (k == MEMBER) & (v == words::member_node(w));
-    one_if(x) + one_if(y) + one_if(m) + one_if(z)
 }

@@ -27,6 +27,8 @@ use crate::SET_NODE;
 use crate::SHIFT_WINDOW;
 use crate::Scanned;
 use crate::State;
+use crate::names;
+use crate::names::Names;
 use crate::rules;
 use answers::JOB_SHAPE;
 
@@ -112,6 +114,7 @@ fn advance(job: &[u32], i: usize, s: State) -> State
     let conditions = rules::pick_count(k == NODE, 0, s.conditions + rules::one_if(k == CONDITION));
     let node = rules::pick_word(k == NODE, w, s.node);
     let groups = with_group(s.groups, w);
+    let names = names::with_children(s.names, w);
     State {
         actions,
         formulas,
@@ -120,6 +123,7 @@ fn advance(job: &[u32], i: usize, s: State) -> State
         conditions,
         node,
         groups,
+        names,
     }
 }
 
@@ -136,6 +140,7 @@ pub fn scan_words(job: &[u32]) -> Scanned
         conditions: 0,
         node: 0,
         groups: 0,
+        names: Names { named: 0, again: 0 },
     };
     let mut i = 0;
     while i < job.len() {
