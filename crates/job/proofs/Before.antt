@@ -112,13 +112,9 @@ count-grows k job i =
     le-ind (λ (n : ℕ). countOfKind k (before job i) ≤ countOfKind k (before job n)) (omega arith)
     (λ m h ih. rw (← (add-one m)) (omega (arith, count-more job m k)))
 
-pub tied-start : (job : List ℕ) → Tied (before job 0) (record { actions = 0; formulas = 0; nodes = 0; members = 0; conditions = 0; node = 0; groups = 0 })
-unfolding before countOfKind since latest any
-tied-start job = record { actions = refl; formulas = refl; nodes = refl; members = refl; conditions = refl; node = refl; groups = has-zero }
-
-pub once : (p : List ℕ) (v : ℕ) → named v p ≡ 1 → nameRefusal p v ≡ 0
-unfolding nameRefusal
-once p v h = rw h
+pub tied-start : (job : List ℕ) → Tied (before job 0) (record { actions = 0; formulas = 0; nodes = 0; members = 0; conditions = 0; node = 0; groups = 0; names = record { named = 0; again = 0 } })
+unfolding before countOfKind since latest any named
+tied-start job = record { actions = refl; formulas = refl; nodes = refl; members = refl; conditions = refl; node = refl; groups = has-zero; names = record { named = has-zero; again = has-zero } }
 
 pub not-once : (p : List ℕ) (v : ℕ) → (named v p ≡ 1 → ⊥) → nameRefusal p v ≡ 5
 unfolding nameRefusal

@@ -14,8 +14,9 @@ use Rattle.words.specs.Scan.{any}
 use Rattle.words.proofs.Choices.{both-true}
 use Rattle.words.proofs.Lists.{each-of}
 use Rattle.words.proofs.Scan.{any-agree}
+use Rattle.answers.specs.declared.Refusal.{Refusal}
 use Rattle.answers.specs.Rows.{refusal, row, firstRefusal, firstOf}
-use Rattle.answers.proofs.Rows.{first-none, or-none, row-none}
+use Rattle.answers.proofs.Rows.{first-none, or-none, or-refused, or-passed, or-assoc, row-none}
 use Rattle.job.specs.Rules.{wordRefusalOf, limited, sameFluent}
 use Rattle.job.specs.Parts.{listsIn}
 use Rattle.job.specs.Code.Entries.{sameEntry}
@@ -127,6 +128,28 @@ clear job ok =
     let a = or-none (row (not (within 1 2048 (length job))) 1 0) _ ok in
     let b = or-none (firstOf (refusalOf job) (length job)) (endRefusal (getD job 0 0) (length job) (before job (length job))) (a .1) in
     record { size = a .0; words = b .0; end = b .1 }
+
+-- the rows of the job end: those before the one on names, and that one
+abbrev pub earlierRows : ℕ → ℕ → List ℕ → Refusal
+earlierRows head len p =
+    firstRefusal (row (not (eqb (countOfKind 3 p) (actionsOf head))) 3 len)
+    (firstRefusal (row (eqb (countOfKind 6 p) 0) 5 0) (row (emptySet p) 5 (countOfKind 6 p - 1)))
+
+module _ (head len : ℕ) (p : List ℕ) where
+  end-rows : endRefusal head len p ≡ firstRefusal (earlierRows head len p) (firstOf (nameRefusal p) (countOfKind 6 p - 1))
+  unfolding endRefusal
+  end-rows =
+      let counted = row (not (eqb (countOfKind 3 p) (actionsOf head))) 3 len in
+      let none = row (eqb (countOfKind 6 p) 0) 5 0 in
+      let empty = row (emptySet p) 5 (countOfKind 6 p - 1) in
+      let names = firstOf (nameRefusal p) (countOfKind 6 p - 1) in
+      ap (firstRefusal counted) (or-assoc none empty names) ∙ or-assoc counted (firstRefusal none empty) names
+
+  pub by-earlier : (earlierRows head len p .number ≡ 0 → ⊥) → earlierRows head len p ≡ endRefusal head len p
+  by-earlier h = or-refused _ _ h ∙ sym end-rows
+
+  pub by-names : earlierRows head len p .number ≡ 0 → firstOf (nameRefusal p) (countOfKind 6 p - 1) ≡ endRefusal head len p
+  by-names h = or-passed _ _ h ∙ sym end-rows
 
 -- the rows of its end, one by one
 pub record EndClear (job : List ℕ) : Type 0 where

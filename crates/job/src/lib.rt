@@ -4,10 +4,12 @@ ghost use Rattle.job.specs.Refusal.{jobRefusal};
 ghost use Rattle.job.specs.Code.Index.{checkedOf};
 use answers::Refusal;
 use job_end::end_refusal;
+use names::Names;
 use positions::index_words;
 use scan::scan_words;
 
 pub mod job_end;
+pub mod names;
 pub mod positions;
 pub mod rules;
 pub mod scan;
@@ -35,7 +37,7 @@ pub const GROUP: u32 = words::GROUP;
 
 pub const GROUP_MEMBER: u32 = words::GROUP_MEMBER;
 
-pub const TASK_SET: u32 = 16;
+pub const SET_NODE: u32 = 16;
 
 pub const NOTHING: u32 = 17;
 
@@ -74,7 +76,8 @@ pub struct Checked {
     pub index: Index,
 }
 
-// What the scan keeps of the words before the position that it stands at; the groups declared as a set.
+// What the scan keeps of the words before the position that it stands at: how many actions, formulas and nodes they declare, how many
+// members and conditions follow the last node, that node's word, the set of the declared groups, and the nodes named as children.
 pub struct State {
     pub actions: usize,
     pub formulas: usize,
@@ -83,6 +86,7 @@ pub struct State {
     pub conditions: usize,
     pub node: u32,
     pub groups: u64,
+    pub names: Names,
 }
 
 pub struct Scanned {
@@ -96,7 +100,7 @@ fn job_refusal(job: &[u32]) -> Refusal
 {
     let n = job.len();
     if !((1 <= n) & (n <= MAX_WORDS)) {
-        return answers::refuse(1, 0);
+        return answers::refuse(answers::JOB_LENGTH, 0);
     }
     let words = scan_words(job);
     let refusal = words.refusal;

@@ -5,9 +5,7 @@ ghost use mathlib.Core.Path.{_≡_};
 ghost use Prim.Native.Nat.{_≤_};
 ghost use Rattle.words.specs.Fields.{groupNumber};
 ghost use Rattle.words.specs.Tests.{indicator};
-ghost use Rattle.words.specs.Scan.{count};
 ghost use Rattle.bitset.specs.Code.Members.{has};
-ghost use Rattle.job.specs.Children.{wordChildren};
 ghost use Rattle.job.specs.Follow.{mayFollow};
 ghost use Rattle.job.specs.Parts.{listsIn};
 ghost use Rattle.job.specs.Rules.{wordRefusalOf, limited, headRefusal, knownRefusal, actionRefusal, lawRefusal, sameFluent, formulaShape, formulaRange, formulaRefusal, nodeShape, nodeRange, nodeRefusal, memberRefusal, conditionShape, conditionRange, conditionRefusal, shiftWindowRefusal, groupRefusal, groupMemberRefusal};
@@ -29,16 +27,24 @@ use crate::MAX_NODES;
 use crate::MEMBER;
 use crate::NODE;
 use crate::NOTHING;
+use crate::SET_NODE;
 use crate::SHIFT_WINDOW;
-use crate::TASK_SET;
+use answers::JOB_SHAPE;
+use answers::JOB_TWICE;
+use answers::JOB_VALUE;
+use words::forms;
 
 pub fn word_refusal_of(shape: bool, range: bool, fresh: bool) -> u32
     ensures { λ r. ⌜ r ≡ wordRefusalOf shape range fresh ⌝ }
 {
     if shape {
-        if range { if fresh { 0 } else { 4 } } else { 3 }
+        if range {
+            if fresh { 0 } else { JOB_TWICE }
+        } else {
+            JOB_VALUE
+        }
     } else {
-        2
+        JOB_SHAPE
     }
 }
 
@@ -71,7 +77,7 @@ pub fn may_follow(k: u32, v: u32) -> bool
         LAW => (ACTION <= v) & (v <= LAW),
         FORMULA => ((HEAD <= v) & (v <= FORMULA)) | ((SHIFT_WINDOW <= v) & (v <= GROUP_MEMBER)),
         NODE => ((HEAD <= v) & (v <= CONDITION)) | ((SHIFT_WINDOW <= v) & (v <= GROUP_MEMBER)),
-        MEMBER => (v == TASK_SET) | (v == MEMBER),
+        MEMBER => (v == SET_NODE) | (v == MEMBER),
         CONDITION => (MEMBER <= v) & (v <= CONDITION),
         SHIFT_WINDOW => ((ACTION <= v) & (v <= LAW)) | (v == SHIFT_WINDOW),
         GROUP => ((ACTION <= v) & (v <= LAW)) | ((SHIFT_WINDOW <= v) & (v <= GROUP)),
@@ -142,7 +148,10 @@ fn formula_shape(head: u32, w: u32) -> bool
     let atom = words::atom_spare(head, w);
     let high = words::spare_23_12(w);
     let low = words::spare_5_0(w);
-    ((f == 0) & none) | ((f == 1) & atom) | ((f == 2) & (high & low)) | ((3 <= f) & (f <= 5) & high)
+    ((f == forms::ALWAYS) & none)
+        | ((f == forms::FLUENT) & atom)
+        | ((f == forms::NOT) & (high & low))
+        | ((forms::AND <= f) & (f <= forms::HELD_FOR) & high)
 }
 
 fn formula_range(head: u32, formulas: usize, w: u32) -> bool
@@ -152,9 +161,9 @@ fn formula_range(head: u32, formulas: usize, w: u32) -> bool
     let x = words::formula_x(w);
     let y = words::formula_y(w);
     let atom = words::atom_fluent(head, w) < words::fluents_of(head);
-    (!(f == 1) | atom)
-        & (!((2 <= f) & (f <= 5)) | (x < formulas))
-        & (!((3 <= f) & (f <= 4)) | (y < formulas))
+    (!(f == forms::FLUENT) | atom)
+        & (!((forms::NOT <= f) & (f <= forms::HELD_FOR)) | (x < formulas))
+        & (!((forms::AND <= f) & (f <= forms::OR)) | (y < formulas))
 }
 
 pub fn formula(head: u32, formulas: usize, w: u32) -> u32
@@ -176,11 +185,11 @@ fn node_shape(w: u32) -> bool
     let x = words::spare_17_0(w);
     let xy = words::spare_11_0(w);
     let xym = words::spare_5_0(w);
-    ((f <= 1) & x)
-        | (((2 <= f) & (f <= 3) | (f == 5)) & xy)
-        | ((f == 4) & xym)
-        | ((6 <= f) & (f <= 7))
-        | ((f == 8) & none)
+    ((f <= forms::TEST) & x)
+        | (((forms::SEQUENCE <= f) & (f <= forms::CHOICE) | (f == forms::WHILE)) & xy)
+        | ((f == forms::IF) & xym)
+        | ((forms::START_WINDOW <= f) & (f <= forms::END_WINDOW))
+        | ((f == forms::TASK_SET) & none)
 }
 
 fn node_range(actions: usize, formulas: usize, nodes: usize, w: u32) -> bool
@@ -191,12 +200,12 @@ fn node_range(actions: usize, formulas: usize, nodes: usize, w: u32) -> bool
     let y = words::node_y(w);
     let m = words::node_m(w);
     let late = words::node_n(w);
-    let window = (6 <= f) & (f <= 7);
-    let children = (!(((2 <= f) & (f <= 3)) | window) | (x < nodes))
-        & (!((2 <= f) & (f <= 7)) | (y < nodes))
-        & (!(f == 4) | (m < nodes));
-    (!(f == 0) | (x < actions))
-        & (!((f == 1) | ((4 <= f) & (f <= 5))) | (x < formulas))
+    let window = (forms::START_WINDOW <= f) & (f <= forms::END_WINDOW);
+    let children = (!(((forms::SEQUENCE <= f) & (f <= forms::CHOICE)) | window) | (x < nodes))
+        & (!((forms::SEQUENCE <= f) & (f <= forms::END_WINDOW)) | (y < nodes))
+        & (!(f == forms::IF) | (m < nodes));
+    (!(f == forms::ACT) | (x < actions))
+        & (!((f == forms::TEST) | ((forms::IF <= f) & (f <= forms::WHILE))) | (x < formulas))
         & children
         & (!window | (m <= late))
 }
@@ -225,7 +234,9 @@ fn condition_shape(w: u32) -> bool
     let f = words::form_of(w);
     let k = words::condition_formula(w);
     let j = words::condition_j(w);
-    ((f <= 1) & (k == 0)) | ((2 <= f) & (f <= 3) & (j == 0)) | (f == 4)
+    ((f <= forms::BEGIN_AFTER_END) & (k == 0))
+        | ((forms::HOLDS_BEFORE <= f) & (f <= forms::HOLDS_AFTER) & (j == 0))
+        | (f == forms::HOLDS_BETWEEN)
 }
 
 fn condition_range(formulas: usize, members: usize, w: u32) -> bool
@@ -236,10 +247,10 @@ fn condition_range(formulas: usize, members: usize, w: u32) -> bool
     let i = words::condition_i(w);
     let j = words::condition_j(w);
     let window = words::condition_m(w) <= words::condition_n(w);
-    (!((2 <= f) & (f <= 4)) | (k < formulas))
+    (!((forms::HOLDS_BEFORE <= f) & (f <= forms::HOLDS_BETWEEN)) | (k < formulas))
         & (i < members)
-        & (!((f <= 1) | (f == 4)) | (j < members))
-        & (!(f <= 3) | window)
+        & (!((f <= forms::BEGIN_AFTER_END) | (f == forms::HOLDS_BETWEEN)) | (j < members))
+        & (!(f <= forms::HOLDS_AFTER) | window)
 }
 
 pub fn condition(formulas: usize, members: usize, conditions: usize, w: u32) -> u32
@@ -298,17 +309,4 @@ pub fn same_entry(head: u32, w: u32, v: u32) -> bool
         return lists_in(words::group_number(w), words::group_action(w), v);
     }
     same_fluent(head, w, v)
-}
-
-// How often a word names node `v` as a child.
-pub fn names_of(v: usize, w: u32) -> usize
-    ensures { λ r. ⌜ (r ≡ count v (wordChildren w)) × (r ≤ 4) ⌝ }
-{
-    let k = words::kind_of(w);
-    let f = words::form_of(w);
-    let x = (k == NODE) & (((2 <= f) & (f <= 3)) | ((6 <= f) & (f <= 7))) & (v == words::node_x(w));
-    let y = (k == NODE) & ((2 <= f) & (f <= 7)) & (v == words::node_y(w));
-    let m = (k == NODE) & (f == 4) & (v == words::node_m(w));
-    let z = (k == MEMBER) & (v == words::member_node(w));
-    one_if(x) + one_if(y) + one_if(m) + one_if(z)
 }

@@ -23,11 +23,14 @@ use crate::LAW;
 use crate::MEMBER;
 use crate::NODE;
 use crate::NOTHING;
+use crate::SET_NODE;
 use crate::SHIFT_WINDOW;
 use crate::Scanned;
 use crate::State;
-use crate::TASK_SET;
+use crate::names;
+use crate::names::Names;
 use crate::rules;
+use answers::JOB_SHAPE;
 
 // What stands directly before position `i`.
 fn predecessor(job: &[u32], i: usize) -> u32
@@ -38,7 +41,7 @@ fn predecessor(job: &[u32], i: usize) -> u32
         return NOTHING;
     }
     let w = job[i - 1];
-    rules::pick_word(words::is_set(w), TASK_SET, words::kind_of(w))
+    rules::pick_word(words::is_set(w), SET_NODE, words::kind_of(w))
 }
 
 // Whether a word since the last one of kind `k` lists what `w` lists.
@@ -60,6 +63,7 @@ fn listed(job: &[u32], i: usize, k: u32, head: u32, w: u32) -> bool
     false
 }
 
+// The refusal of the word at position `i`, by the rule of its kind, at what the scan keeps of the words before it.
 fn word_refusal(job: &[u32], i: usize, s: State) -> u32
     requires { ⌜ (i < length (now job)) × Tied (before (now job) i) s ⌝ }
     ensures { λ r. ⌜ r ≡ refusalOf (now (job .entry)) i ⌝ }
@@ -68,7 +72,7 @@ fn word_refusal(job: &[u32], i: usize, s: State) -> u32
     let head = job[0];
     let k = words::kind_of(w);
     if !rules::may_follow(k, predecessor(job, i)) {
-        return 2;
+        return JOB_SHAPE;
     }
     match k {
         HEAD => rules::head(w),
@@ -82,7 +86,7 @@ fn word_refusal(job: &[u32], i: usize, s: State) -> u32
         SHIFT_WINDOW => rules::shift_window(s.actions, w),
         GROUP => rules::group(s.groups, w),
         GROUP_MEMBER => rules::group_member(s.actions, s.groups, listed(job, i, GROUP, head, w), w),
-        _ => 2,
+        _ => JOB_SHAPE,
     }
 }
 
@@ -110,6 +114,7 @@ fn advance(job: &[u32], i: usize, s: State) -> State
     let conditions = rules::pick_count(k == NODE, 0, s.conditions + rules::one_if(k == CONDITION));
     let node = rules::pick_word(k == NODE, w, s.node);
     let groups = with_group(s.groups, w);
+    let names = names::with_children(s.names, w);
     State {
         actions,
         formulas,
@@ -118,6 +123,7 @@ fn advance(job: &[u32], i: usize, s: State) -> State
         conditions,
         node,
         groups,
+        names,
     }
 }
 
@@ -134,6 +140,7 @@ pub fn scan_words(job: &[u32]) -> Scanned
         conditions: 0,
         node: 0,
         groups: 0,
+        names: Names { named: 0, again: 0 },
     };
     let mut i = 0;
     while i < job.len() {

@@ -4,7 +4,7 @@ use borrow.Author.Tests.{leb-true, not-false}
 use borrow.Author.Needs.{needs}
 use Rattle.answers.specs.declared.Refusal.{Refusal}
 use Rattle.words.proofs.Choices.{both-true}
-use Rattle.job.proofs.Refusal.{by-length, by-words, by-end}
+use Rattle.job.proofs.Refusal.{by-length, by-words, by-end, few, limits-nodes}
 use Rattle.job.proofs.job_refusal.Statement.{statement}
 use Rattle.job.proofs.job_refusal.Tie as tie
 
@@ -21,7 +21,9 @@ returns-2 c =
 
 end-refusal-requires : tie.Need-end-refusal-requires
 end-refusal-requires c κs =
-    (leb-true _ _ (both-true _ _ (not-false _ (else1 (c .before) .if1 .left)) .0), c .before .before .before .scan-words .ensures .1 (c .if2 .left))
+    let scanned = c .before .before .before .scan-words .ensures in
+    let none = sym (ap (λ (r : Refusal). r .number) (scanned .0)) ∙ c .if2 .left in
+    (leb-true _ _ (both-true _ _ (not-false _ (else1 (c .before) .if1 .left)) .0), few _ none 6 (limits-nodes _ none), scanned .1 (c .if2 .left))
 
 returns-3 : tie.Need-returns-3
 returns-3 c =

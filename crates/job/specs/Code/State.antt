@@ -2,10 +2,11 @@
 use mathlib.Core.List.{List}
 use mathlib.Core.Path.{_≡_}
 use Prim.Native.Nat.{ℕ}
-use Rattle.job.specs.Before.{countOfKind, since, latest}
+use Rattle.job.specs.Before.{countOfKind, since, latest, named}
 use Rattle.words.specs.Scan.{any}
 use Rattle.bitset.specs.Code.Members.{IsSetOf}
 use Rattle.job.specs.Parts.{isGroup}
+use Rattle.job.specs.Code.Names.{Named}
 use Rattle.job.specs.declared.State.{State}
 
 pub record Tied (p : List ℕ) (s : State) : Type 0 where
@@ -16,3 +17,4 @@ pub record Tied (p : List ℕ) (s : State) : Type 0 where
   pub conditions : s .conditions ≡ countOfKind 8 (since 6 p)
   pub node : s .node ≡ latest 6 p
   pub groups : IsSetOf (s .groups) (λ g. any (isGroup g) p)
+  pub names : Named (λ v. named v p) (s .names)

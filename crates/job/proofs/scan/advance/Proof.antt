@@ -1,8 +1,9 @@
 -- `job::scan::advance` meets its contract, field by field: what one word more makes of each fact. Assumes nothing.
-use mathlib.Core.Path.{_∙_}
+use mathlib.Core.Path.{sym, _∙_}
 use native.Mathlib.Omega.{arith}
 use Rattle.job.specs.Parts.{isGroup}
-use Rattle.job.proofs.Before.{count-before, count-since, count-more, count-since-more, latest-more, any-more}
+use Rattle.job.proofs.Before.{count-before, count-since, count-more, count-since-more, latest-more, any-more, named-more}
+use Rattle.job.proofs.Naming.{named-same}
 use borrow.Author.Needs.{needs}
 use Rattle.job.proofs.scan.advance.Statement.{statement}
 use Rattle.job.proofs.scan.advance.Tie as tie
@@ -37,7 +38,7 @@ add-pick-count-2 c = let s = from-conditions (c .before) in omega (arith, count-
 
 returns : tie.Need-returns
 returns c =
-    let last = c .before in
+    let last = c .before .before in
     let five = last .before .before .before in
     let four = five .before .before .before in
     let three = four .before .before in
@@ -54,7 +55,8 @@ returns c =
       members = rw (count-since-more job i 7 6, ← k, ← (s .pre .1 .members), ← (four .one-if4 .ensures .0)) (five .before .pick-count .ensures);
       conditions = rw (count-since-more job i 8 6, ← k, ← (s .pre .1 .conditions), ← (five .one-if5 .ensures .0)) (last .before .pick-count2 .ensures);
       node = rw (latest-more job i 6, ← k, ← (s .pre .1 .node)) (last .pick-word .ensures);
-      groups = λ g. c .with-group .ensures g ∙ rw (any-more job i (isGroup g), s .pre .1 .groups g);
+      groups = λ g. c .before .with-group .ensures g ∙ rw (any-more job i (isGroup g), s .pre .1 .groups g);
+      names = named-same (c .with-children .ensures _ (s .pre .1 .names)) (λ v. sym (named-more job i v));
     }
 
 pub advance-spec : {M : Type 1} → statement M
@@ -63,4 +65,4 @@ advance-spec =
     (tie.spec (λ c. search needs) (λ c. search needs) (λ c κs. search needs) (λ c κs. search needs)
     (λ c. let s = from-actions (c .before) in omega (arith, count-before 3 (s .args .job .now) (s .args .i)))
     (λ c κs. search needs) add-formulas (λ c κs. search needs) add-nodes (λ c κs. search needs) add-pick-count (λ c κs. search needs)
-    (λ c κs. search needs) add-pick-count-2 (λ c κs. search needs) (λ c κs. search needs) (λ c κs. search needs) returns)
+    (λ c κs. search needs) add-pick-count-2 (λ c κs. search needs) (λ c κs. search needs) (λ c κs. search needs) (λ c κs. search needs) returns)
