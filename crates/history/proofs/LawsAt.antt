@@ -10,7 +10,6 @@ use Rattle.words.proofs.Scan.{part-from, run-inside, run-part}
 use Rattle.job.specs.Parts.{actions, lawsOf}
 use Rattle.job.specs.Code.WellFormed.{WellFormed, Indexed}
 use Rattle.job.proofs.ByPlace.{action-counted, laws-place}
-use Rattle.history.specs.Code.Tables.{Ruled}
 
 module _ {job places : List ℕ} (formed : WellFormed job) (indexed : Indexed job 3 places) {a : ℕ} (h : a < actions job) where
   abbrev from : ℕ

@@ -2,7 +2,7 @@
 use mathlib.Core.Bool.{Bool, true, false, _&&_, _||_}
 use mathlib.Core.List.{List}
 use mathlib.Core.Logic.{by-cases}
-use mathlib.Core.Path.{_≡_, refl, ap, sym, subst, _∙_}
+use mathlib.Core.Path.{_≡_, refl, ap, sym, _∙_}
 use Prim.Native.Nat.{ℕ, _+_, _*_, _≤_, _<_}
 use native.Mathlib.Decide.{ℕ-discrete}
 use native.Mathlib.Omega.{arith}
@@ -16,7 +16,7 @@ use Rattle.job.specs.Parts.{fluents, actions}
 use Rattle.job.specs.Code.WellFormed.{WellFormed}
 use Rattle.starts.specs.Rows.{opposed, clash}
 use Rattle.starts.specs.Code.Latest.{Told, PairStored, Clashes, ClashesWith, clashesAfter}
-use Rattle.starts.specs.Code.Given.{Paired, Storable, Comparable, Compared}
+use Rattle.starts.specs.Code.Given.{Paired, Storable, Compared}
 use Rattle.starts.proofs.Opposed.{clash-swap, clash-self}
 
 -- two actions are opposed on a fluent where their effects in the table are

@@ -1,6 +1,6 @@
 -- `history::tables::law_ends` meets its contract. The invariant: the ends of the laws of the actions below `a` are stored. Assumes nothing.
 use mathlib.Core.List.{List}
-use mathlib.Core.Path.{_≡_, refl, ap, _∙_}
+use mathlib.Core.Path.{_≡_, refl, ap}
 use Prim.Native.Nat.{ℕ, _+_, _-_, _<_, _≤_}
 use lib.ListN.{length, getD, length-set}
 use Rattle.job.specs.Parts.{actions, lawsOf}
