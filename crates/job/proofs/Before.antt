@@ -91,21 +91,6 @@ module _ (job : List ℕ) (i : ℕ) where
       cases true = refl
       cases false = refl
 
--- one word less: what is listed since a word of kind k
-pub since-any : (t : ℕ → Bool) (k : ℕ) (job : List ℕ) (j : ℕ) → 0 < j → any t (since k (before job j))
-    ≡ cond (eqb (kind (getD job (j - 1) 0)) k) false (t (getD job (j - 1) 0) || any t (since k (before job (j - 1))))
-unfolding since any
-since-any t k job j h = rw (before-less job j h) (cases (eqb (kind (getD job (j - 1) 0)) k))
-  where
-    cases : (b : Bool) → any t (cond b [] (getD job (j - 1) 0 ∷ since k (before job (j - 1))))
-        ≡ cond b false (t (getD job (j - 1) 0) || any t (since k (before job (j - 1))))
-    cases true = refl
-    cases false = refl
-
-pub since-none : (t : ℕ → Bool) (k : ℕ) (job : List ℕ) → any t (since k (before job 0)) ≡ false
-unfolding before since any
-since-none t k job = refl
-
 -- counts only grow
 pub count-grows : (k : ℕ) (job : List ℕ) (i n : ℕ) → i ≤ n → countOfKind k (before job i) ≤ countOfKind k (before job n)
 count-grows k job i =

@@ -1,4 +1,4 @@
--- The rule of a word by its kind, what the rules bound, and what a word lists. Assumes nothing.
+-- The rule of a word by its kind, and what the rules bound. Assumes nothing.
 use mathlib.Core.Bool.{Bool, true, false, not, cond, _&&_}
 use mathlib.Core.List.{List}
 use mathlib.Core.Path.{_≡_, refl, ap, sym, _∙_}
@@ -19,7 +19,6 @@ use Rattle.answers.specs.Rows.{refusal, row, firstRefusal, firstOf}
 use Rattle.answers.proofs.Rows.{first-none, or-none, or-refused, or-passed, or-assoc, row-none}
 use Rattle.job.specs.Rules.{wordRefusalOf, limited, sameFluent}
 use Rattle.job.specs.Parts.{listsIn}
-use Rattle.job.specs.Code.Entries.{sameEntry}
 use Rattle.job.specs.Before.{before, countOfKind}
 use Rattle.job.specs.Follow.{byKind, predecessor, mayFollow}
 use Rattle.job.specs.Refusal.{rules, wordRefusal, refusalOf, nameRefusal, emptySet, endRefusal, jobRefusal}
@@ -176,11 +175,3 @@ end-clear job c =
       filled = row-none (emptySet p) 5 (countOfKind 6 p - 1) (omega arith) (d .0);
       named = d .1;
     }
-
--- what a word lists, by its kind
-module _ (head w : ℕ) (S : List ℕ) where
-  pub fluent-entry : {k : ℕ} → kind w ≡ k → (k ≡ 14 → ⊥) → any (sameFluent head w) S ≡ any (sameEntry head w) S
-  fluent-entry e n = any-agree (sameFluent head w) (sameEntry head w) (each-of S (λ i l. rw (ne-eqb (kind w) 14 (λ z. n (sym e ∙ z)))))
-
-  pub pair-entry : kind w ≡ 14 → any (listsIn (groupNumber w) (groupAction w)) S ≡ any (sameEntry head w) S
-  pair-entry e = any-agree (listsIn (groupNumber w) (groupAction w)) (sameEntry head w) (each-of S (λ i l. rw (eq-eqb (kind w) 14 e)))

@@ -8,6 +8,7 @@ use names::Names;
 use positions::index_words;
 use scan::scan_words;
 
+pub mod entries;
 pub mod job_end;
 pub mod names;
 pub mod positions;

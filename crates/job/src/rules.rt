@@ -7,9 +7,7 @@ ghost use Rattle.words.specs.Fields.{groupNumber};
 ghost use Rattle.words.specs.Tests.{indicator};
 ghost use Rattle.bitset.specs.Code.Members.{has};
 ghost use Rattle.job.specs.Follow.{mayFollow};
-ghost use Rattle.job.specs.Parts.{listsIn};
-ghost use Rattle.job.specs.Rules.{wordRefusalOf, limited, headRefusal, knownRefusal, actionRefusal, lawRefusal, sameFluent, formulaShape, formulaRange, formulaRefusal, nodeShape, nodeRange, nodeRefusal, memberRefusal, conditionShape, conditionRange, conditionRefusal, shiftWindowRefusal, groupRefusal, groupMemberRefusal};
-ghost use Rattle.job.specs.Code.Entries.{sameEntry};
+ghost use Rattle.job.specs.Rules.{wordRefusalOf, limited, headRefusal, knownRefusal, actionRefusal, lawRefusal, formulaShape, formulaRange, formulaRefusal, nodeShape, nodeRange, nodeRefusal, memberRefusal, conditionShape, conditionRange, conditionRefusal, shiftWindowRefusal, groupRefusal, groupMemberRefusal};
 use crate::ACTION;
 use crate::CONDITION;
 use crate::FORMULA;
@@ -115,14 +113,6 @@ pub fn law(head: u32, listed: bool, w: u32) -> u32
     let spare = words::law_spare(head, w);
     let range = words::fluent_of(head, w) < words::fluents_of(head);
     word_refusal_of(spare, range, !listed)
-}
-
-pub fn same_fluent(head: u32, w: u32, v: u32) -> bool
-    ensures { λ r. ⌜ r ≡ sameFluent head w v ⌝ }
-{
-    (words::kind_of(v) == words::kind_of(w))
-        & (words::role_of(head, v) / 2 == words::role_of(head, w) / 2)
-        & (words::fluent_of(head, v) == words::fluent_of(head, w))
 }
 
 pub fn action(actions: usize, w: u32) -> u32
@@ -291,22 +281,4 @@ pub fn group_member(actions: usize, groups: u64, listed: bool, w: u32) -> u32
         & bitset::has(groups, g as u32)
         & (words::group_action(w) < actions);
     word_refusal_of(spare, range, !listed)
-}
-
-// Whether a word lists action `a` in group `g`.
-fn lists_in(g: usize, a: usize, v: u32) -> bool
-    ensures { λ r. ⌜ r ≡ listsIn g a v ⌝ }
-{
-    (words::kind_of(v) == GROUP_MEMBER)
-        & ((g == words::group_number(v)) & (a == words::group_action(v)))
-}
-
-// Whether the word `v` lists what `w` lists.
-pub fn same_entry(head: u32, w: u32, v: u32) -> bool
-    ensures { λ r. ⌜ r ≡ sameEntry head w v ⌝ }
-{
-    if words::kind_of(w) == GROUP_MEMBER {
-        return lists_in(words::group_number(w), words::group_action(w), v);
-    }
-    same_fluent(head, w, v)
 }

@@ -2,15 +2,14 @@
 ghost use mathlib.Core.Bool.{_||_};
 ghost use mathlib.Core.Path.{_≡_};
 ghost use Prim.Native.Nat.{_+_, _<_, _≤_};
-ghost use lib.ListN.{length};
-ghost use Rattle.words.specs.Scan.{any};
+ghost use lib.ListN.{length, getD};
 ghost use Rattle.answers.specs.Rows.{firstOf};
 ghost use Rattle.bitset.specs.Code.Members.{has, IsSetOf};
-ghost use Rattle.job.specs.Code.Entries.{sameEntry};
 ghost use Rattle.job.specs.Parts.{isGroup};
-ghost use Rattle.job.specs.Before.{before, since};
+ghost use Rattle.job.specs.Before.{before};
 ghost use Rattle.job.specs.Follow.{predecessor};
 ghost use Rattle.job.specs.Refusal.{refusalOf};
+ghost use Rattle.job.specs.Code.Entries.{Listed};
 ghost use Rattle.job.specs.Code.State.{Tied};
 use crate::ACTION;
 use crate::CONDITION;
@@ -27,6 +26,8 @@ use crate::SET_NODE;
 use crate::SHIFT_WINDOW;
 use crate::Scanned;
 use crate::State;
+use crate::entries;
+use crate::entries::ENTRY_ROWS;
 use crate::names;
 use crate::names::Names;
 use crate::rules;
@@ -44,28 +45,9 @@ fn predecessor(job: &[u32], i: usize) -> u32
     rules::pick_word(words::is_set(w), SET_NODE, words::kind_of(w))
 }
 
-// Whether a word since the last one of kind `k` lists what `w` lists.
-fn listed(job: &[u32], i: usize, k: u32, head: u32, w: u32) -> bool
-    requires { ⌜ i ≤ length (now job) ⌝ }
-    ensures { λ r. ⌜ r ≡ any (sameEntry head w) (since k (before (now (job .entry)) i)) ⌝ }
-{
-    let mut j = i;
-    while 0 < j {
-        let v = job[j - 1];
-        if words::kind_of(v) == k {
-            return false;
-        }
-        if rules::same_entry(head, w, v) {
-            return true;
-        }
-        j -= 1;
-    }
-    false
-}
-
 // The refusal of the word at position `i`, by the rule of its kind, at what the scan keeps of the words before it.
-fn word_refusal(job: &[u32], i: usize, s: State) -> u32
-    requires { ⌜ (i < length (now job)) × Tied (before (now job) i) s ⌝ }
+fn word_refusal(job: &[u32], i: usize, s: State, listed: &[u64; ENTRY_ROWS]) -> u32
+    requires { ⌜ (i < length (now job)) × Tied (before (now job) i) s × Listed (getD (now job) 0 0) (before (now job) i) (now listed) ⌝ }
     ensures { λ r. ⌜ r ≡ refusalOf (now (job .entry)) i ⌝ }
 {
     let w = job[i];
@@ -76,16 +58,21 @@ fn word_refusal(job: &[u32], i: usize, s: State) -> u32
     }
     match k {
         HEAD => rules::head(w),
-        KNOWN => rules::known(head, listed(job, i, HEAD, head, w), w),
+        KNOWN => rules::known(head, entries::is_listed(listed, head, w), w),
         ACTION => rules::action(s.actions, w),
-        LAW => rules::law(head, listed(job, i, ACTION, head, w), w),
+        LAW => rules::law(head, entries::is_listed(listed, head, w), w),
         FORMULA => rules::formula(head, s.formulas, w),
         NODE => rules::node(s.actions, s.formulas, s.nodes, w),
         MEMBER => rules::member(s.nodes, s.members, w),
         CONDITION => rules::condition(s.formulas, s.members, s.conditions, w),
         SHIFT_WINDOW => rules::shift_window(s.actions, w),
         GROUP => rules::group(s.groups, w),
-        GROUP_MEMBER => rules::group_member(s.actions, s.groups, listed(job, i, GROUP, head, w), w),
+        GROUP_MEMBER => rules::group_member(
+            s.actions,
+            s.groups,
+            entries::is_listed(listed, head, w),
+            w,
+        ),
         _ => JOB_SHAPE,
     }
 }
@@ -142,14 +129,16 @@ pub fn scan_words(job: &[u32]) -> Scanned
         groups: 0,
         names: Names { named: 0, again: 0 },
     };
+    let mut listed = [0u64; ENTRY_ROWS];
     let mut i = 0;
     while i < job.len() {
-        let number = word_refusal(job, i, s);
+        let number = word_refusal(job, i, s, &listed);
         if number != 0 {
             let refusal = answers::refuse(number, i);
             return Scanned { refusal, state: s };
         }
         s = advance(job, i, s);
+        entries::list_word(job[0], job[i], &mut listed);
         i += 1;
     }
     let refusal = answers::none();
