@@ -69,26 +69,27 @@ module _ {job : List ℕ} (durations : List ℕ) {S : List ℕ} {t : ℕ} {held 
   }
 
 -- of that list, the words before the starts that begin then are the starts that hide
-module _ {job S : List ℕ} (t : ℕ) {held : List ℕ} {all : ℕ} (lasting : Lasting job S) (ascends : Ascending S) (h : HeldList job S (t + 1) held all) where
-  parts : heldAt job S (t + 1) ≡ filter (unfinished job (suc t)) (heldAt job S t) ++ startingAt S (t + 1)
-  parts = rw (add-one t) (held-next job S t lasting ascends)
+module _ {job S : List ℕ} (t : ℕ) {starting : List ℕ} (begin : starting ≡ startingAt S (t + 1)) {held : List ℕ} {all : ℕ} (lasting : Lasting job S)
+    (ascends : Ascending S) (h : HeldList job S (t + 1) held all) where
+  parts : heldAt job S (t + 1) ≡ filter (unfinished job (suc t)) (heldAt job S t) ++ starting
+  parts = rw (begin, add-one t) (held-next job S t lasting ascends)
 
-  sizes : all ≡ length (filter (unfinished job (suc t)) (heldAt job S t)) + length (startingAt S (t + 1))
-  sizes = list-count h ∙ ap length parts ∙ length-append (filter (unfinished job (suc t)) (heldAt job S t)) (startingAt S (t + 1))
+  sizes : all ≡ length (filter (unfinished job (suc t)) (heldAt job S t)) + length starting
+  sizes = list-count h ∙ ap length parts ∙ length-append (filter (unfinished job (suc t)) (heldAt job S t)) starting
 
-  pub starting-few : length (startingAt S (t + 1)) ≤ all
+  pub starting-few : length starting ≤ all
   starting-few = omega (arith, sizes)
 
-  pub hiding-first : take (all - length (startingAt S (t + 1))) held ≡ filter (unfinished job (suc t)) (heldAt job S t)
+  pub hiding-first : take (all - length starting) held ≡ filter (unfinished job (suc t)) (heldAt job S t)
   hiding-first =
-      sym (take-take (all - length (startingAt S (t + 1))) all held (omega arith))
-      ∙ rw (h .words, parts) (take-at (filter (unfinished job (suc t)) (heldAt job S t)) (startingAt S (t + 1)) (all - length (startingAt S (t + 1))) (omega (arith, sizes)))
+      sym (take-take (all - length starting) all held (omega arith))
+      ∙ rw (h .words, parts) (take-at (filter (unfinished job (suc t)) (heldAt job S t)) starting (all - length starting) (omega (arith, sizes)))
 
   -- they can be walked, and the two passes give the state
-  pub hiding-walkable : {durations effects : List ℕ} → Walkable job durations effects S → Walkable job durations effects (take (all - length (startingAt S (t + 1))) held)
+  pub hiding-walkable : {durations effects : List ℕ} → Walkable job durations effects S → Walkable job durations effects (take (all - length starting) held)
   hiding-walkable w =
       record { well = w .well; tables = w .tables; named = rw hiding-first (named-filter (unfinished job (suc t)) (named-filter (inHand job t) (w .named))) }
 
   pub carried-next : {before : List ℕ} {count : ℕ} {old mid new : List ℕ} → Carried job S t before count old → AfterPass job false (t + 1) (take count before) old mid
-      → AfterPass job true (t + 1) (take (all - length (startingAt S (t + 1))) held) mid new → Carried job S (t + 1) held all new
+      → AfterPass job true (t + 1) (take (all - length starting) held) mid new → Carried job S (t + 1) held all new
   carried-next c g k = record { state = state-next t lasting (c .list .words) hiding-first (c .state) g k; list = h }

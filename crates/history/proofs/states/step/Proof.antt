@@ -46,7 +46,7 @@ planned : (k : tie.After-hold-next) → HeldList (start k .args .job .now) (star
 planned k = let p = start k .pre in next k (p .plan) (p .walk .named) (p .ascends) (p .begin) (p .carried .list)
 
 few : (k : tie.After-hold-next) → length (start k .args .starting .now) ≤ k .hold-next .result
-few k = let p = start k .pre in rw (p .begin) (starting-few (start k .args .t) (each-lasts (p .walk .well) (p .walk .named)) (p .ascends) (planned k))
+few k = let p = start k .pre in starting-few (start k .args .t) (p .begin) (each-lasts (p .walk .well) (p .walk .named)) (p .ascends) (planned k)
 
 slice-aggregate-apply-starts-2 : tie.Need-slice-aggregate-apply-starts-2
 slice-aggregate-apply-starts-2 c = sym (length-take-le _ _ (omega (arith, planned (carried c) .inside)))
@@ -55,7 +55,7 @@ apply-starts-requires-2 : tie.Need-apply-starts-requires-2
 apply-starts-requires-2 c κs =
     let k = carried (c .before) in
     let p = start k .pre in (
-      rw (p .begin) (hiding-walkable (start k .args .t) (each-lasts (p .walk .well) (p .walk .named)) (p .ascends) (planned k) (p .walk)),
+      hiding-walkable (start k .args .t) (p .begin) (each-lasts (p .walk .well) (p .walk .named)) (p .ascends) (planned k) (p .walk),
       rw (given k .apply-starts .ensures .size) (p .carried .state .room),
     )
 
@@ -64,8 +64,8 @@ returns c =
     let k = carried (c .before .before) in
     let p = start k .pre in
     λ S named ascends begin old.
-    carried-next (start k .args .t) (each-lasts (p .walk .well) named) ascends (next k S named ascends begin (old .list)) old (given k .apply-starts .ensures)
-    (rw begin at (c .apply-starts2 .ensures))
+    carried-next (start k .args .t) begin (each-lasts (p .walk .well) named) ascends (next k S named ascends begin (old .list)) old (given k .apply-starts .ensures)
+    (c .apply-starts2 .ensures)
 
 pub step-spec : {M : Type 1} → statement M
 step-spec =
