@@ -23,7 +23,8 @@ const TOOL: [&str; 6] = [
 
 /// The C library copies and fills memory by the same instructions on every machine, and not by `rep stosb`, of which callgrind would count
 /// each byte.
-const TUNABLES: &str = "glibc.cpu.hwcaps=-AVX2,-AVX512F,-AVX512VL,-AVX512BW,-AVX_Fast_Unaligned_Load,-ERMS,-FSRM";
+const TUNABLES: &str =
+    "glibc.cpu.hwcaps=-AVX2,-AVX512F,-AVX512VL,-AVX512BW,-AVX_Fast_Unaligned_Load,-SSSE3,-ERMS,-FSRM";
 
 impl Part {
     fn name(self) -> &'static str {
