@@ -21,8 +21,9 @@
  * again when it returns, and need not be cleared before it is lent a second time.
  *
  * Time, measured, not proved: find takes about 0.1 ms on an ordinary door, and about 0.15 s on the slowest single task set that a search of
- * an hour found. No job whose time the tests measure takes more than 0.25 s on the machine measured, and they fail above 1 s. check, fill
- * and the trial calls take a few ms. A call can't be stopped on its way; a host that must stay responsive calls find on a thread of its own.
+ * an hour found. No job that the tests count takes more than 0.25 s on the machine measured; they fail if one takes a quarter more
+ * instructions. check, fill and the trial calls take less than a ms. A call can't be stopped on its way; a host that must stay responsive
+ * calls find on a thread of its own.
  *
  * Each call returns one 64-bit number: refusal number, 0 for success, in bits 63..56; position, counted from 0 within the list
  * concerned, in 55..40; length in 39..24; count in 23..0.

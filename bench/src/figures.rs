@@ -1,113 +1,153 @@
-//! What the archive alone takes, one figure a run: the script `before-and-after` has two archives measured by turns. A plan that the
-//! archive refuses, as an older one does where a word of the job is of a newer kind, has no figure.
-use crate::instructions::{self, Finder};
-use crate::plans::{self, Plan};
-use crate::shapes::{self, facts, Shape};
-use crate::time::best;
-use crate::trials::{self, Trial};
-use crate::walks;
-use crate::wide;
-use planreader_tests::{checker::answer::Answer, host};
+//! The figures: a call on a plan, its answer, and how many instructions it may take.
+use crate::jobs;
+use crate::plans::{self, facts, Plan};
+use crate::shapes::{crowds, doors, held, nests, slowest, windows};
+use crate::wide::filler_words;
+use crate::yardstick;
+use planreader_tests::checker::{answer::Answer, trial::TRIAL_WORDS};
+use planreader_tests::host;
 
-/// A time is the best of so many.
-const RUNS: usize = 100;
+/// Find's buffer, in words.
+const FIND_WORDS: usize = 4096;
 
-/// The first argument of such a run.
-pub const FIGURES: &str = "figures";
+/// The moment of a trial.
+const TRIAL_MOMENT: usize = 62;
 
-/// A call on a job, starts, facts, which fill does not take, and a buffer, which check does not.
-type Call = fn(&[u32], &[u32], &[u32], &mut [u32]) -> Answer;
+/// What check may take on a job of 2,048 words without starts.
+const WITHOUT_STARTS: u64 = 1_500_000;
 
-const CHECK: Call = |job, starts, facts, _| host::check(job, starts, facts);
-const FILL: Call = |job, starts, _, buffer| host::fill(job, starts, buffer);
-const FIND: Call = host::find;
+/// How many times as many instructions as the yardstick find may take on a door and on end windows, and as check a start in a trial.
+const DOOR: f64 = 2.5;
+const END_WINDOWS: f64 = 1.5;
+const START: f64 = 1.01;
 
-struct Figure {
-    name: String,
-    measure: Box<dyn Fn() -> f64>,
+#[derive(Clone, Copy, PartialEq)]
+pub enum Call {
+    Check,
+    Fill,
+    Find,
+    Yardstick,
+    Begin,
+    Start,
+    On,
+    Show,
+}
+
+pub enum Limit {
+    /// The number that limits.txt has for the figure.
+    Listed,
+    Most(u64),
+    /// So many times the instructions of another call on the same plan.
+    Times(f64, Call),
+    /// The figure is there for another one's limit.
+    Nothing,
+}
+
+/// The figures of the gate, or all.
+#[derive(Clone, Copy, PartialEq)]
+pub enum Part {
+    Gate,
+    All,
+}
+
+pub struct Figure {
+    pub call: Call,
+    pub plan: Plan,
+    pub limit: Limit,
+}
+
+pub fn figures(part: Part) -> Vec<Figure> {
+    let with_starts =
+        plans::all().into_iter().flat_map(|plan| each(&[Call::Check, Call::Fill], plan, || Limit::Listed));
+    let without = jobs::all().into_iter().flat_map(|job| each(&[Call::Check], job, || Limit::Most(WITHOUT_STARTS)));
+    let trials = plans::trials().into_iter().flat_map(trial);
+    let doors = doors::narrow().into_iter().flat_map(|door| beside_yardstick(DOOR, door));
+    let small = windows::small().into_iter().flat_map(|plan| beside_yardstick(END_WINDOWS, plan));
+    let (gate_sets, long_sets) = slowest::plans();
+    let gate = [doors::wide(), windows::largest(), held::plans(), nests::plans(), crowds::plans(), gate_sets];
+    let long = if part == Part::All { vec![vec![crowds::four_sets()], long_sets] } else { vec![] };
+    let finds = gate.into_iter().chain(long).flatten().flat_map(|plan| each(&[Call::Find], plan, || Limit::Listed));
+    with_starts.chain(without).chain(trials).chain(doors).chain(small).chain(finds).collect()
+}
+
+fn each(calls: &[Call], plan: Plan, limit: impl Fn() -> Limit) -> Vec<Figure> {
+    calls.iter().map(|&call| Figure { call, plan: plan.clone(), limit: limit() }).collect()
+}
+
+/// The calls on the trial of a plan's starts. A start is held to check of these starts with their facts.
+fn trial(plan: Plan) -> Vec<Figure> {
+    let mut figures = each(&[Call::Begin, Call::On, Call::Show], plan.clone(), || Limit::Listed);
+    figures.extend(each(&[Call::Start], plan.clone(), || Limit::Times(START, Call::Check)));
+    figures.extend(each(&[Call::Check], plan, || Limit::Nothing));
+    figures
+}
+
+/// Find, held to the yardstick.
+fn beside_yardstick(times: f64, plan: Plan) -> Vec<Figure> {
+    let mut figures = each(&[Call::Find], plan.clone(), || Limit::Times(times, Call::Yardstick));
+    figures.extend(each(&[Call::Yardstick], plan, || Limit::Nothing));
+    figures
+}
+
+/// The name of the figure of a call on a plan.
+pub fn name(call: Call, plan: &Plan) -> String {
+    let call = match call {
+        Call::Check => "check",
+        Call::Fill => "fill",
+        Call::Find => "find",
+        Call::Yardstick => "yardstick",
+        Call::Begin => "begin",
+        Call::Start => "start",
+        Call::On => "on",
+        Call::Show => "show",
+    };
+    format!("{call}: {}", plan.name)
 }
 
 impl Figure {
-    fn new(name: String, measure: impl Fn() -> f64 + 'static) -> Figure {
-        Figure { name, measure: Box::new(measure) }
+    pub fn name(&self) -> String {
+        name(self.call, &self.plan)
     }
-}
 
-pub fn print_names(kind: &str) {
-    figures(kind).iter().for_each(|figure| println!("{}", figure.name));
-}
-
-pub fn print(kind: &str, name: &str) {
-    let figure = figures(kind).into_iter().find(|figure| figure.name == name).expect("a figure of that name");
-    println!("{}", (figure.measure)());
-}
-
-/// Times are in milliseconds.
-fn figures(kind: &str) -> Vec<Figure> {
-    match kind {
-        "times" => times(),
-        "instructions" => instructions(),
-        _ => panic!("figures are times or instructions, not {kind}"),
-    }
-}
-
-fn times() -> Vec<Figure> {
-    let plans = lawful_plans().flat_map(|Plan { name, job, starts, .. }| {
-        [time(format!("check: {name}"), CHECK, &job, &starts), time(format!("fill: {name}"), FILL, &job, &starts)]
-    });
-    let in_trial = |trial: &'static str| {
-        let call = move |(name, [call, _]): (&str, [trials::Call; 2])| {
-            Figure::new(format!("{name} in a {trial}"), move || Trial::of(trial).time(RUNS, call))
-        };
-        trials::CALLS.map(call)
-    };
-    let trials = lawful_trials().flat_map(in_trial);
-    let finds = lawful_shapes().map(|shape| time(format!("find: {}", shape.name), FIND, &shape.job, &shape.starts));
-    plans.chain(trials).chain(finds).collect()
-}
-
-fn lawful_plans() -> impl Iterator<Item = Plan> {
-    plans::all().into_iter().filter(|plan| is_lawful(&plan.job, &plan.starts))
-}
-
-fn lawful_trials() -> impl Iterator<Item = &'static str> {
-    trials::NAMES.into_iter().filter(|name| {
-        let Trial { job, starts, .. } = Trial::of(name);
-        is_lawful(&job, &starts)
-    })
-}
-
-fn lawful_shapes() -> impl Iterator<Item = Shape> {
-    shapes::all().into_iter().filter(|shape| is_lawful(&shape.job, &shape.starts))
-}
-
-/// Whether the archive says so.
-fn is_lawful(job: &[u32], starts: &[u32]) -> bool {
-    host::fill(job, starts, &mut vec![0; wide::filler_words(job)]).number == 0
-}
-
-fn time(name: String, call: Call, job: &[u32], starts: &[u32]) -> Figure {
-    let (job, starts) = (job.to_vec(), starts.to_vec());
-    Figure::new(name, move || {
+    /// The call with all that it is lent, to be made any number of times.
+    pub fn ready(&self) -> Box<dyn FnMut() -> Answer> {
+        let Plan { job, starts, .. } = self.plan.clone();
         let facts = facts(&job, &starts);
-        let mut buffer = vec![0; wide::filler_words(&job)];
-        best(RUNS, || call(&job, &starts, &facts, &mut buffer)).0
-    })
-}
+        let words = self.trial();
+        let (mut lent, mut buffer) = (words.clone(), vec![0; filler_words(&job)]);
+        match self.call {
+            Call::Check => Box::new(move || host::check(&job, &starts, &facts)),
+            Call::Fill => Box::new(move || host::fill(&job, &starts, &mut buffer)),
+            Call::Find => Box::new(move || host::find(&job, &starts, &facts, &mut buffer[..FIND_WORDS])),
+            Call::Yardstick => Box::new(move || yardstick::find(&job, &starts).answer()),
+            Call::Begin => Box::new(move || host::trial_begin(&job, &mut lent)),
+            Call::Start => Box::new(move || {
+                lent.copy_from_slice(&words);
+                host::trial_start(&job, &mut lent, 0)
+            }),
+            Call::On => Box::new(move || {
+                lent.copy_from_slice(&words);
+                host::trial_on(&job, &mut lent)
+            }),
+            Call::Show => Box::new(move || host::trial_show(&job, &lent, &mut buffer)),
+        }
+    }
 
-fn instructions() -> Vec<Figure> {
-    let fills = lawful_plans().map(|plan| count(format!("fill: {}", plan.name), move || walks::count(&plan)));
-    let of_trial = |trial: &'static str| {
-        let figure = move |call| count(format!("{call}, starts of the {trial}"), move || trials::count(trial, call));
-        trials::COUNTED_CALLS.map(figure)
-    };
-    let trials = lawful_trials().flat_map(of_trial);
-    let counted = lawful_shapes().filter(|shape| shape.counted);
-    let finds = counted
-        .map(|shape| count(format!("find: {}", shape.name), move || instructions::count(&shape, Finder::Archive)));
-    fills.chain(trials).chain(finds).collect()
-}
+    /// The words of the trial of the plan's starts: its moment, their number, the starts.
+    pub fn trial(&self) -> Vec<u32> {
+        let starts = &self.plan.starts;
+        let mut words = [&[TRIAL_MOMENT as u32, starts.len() as u32], &starts[..]].concat();
+        words.resize(TRIAL_WORDS, 0);
+        words
+    }
 
-fn count(name: String, run: impl Fn() -> Result<u64, String> + 'static) -> Figure {
-    Figure::new(name, move || run().unwrap_or_else(|told| panic!("{told}")) as f64)
+    /// Whether the answer is the plan's, or for find that of the yardstick.
+    pub fn is_right(&self) -> bool {
+        let answer = self.ready()();
+        if self.call == Call::Find {
+            let plain = yardstick::find(&self.plan.job, &self.plan.starts).answer();
+            return (answer.number, answer.count) == (plain.number, plain.count);
+        }
+        self.call == Call::Yardstick || (answer.number, answer.position) == self.plan.refusal
+    }
 }

@@ -1,10 +1,8 @@
-//! Lawful plans for check and fill: the largest ones, narrow and wide, one with the most shift windows, some with all groups, and plans by how
-//! many starts are in hand and by how many fluents there are.
+//! Lawful plans with many starts, for check, fill and the calls on a trial: the largest ones, narrow and wide, one with the most shift
+//! windows, some with all groups, and plans by how many starts are in hand.
 use crate::wide;
-use planreader_tests::words::{action, formula, head, initially, law, node, start};
-
-/// The last moments of the plans by starts in hand.
-pub const LASTS: [usize; 3] = [15, 31, 63];
+use planreader_tests::host;
+use planreader_tests::words::{action, formula, group, group_member, head, initially, law, node, shift_window, start};
 
 /// How many laws an action of the largest plans has.
 const LAWS: usize = 29;
@@ -18,36 +16,48 @@ const NEEDED: usize = 20;
 const MADE: usize = 6;
 
 /// Shift windows of the plan that has the most: with 64 known fluents, 64 actions and a node, its job has 2,048 words.
-pub const WINDOWS: usize = 1918;
+const WINDOWS: usize = 1918;
 
 /// The groups that there may be, and the greatest limit: in the plans that have them, so many of each are in hand.
 const GROUPS: usize = 8;
 const LIMIT: usize = 63;
 
-/// In the plan with groups and the most in hand, each start with each group of its action: 4,032 starts of actions in eight groups, but for
-/// the eight actions that are in seven.
-pub const STARTS_IN_GROUPS: usize = 4032 * GROUPS - 63 * GROUPS;
-
+#[derive(Clone, Default)]
 pub struct Plan {
     pub name: String,
-    pub last: usize,
     pub job: Vec<u32>,
     /// They ascend and are lawful.
     pub starts: Vec<u32>,
-    /// For each moment the number of starts in hand, added up.
-    pub in_hand: usize,
+    /// Number and position of check's answer.
+    pub refusal: (usize, usize),
+}
+
+/// A lawful plan.
+pub fn lawful(name: impl Into<String>, job: Vec<u32>, starts: Vec<u32>) -> Plan {
+    Plan { name: name.into(), job, starts, refusal: (0, 0) }
+}
+
+/// The facts of a plan; none if fill refuses it.
+pub fn facts(job: &[u32], starts: &[u32]) -> Vec<u32> {
+    let mut buffer = vec![0; wide::filler_words(job)];
+    let filled = host::fill(job, starts, &mut buffer);
+    buffer.truncate(filled.length);
+    buffer
 }
 
 pub fn all() -> Vec<Plan> {
-    let largest = [1, 2, 7].map(|d| {
-        let (job, starts) = largest(d);
-        let in_hand = starts.len() * d;
-        Plan { name: format!("the largest, d = {d}"), last: 63, job, starts, in_hand }
-    });
-    let wide = [1, 7].map(largest_wide);
-    let windows_and_groups = [windowed(), grouped(), grouped_most_pairs(), grouped_durations(), bare()];
-    let by_starts = LASTS.into_iter().flat_map(by_starts_in_hand);
-    largest.into_iter().chain(wide).chain(windows_and_groups).chain(by_starts).chain(by_fluents()).collect()
+    let largest = [largest(1), largest(7), largest_wide(1), largest_wide(7)];
+    let windows_and_groups = [windowed(), grouped(), grouped_one(), grouped_durations(), bare()];
+    largest.into_iter().chain(windows_and_groups).chain(by_starts_in_hand()).collect()
+}
+
+/// Plans of which a trial has 4,000 of the 4,032 starts: at the trial's moment, 62, the higher actions are started, so that action 0 goes in
+/// before them.
+pub fn trials() -> [Plan; 4] {
+    [largest(1), windowed(), grouped(), largest_wide(1)].map(|Plan { name, job, starts, .. }| {
+        let starts = [&starts[..62 * 64], &starts[62 * 64 + 32..]].concat();
+        lawful(format!("trial of {name}"), job, starts)
+    })
 }
 
 /// As many shift windows as there is room for, 29 or 30 for each action, side by side from moment 0 to 63: each start is held by one of
@@ -59,49 +69,37 @@ pub fn windowed() -> Plan {
         shift_window(a, 63 * place / count, 63 * (place + 1) / count)
     };
     let windows = (0..WINDOWS).map(window).collect();
-    without_laws(format!("{WINDOWS} shift windows, 4,032 starts"), windows, |_| 1, |_, _| true)
+    without_laws(format!("{WINDOWS} shift windows, 4,032 starts"), windows, |_| 1)
 }
 
 /// All groups, and the most in hand at a moment, every action: each group has all actions but one of its own, so that 63 of it are in hand.
-pub fn grouped() -> Plan {
+fn grouped() -> Plan {
     let pairs = members(|group, action| action != group);
-    without_laws("8 groups of 63, 4,032 starts".to_string(), pairs, |_| 1, |_, _| true)
+    without_laws("8 groups of 63, 4,032 starts", pairs, |_| 1)
 }
 
-/// The most pairs of group and action, every action in all groups. At each moment another one does not start, so that 63 are in hand.
-fn grouped_most_pairs() -> Plan {
-    let starts = |moment, action| action != moment;
-    without_laws("8 groups of 64, 3,969 starts".to_string(), members(|_, _| true), |_| 1, starts)
+/// A group of one action: its starts are few, so that what all others cost shows.
+fn grouped_one() -> Plan {
+    without_laws("a group of one action, 4,032 starts", vec![group(0, LIMIT), group_member(0, 0)], |_| 1)
 }
 
 /// The groups of `grouped`, with actions of different durations, each again as soon as it has finished.
 fn grouped_durations() -> Plan {
     let pairs = members(|group, action| action != group);
-    without_laws("8 groups of 63, durations 2, 7 and 63".to_string(), pairs, |a| [2, 7, 63][a % 3], |_, _| true)
+    without_laws("8 groups of 63, durations 2, 7 and 63", pairs, |a| [2, 7, 63][a % 3])
 }
 
 /// The plan of `windowed` without its windows, and that of `grouped` without its groups.
-pub fn bare() -> Plan {
-    without_laws("no shift windows, no groups, 4,032 starts".to_string(), vec![], |_| 1, |_, _| true)
+fn bare() -> Plan {
+    without_laws("no shift windows, no groups, 4,032 starts", vec![], |_| 1)
 }
 
-/// 64 fluents, all known from the start; 64 actions of these durations without laws, then words on them. Each starts at 0 and whenever it
-/// has finished, as long as it finishes by 63, but not where `starts` is false.
-fn without_laws(
-    name: String,
-    words: Vec<u32>,
-    duration: impl Fn(usize) -> usize,
-    starts: impl Fn(usize, usize) -> bool,
-) -> Plan {
+/// 64 fluents, all known from the start; 64 actions of these durations without laws, then words on them. Each starts again and again.
+fn without_laws(name: impl Into<String>, words: Vec<u32>, duration: impl Fn(usize) -> usize) -> Plan {
     let known = (0..64).map(|f| initially(f, true));
     let actions = (0..64).map(|a| action(a, duration(a)));
     let job = [head(64, 64, 63)].into_iter().chain(known).chain(actions).chain(words).chain([node(0, 0, 0, 0, 0)]);
-    let starting = |u: usize, a: usize| u % duration(a) == 0 && u + duration(a) <= 63 && starts(u, a);
-    let pairs: Vec<(usize, usize)> = (0..63).flat_map(|u| (0..64).map(move |a| (u, a))).collect();
-    let pairs: Vec<(usize, usize)> = pairs.into_iter().filter(|&(u, a)| starting(u, a)).collect();
-    let in_hand = pairs.iter().map(|&(_, a)| duration(a)).sum();
-    let starts = pairs.into_iter().map(|(u, a)| start(u, a)).collect();
-    Plan { name, last: 63, job: job.collect(), starts, in_hand }
+    lawful(name, job.collect(), again_and_again(64, duration))
 }
 
 /// All groups with the greatest limit, and then the pairs of group and action that there are.
@@ -111,24 +109,10 @@ fn members(is_member: impl Fn(usize, usize) -> bool) -> Vec<u32> {
     (0..GROUPS).map(|g| group(g, LIMIT)).chain(pairs).collect()
 }
 
-/// "kind 13, 27..24 group, 5..0 limit; kind 14, 27..24 group, 5..0 action", request L5.
-fn group(group: usize, limit: usize) -> u32 {
-    13 << 28 | (group << 24 | limit) as u32
-}
-
-fn group_member(group: usize, action: usize) -> u32 {
-    14 << 28 | (group << 24 | action) as u32
-}
-
-/// "17..12 action, 11..6 from, 5..0 to", request L4.
-fn shift_window(action: usize, from: usize, to: usize) -> u32 {
-    12 << 28 | (action << 12 | from << 6 | to) as u32
-}
-
 /// 64 fluents, all known from the start; 64 actions of duration d, each with 29 laws (12 needs, 17 makes, all true, so that nothing
 /// clashes); every action starts at every d-th moment. With d > 1 the needs would be hidden, so the laws all make. With 62 formulas the
 /// job has 2,048 words, the most there may be.
-pub fn largest(d: usize) -> (Vec<u32>, Vec<u32>) {
+pub fn largest(d: usize) -> Plan {
     let mut job = vec![head(64, 64, 63)];
     job.extend((0..64).map(|f| initially(f, true)));
     for a in 0..64 {
@@ -138,7 +122,7 @@ pub fn largest(d: usize) -> (Vec<u32>, Vec<u32>) {
     }
     job.extend([formula(0, 0, 0); 62]);
     job.push(node(1, 0, 0, 0, 0));
-    (job, every_action(d))
+    lawful(format!("the largest, d = {d}"), job, every_action(d))
 }
 
 /// Every action at every d-th moment, as long as it finishes by 63.
@@ -151,9 +135,7 @@ fn every_action(d: usize) -> Vec<u32> {
 pub fn largest_wide(d: usize) -> Plan {
     let mut job = wide_before_formulas(d, 2);
     job.extend([formula(0, 0, 0), node(1, 0, 0, 0, 0)]);
-    let starts = every_action(d);
-    let in_hand = starts.len() * d;
-    Plan { name: format!("the largest wide, d = {d}"), last: 63, job, starts, in_hand }
+    lawful(format!("the largest wide, d = {d}"), job, every_action(d))
 }
 
 /// 256 fluents, of which as many are known at 0 as there is room for with so many words after the laws; 64 actions of duration d, 29 or 30
@@ -171,47 +153,28 @@ pub fn wide_before_formulas(d: usize, after: usize) -> Vec<u32> {
     job
 }
 
-/// With a wide head and one fluent, and with 256; without starts, and with each of 64 actions at every moment but the last.
-pub fn by_fluents() -> [Plan; 4] {
-    [(1, 0), (wide::FLUENTS, 0), (1, 64), (wide::FLUENTS, 64)].map(|(fluents, started)| wide_plan(fluents, started))
+/// With so many starts in hand at each moment, and with 64 of different durations.
+fn by_starts_in_hand() -> Vec<Plan> {
+    let short = [1, 8, 64].map(|started| in_hand(&format!("{started} in hand"), |_| 1, started));
+    short.into_iter().chain([in_hand("64 in hand, durations 2, 7 and 63", |a| [2, 7, 63][a % 3], 64)]).collect()
 }
 
-/// All fluents are known at 0, and each action, of duration 1, makes one of them true.
-fn wide_plan(fluents: usize, started: usize) -> Plan {
-    let mut job = vec![wide::head(fluents, 64, 63)];
-    job.extend((0..fluents).map(|f| wide::initially(f, true)));
-    job.extend((0..64).flat_map(|a| [action(a, 1), wide::law(2, a * 4 % fluents)]));
-    job.extend([formula(0, 0, 0), node(1, 0, 0, 0, 0)]);
-    let starts: Vec<u32> = (0..63).flat_map(|u| (0..started).map(move |a| start(u, a))).collect();
-    let in_hand = starts.len();
-    Plan { name: format!("wide, fluents: {fluents}, in hand: {started}"), last: 63, job, starts, in_hand }
-}
-
-/// Without starts; with 64 starts in hand at each moment; and for n = 63 also with one, with eight, and of different durations.
-pub fn by_starts_in_hand(last: usize) -> Vec<Plan> {
-    let short = |_| 1;
-    let mut plans = vec![plan("no starts", last, short, 0), plan("64 in hand", last, short, 64)];
-    if last == 63 {
-        plans.extend([1, 8].map(|started| plan(&format!("{started} in hand"), last, short, started)));
-        plans.push(plan("durations 2, 7 and 63", last, |a| [2, 7, 63][a % 3], 64));
-    }
-    plans
-}
-
-/// A job of 64 actions of these durations, of which so many start at 0 and whenever they have finished, as long as they finish by `last`.
+/// A job of 64 actions of these durations, of which so many start at 0 and whenever they have finished, as long as they finish by 63.
 /// Fluents 1 to 3 are made true and were false at first, 4 to 6 the other way round; those who make a fluent have the same duration.
-fn plan(name: &str, last: usize, duration: impl Fn(usize) -> usize, started: usize) -> Plan {
-    let mut job = vec![head(1 + MADE, 64, last), initially(0, true)];
+fn in_hand(name: &str, duration: impl Fn(usize) -> usize, started: usize) -> Plan {
+    let mut job = vec![head(1 + MADE, 64, 63), initially(0, true)];
     job.extend((0..MADE).map(|i| initially(1 + i, i >= MADE / 2)));
     for a in 0..64 {
         let made = a % MADE;
         job.extend([action(a, duration(a)), law(0, 0), law(if made < MADE / 2 { 2 } else { 3 }, 1 + made)]);
     }
     job.extend([formula(0, 0, 0), node(1, 0, 0, 0, 0)]);
-    let starting = |u: usize, a: usize| u % duration(a) == 0 && u + duration(a) <= last;
-    let pairs: Vec<(usize, usize)> = (0..=last).flat_map(|u| (0..started).map(move |a| (u, a))).collect();
-    let pairs: Vec<(usize, usize)> = pairs.into_iter().filter(|&(u, a)| starting(u, a)).collect();
-    let in_hand = pairs.iter().map(|&(_, a)| duration(a)).sum();
-    let starts = pairs.into_iter().map(|(u, a)| start(u, a)).collect();
-    Plan { name: format!("{name}, n = {last}"), last, job, starts, in_hand }
+    lawful(name, job, again_and_again(started, duration))
+}
+
+/// Each of the first actions starts at 0 and whenever it has finished, as long as it finishes by 63.
+fn again_and_again(actions: usize, duration: impl Fn(usize) -> usize) -> Vec<u32> {
+    let starting = |u: usize, a: usize| u % duration(a) == 0 && u + duration(a) <= 63;
+    let pairs = (0..63).flat_map(|u| (0..actions).map(move |a| (u, a)));
+    pairs.filter(|&(u, a)| starting(u, a)).map(|(u, a)| start(u, a)).collect()
 }

@@ -1,28 +1,32 @@
 //! Task sets of four members that read between many moments, with conditions that could make a search long.
 use super::nodes::Nodes;
-use super::{Shape, CONTRADICTION, JOB, SET};
+use crate::plans::{lawful, Plan};
 use planreader_tests::words::{action, condition, formula, head, node};
 
 type Crowd = (&'static str, usize, Vec<u32>);
 
-pub fn shapes() -> Vec<Shape> {
-    let sets = crowds().into_iter().map(|crowd| shape(1, crowd, SET));
-    let contradictions = contradictions().into_iter().map(|crowd| shape(1, crowd, CONTRADICTION));
-    let jobs = crowds().into_iter().chain(self::contradictions()).map(|crowd| shape(4, crowd, JOB));
-    sets.chain(contradictions).chain(jobs).collect()
+/// The place among the crowds of the one that find takes longest on.
+const LONGEST: usize = 4;
+
+pub fn plans() -> Vec<Plan> {
+    crowds().into_iter().chain(contradictions()).map(|crowd| plan(1, crowd)).collect()
+}
+
+/// A job of four sets, of which each is the crowd that takes the longest.
+pub fn four_sets() -> Plan {
+    plan(4, crowds().swap_remove(LONGEST))
 }
 
 /// So many sets of four members, and a choice of them where there is more than one.
-fn shape(sets: usize, (name, span, conditions): Crowd, most_ms: f64) -> Shape {
+fn plan(sets: usize, (name, span, conditions): Crowd) -> Plan {
     let mut nodes = Nodes::after(before_nodes());
     let mut root = add_crowd(&mut nodes, 4, span, &conditions);
     for _ in 1..sets {
         let set = add_crowd(&mut nodes, 4, span, &conditions);
         root = nodes.add(node(3, root, set, 0, 0), &[]);
     }
-    let name = if sets == 1 { format!("four members, {name}") } else { format!("{sets} sets of four members, {name}") };
-    let counted = most_ms == CONTRADICTION;
-    Shape { name, job: nodes.words, starts: vec![], most_ms, counted, most_ratio: None }
+    let count = if sets == 1 { String::new() } else { format!("{sets} sets of ") };
+    lawful(format!("{count}four members, {name}"), nodes.words, vec![])
 }
 
 /// A job of one set.

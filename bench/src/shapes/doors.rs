@@ -1,24 +1,23 @@
 //! Ordinary doors, narrow and wide.
 use super::nodes::Nodes;
-use super::{Shape, DOOR};
+use crate::plans::{lawful, Plan};
 use crate::wide;
 use planreader_tests::words::{action, condition, formula, head, initially, law, node, start};
 
-/// How many times as many instructions as the yardstick find may take on a door.
-const RATIO: f64 = 2.5;
+fn doors() -> [(&'static str, (Vec<u32>, Vec<u32>)); 2] {
+    [("door, sets after the loop", door()), ("door, sets in the loop", door_of_passes())]
+}
 
-pub fn shapes() -> Vec<Shape> {
-    let doors = [("door, sets after the loop", door()), ("door, sets in the loop", door_of_passes())];
-    let shape = |name: String, (job, starts): (Vec<u32>, Vec<u32>), most_ratio: Option<f64>| Shape {
-        name,
-        job,
-        starts,
-        most_ms: DOOR,
-        counted: true,
-        most_ratio,
+pub fn narrow() -> [Plan; 2] {
+    doors().map(|(name, (job, starts))| lawful(name, job, starts))
+}
+
+pub fn wide() -> Vec<Plan> {
+    let plan = |(name, door)| {
+        let (job, starts) = wide_door(door);
+        lawful(format!("wide {name}"), job, starts)
     };
-    let wide = doors.clone().map(|(name, door)| shape(format!("wide {name}"), wide_door(door), None));
-    doors.map(|(name, door)| shape(name.to_string(), door, Some(RATIO))).into_iter().chain(wide).collect()
+    doors().map(plan).into()
 }
 
 /// The door with a wide head and 256 fluents, its own the last of them; the others are known at 0 and stay. Then checking the job and 16,384

@@ -1,14 +1,11 @@
-//! Request L7, "X has held for Y moments": jobs of 64 formulas, all of form 5 but the first, a fluent; and the same jobs with 'and'.
+//! Request L7, "X has held for Y moments": jobs of 64 formulas, all of form 5 but the first, a fluent.
 use super::nodes::Nodes;
-use super::{Shape, HELD};
+use crate::plans::{lawful, Plan};
 use planreader_tests::words::{action, formula, head, initially, law, node, start};
 
 /// The most formulas that a job has, and the most moments that a formula looks back.
 const FORMULAS: usize = 64;
 const BACK: usize = 63;
-
-/// How many values 'and' is taken over in a job whose formulas of form 5 all look so far back.
-pub const VALUES: usize = (FORMULAS - 1) * 64 * (BACK + 1);
 
 /// How the formulas refer to each other: X and Y of formula k.
 type Formulas = (&'static str, fn(usize) -> (usize, usize));
@@ -19,27 +16,11 @@ const FURTHER: Formulas = ("of the fluent, 1 to 63 back", |k| (0, k));
 /// The values of the fluent: whether it is known true at 0, and the starts.
 type Fluent = (&'static str, bool, Vec<u32>);
 
-pub fn shapes() -> Vec<Shape> {
-    pairs().into_iter().flatten().collect()
-}
-
-/// The jobs with form 5 alone.
-pub fn with_forms_5() -> impl Iterator<Item = Shape> {
-    pairs().into_iter().map(|[held, _]| held)
-}
-
-/// A job with form 5, and the same with 'and' of X and X in its place.
-pub fn pairs() -> Vec<[Shape; 2]> {
+pub fn plans() -> Vec<Plan> {
     let [open, known, turned, hidden] = &fluents();
-    let nested = [open, known, turned].map(|fluent| pair(NESTED, fluent));
-    let of_fluent = [known, turned, hidden].map(|fluent| pair(OF_FLUENT, fluent));
-    nested.into_iter().chain(of_fluent).chain([pair(FURTHER, known)]).collect()
-}
-
-/// Those whose instructions are counted: values that are all open, and values that hold and fail by turns.
-pub fn counted_pairs() -> [[Shape; 2]; 2] {
-    let [open, _, turned, _] = &fluents();
-    [pair(NESTED, open), pair(OF_FLUENT, turned)]
+    let nested = [open, known, turned].map(|fluent| plan(NESTED, fluent));
+    let of_fluent = [known, turned, hidden].map(|fluent| plan(OF_FLUENT, fluent));
+    nested.into_iter().chain(of_fluent).chain([plan(FURTHER, known)]).collect()
 }
 
 /// Open at every moment, true at every moment, true and false by turns, true and open by turns.
@@ -49,19 +30,11 @@ fn fluents() -> [Fluent; 4] {
     [("open", false, vec![]), ("true", true, vec![]), ("true, false", true, turned), ("true, open", true, hidden)]
 }
 
-fn pair((name, references): Formulas, fluent: &Fluent) -> [Shape; 2] {
+fn plan((name, references): Formulas, (values, known, starts): &Fluent) -> Plan {
     let held = |k: usize| formula(5, references(k).0, references(k).1);
-    let and = |k: usize| formula(3, references(k).0, references(k).0);
-    let shape = |form: &str, formulas: Vec<u32>| Shape {
-        name: format!("{form}, {name}, fluent {}", fluent.0),
-        job: tests(before_nodes(fluent.1, &formulas)),
-        starts: fluent.2.clone(),
-        most_ms: HELD,
-        counted: false,
-        most_ratio: None,
-    };
-    let held = Shape { counted: fluent.0 == "open", ..shape("63 of form 5", (1..FORMULAS).map(held).collect()) };
-    [held, shape("63 times 'and'", (1..FORMULAS).map(and).collect())]
+    let formulas: Vec<u32> = (1..FORMULAS).map(held).collect();
+    let job = tests(before_nodes(*known, &formulas));
+    lawful(format!("63 of form 5, {name}, fluent {values}"), job, starts.clone())
 }
 
 /// Action 0 makes the fluent true and action 1 false, within a moment; action 2 hides it for one and makes it true.

@@ -1,34 +1,27 @@
 //! Sets within sets, and sets within a loop.
 use super::nodes::Nodes;
-use super::{Shape, LOOP, NEST};
+use crate::plans::{lawful, Plan};
 use planreader_tests::words::{action, condition, formula, head, initially, law, node, start};
 
 /// With eight sets of four there is room for so many spans, which are three nodes each.
 const SPANS: usize = 15;
 
-pub fn shapes() -> Vec<Shape> {
-    let shape = |name: &str, (job, starts): (Vec<u32>, Vec<u32>), most_ms: f64| Shape {
-        name: name.to_string(),
-        job,
-        starts,
-        most_ms,
-        counted: most_ms == LOOP,
-        most_ratio: None,
-    };
+pub fn plans() -> Vec<Plan> {
+    let plan = |name: &str, (job, starts): (Vec<u32>, Vec<u32>)| lawful(name, job, starts);
     // the last member begins before the second, ends by the begin of the first, and not at 63
     let bound = [condition(0, 0, 3, 1, 0, 63), condition(3, 0, 3, 0, 1, 1), condition(1, 0, 3, 0, 0, 63)];
     let later = [condition(0, 0, 2, 1, 1, 63), condition(0, 0, 1, 3, 1, 63)];
     let alone: Vec<u32> = (0..8).map(|c| condition(2 + c % 2, 1, c / 2 % 2, 0, 0, 0)).collect();
     let together: Vec<u32> = (0..8).map(|c| condition(4, 1, c % 2, (c + 1) % 2, 0, 0)).collect();
     vec![
-        shape("eight nested sets of four, acts", nested(0, 0, &[]), NEST),
-        shape("eight nested sets of four, ends up to b + 1, begins in order", nested(1, 1, &later), NEST),
-        shape("eight nested sets of four, ends up to b + 3", nested(2, 3, &[]), NEST),
-        shape("eight nested sets of four, all ends, the last member by the first", nested(2, 63, &bound), NEST),
-        shape("62 sets of one with 8 conditions", sets_of_one(false), LOOP),
-        shape("62 sets of one with 8 conditions, in a loop", sets_of_one(true), LOOP),
-        shape("a set of two in a loop, 8 conditions on one member each", set_of_two(&alone), LOOP),
-        shape("a set of two in a loop, 8 conditions on both members", set_of_two(&together), LOOP),
+        plan("eight nested sets of four, acts", nested(0, 0, &[])),
+        plan("eight nested sets of four, ends up to b + 1, begins in order", nested(1, 1, &later)),
+        plan("eight nested sets of four, ends up to b + 3", nested(2, 3, &[])),
+        plan("eight nested sets of four, all ends, the last member by the first", nested(2, 63, &bound)),
+        plan("62 sets of one with 8 conditions", sets_of_one(false)),
+        plan("62 sets of one with 8 conditions, in a loop", sets_of_one(true)),
+        plan("a set of two in a loop, 8 conditions on one member each", set_of_two(&alone)),
+        plan("a set of two in a loop, 8 conditions on both members", set_of_two(&together)),
     ]
 }
 

@@ -1,6 +1,6 @@
 //! The slowest sets that `slow-sets` found: in an hour by steps, of yardsticks with and without parts of the search, and in 51 minutes by
 //! the time of find, the last 26 of them on the search as it is.
-use super::{Shape, SET};
+use crate::plans::{lawful, Plan};
 use planreader_tests::generate::sets::{Condition, Root, SetDraft, SetPlan, Span};
 
 /// Begins, ends, and how far an end is from its begin at least and at most.
@@ -15,6 +15,9 @@ struct Slow {
 }
 
 const ALL: u64 = u64::MAX;
+
+/// The numbers of the sets that the gate counts: one of the slowest, and those that take some milliseconds.
+const GATE: [usize; 5] = [1, 6, 7, 8, 11];
 
 const SLOWEST: [Slow; 12] = [
     Slow {
@@ -300,16 +303,19 @@ const SLOWEST: [Slow; 12] = [
     },
 ];
 
-pub fn shapes() -> Vec<Shape> {
-    SLOWEST.iter().enumerate().map(|(number, slow)| shape(number + 1, slow)).collect()
+/// The sets that the gate counts, and the others, which take it too long.
+pub fn plans() -> (Vec<Plan>, Vec<Plan>) {
+    let numbered = SLOWEST.iter().enumerate().map(|(i, slow)| (i + 1, plan(i + 1, slow)));
+    let (gate, long): (Vec<_>, Vec<_>) = numbered.partition(|(number, _)| GATE.contains(number));
+    let without_number = |plans: Vec<(usize, Plan)>| plans.into_iter().map(|(_, plan)| plan).collect();
+    (without_number(gate), without_number(long))
 }
 
-fn shape(number: usize, slow: &Slow) -> Shape {
+fn plan(number: usize, slow: &Slow) -> Plan {
     let span = |&(begins, ends, least, most): &(u64, u64, usize, usize)| Span { begins, ends, least, most };
     let members = slow.members.iter().map(|spans| spans.iter().map(span).collect()).collect();
     let set = SetDraft { members, conditions: slow.conditions.to_vec() };
     let plan = SetPlan { last: 63, sets: vec![set], moments: slow.moments.to_vec(), root: Root::Set };
     let case = plan.case();
-    let name = format!("slow set {number}");
-    Shape { name, job: case.job, starts: case.starts, most_ms: SET, ..Shape::default() }
+    lawful(format!("slow set {number}"), case.job, case.starts)
 }

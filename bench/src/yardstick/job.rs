@@ -1,5 +1,5 @@
 //! A well-formed job, taken apart; nothing is checked.
-use planreader_tests::words::{field, form, kind};
+use crate::masks::{field, form, kind};
 
 pub struct Job {
     /// n

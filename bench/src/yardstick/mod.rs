@@ -6,15 +6,25 @@ pub mod rows;
 pub mod sets;
 pub mod world;
 
+use planreader_tests::checker::answer::Answer;
 use reading::Writer;
 use sets::Sets;
+
+/// The number of the refusal of a plan whose root has no reading.
+const NO_READING: usize = 13;
 
 pub struct Found {
     /// Of the root from 0 to n; none where it has none.
     pub reading: Option<Vec<u32>>,
     pub count: usize,
-    /// How many begins of members were tried in task sets.
-    pub steps: u64,
+}
+
+impl Found {
+    /// What find answers, but for the length of its reading.
+    pub fn answer(&self) -> Answer {
+        let number = if self.reading.is_some() { 0 } else { NO_READING };
+        Answer { number, position: 0, length: 0, count: self.count }
+    }
 }
 
 pub fn find(job: &[u32], starts: &[u32]) -> Found {
@@ -27,5 +37,5 @@ pub fn find(job: &[u32], starts: &[u32]) -> Found {
         writer.write(job.root(), 0, job.last);
         writer.reading
     });
-    Found { reading, count: table.count() as usize, steps: sets.steps }
+    Found { reading, count: table.count() as usize }
 }

@@ -4,7 +4,9 @@ use crate::yardstick::job::Job;
 use crate::yardstick::rows::{later_of, quiet_window, window, Table};
 use crate::yardstick::sets::{Set, Sets};
 use crate::yardstick::world::World;
-use planreader_tests::words;
+
+/// The kind of a word of a reading.
+const READING: usize = 11;
 
 pub struct Writer<'a> {
     pub job: &'a Job,
@@ -16,7 +18,7 @@ pub struct Writer<'a> {
 
 impl Writer<'_> {
     pub fn write(&mut self, number: usize, b: usize, e: usize) {
-        self.reading.push(words::reading(number, b, e));
+        self.reading.push((READING << 28 | number << 12 | b << 6 | e) as u32);
         let node = &self.job.nodes[number];
         match node.form {
             0 | 1 => {}

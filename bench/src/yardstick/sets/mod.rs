@@ -35,15 +35,14 @@ impl<'a> Set<'a> {
     }
 }
 
-/// The tables of the set that is worked on, kept so that only what a set uses is filled anew, and the steps of all sets so far.
+/// The tables of the set that is worked on, kept so that only what a set uses is filled anew.
 pub struct Sets {
     tables: Box<Tables>,
-    pub steps: u64,
 }
 
 impl Default for Sets {
     fn default() -> Sets {
-        Sets { tables: Box::new(Tables::new()), steps: 0 }
+        Sets { tables: Box::new(Tables::new()) }
     }
 }
 
@@ -72,7 +71,6 @@ impl Sets {
     fn row(&mut self, set: &Set, lo: usize, goal: u64) -> (u64, [usize; MOST]) {
         let mut search = Search::new(&self.tables, set.members, lo);
         search.row(goal);
-        self.steps += search.steps;
         (search.found, search.begins)
     }
 }

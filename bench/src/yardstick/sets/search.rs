@@ -12,8 +12,6 @@ pub struct Search<'a> {
     pub found: u64,
     /// The begins for the newest of them.
     pub begins: [usize; MOST],
-    /// How many begins were tried.
-    pub steps: u64,
 }
 
 /// Some members are placed at begins; the others have candidate begins. Each has the ends that the placed ones leave it.
@@ -32,7 +30,7 @@ struct State {
 
 impl<'a> Search<'a> {
     pub fn new(tables: &'a Tables, members: usize, lo: usize) -> Search<'a> {
-        Search { tables, members, lo, found: 0, begins: [0; MOST], steps: 0 }
+        Search { tables, members, lo, found: 0, begins: [0; MOST] }
     }
 
     /// Finds the ends of `goal`: some member begins at lo, and some member ends last.
@@ -81,7 +79,6 @@ impl<'a> Search<'a> {
         let mut next = State { left: state.left & !(1 << i), ..*state };
         for x in each(begins) {
             if self.tables.own[i][x] & state.ends[i] & must != 0 {
-                self.steps += 1;
                 if self.put(state, i, x, &mut next) {
                     self.search(&next);
                 }
