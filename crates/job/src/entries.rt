@@ -3,11 +3,11 @@ ghost use mathlib.Core.Path.{_≡_};
 ghost use Prim.Native.Nat.{_<_};
 ghost use lib.ListN.{length};
 ghost use Rattle.job.specs.Code.Entries.{entryOf, hasEntry, Stored};
-use crate::GROUP_MEMBER;
-use crate::KNOWN;
-use crate::LAW;
 use words::ACTIONS;
 use words::FLUENTS;
+use words::GROUP_MEMBER;
+use words::KNOWN;
+use words::LAW;
 
 // The set is kept in rows of 64 numbers, one bit each.
 const ROW: usize = 64;

@@ -15,47 +15,15 @@ pub mod positions;
 pub mod rules;
 pub mod scan;
 
-// The kinds of a job's words (a `match` takes constants of its own crate only), and what else may stand before a word.
-pub const HEAD: u32 = words::HEAD;
-
-pub const KNOWN: u32 = words::KNOWN;
-
-pub const ACTION: u32 = words::ACTION;
-
-pub const LAW: u32 = words::LAW;
-
-pub const FORMULA: u32 = words::FORMULA;
-
-pub const NODE: u32 = words::NODE;
-
-pub const MEMBER: u32 = words::MEMBER;
-
-pub const CONDITION: u32 = words::CONDITION;
-
-pub const SHIFT_WINDOW: u32 = words::SHIFT_WINDOW;
-
-pub const GROUP: u32 = words::GROUP;
-
-pub const GROUP_MEMBER: u32 = words::GROUP_MEMBER;
-
+// What may stand before a word besides a kind of words: the node of a task set, or nothing.
 pub const SET_NODE: u32 = 16;
 
 pub const NOTHING: u32 = 17;
 
-// The limits of a job: its words, what its head may say, what it declares, and what a task set has.
+// The most words that a job may have, and the greatest last moment.
 pub const MAX_WORDS: usize = 2048;
 
-pub const MAX_ACTIONS: usize = 64;
-
 pub const LAST_MOMENT: usize = 63;
-
-pub const MAX_FORMULAS: usize = 64;
-
-pub const MAX_NODES: usize = 64;
-
-pub const MAX_MEMBERS: usize = 4;
-
-pub const MAX_CONDITIONS: usize = 8;
 
 // Of each kind that is indexed (actions, formulas, nodes) there are at most as many.
 pub const MAX_PLACES: usize = 64;

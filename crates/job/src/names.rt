@@ -5,22 +5,14 @@ ghost use Rattle.words.specs.Tests.{indicator};
 ghost use Rattle.words.specs.Scan.{count};
 ghost use Rattle.job.specs.Children.{nodeChildren, wordChildren};
 ghost use Rattle.job.specs.Code.Names.{Named};
-use crate::MEMBER;
-use crate::NODE;
-use words::forms;
-
-// The forms of nodes that name children.
-const SEQUENCE: u32 = forms::SEQUENCE;
-
-const CHOICE: u32 = forms::CHOICE;
-
-const IF: u32 = forms::IF;
-
-const WHILE: u32 = forms::WHILE;
-
-const START_WINDOW: u32 = forms::START_WINDOW;
-
-const END_WINDOW: u32 = forms::END_WINDOW;
+use words::MEMBER;
+use words::NODE;
+use words::forms::CHOICE;
+use words::forms::END_WINDOW;
+use words::forms::IF;
+use words::forms::SEQUENCE;
+use words::forms::START_WINDOW;
+use words::forms::WHILE;
 
 // The nodes that are named, and those that are named more than once.
 pub struct Names {

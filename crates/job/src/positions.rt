@@ -4,12 +4,12 @@ ghost use Prim.Native.Nat.{_≤_};
 ghost use lib.ListN.{length};
 ghost use Rattle.job.specs.Before.{before, countOfKind};
 ghost use Rattle.job.specs.Code.Index.{placesUpto, Indexable, indexUpto};
-use crate::ACTION;
-use crate::FORMULA;
 use crate::Index;
 use crate::MAX_PLACES;
-use crate::NODE;
 use crate::Places;
+use words::ACTION;
+use words::FORMULA;
+use words::NODE;
 
 // The positions of the words of kind `k` among the first `n`.
 fn place_words(job: &[u32], k: u32, n: usize) -> Places

@@ -8,28 +8,28 @@ ghost use Rattle.words.specs.Tests.{indicator};
 ghost use Rattle.bitset.specs.Code.Members.{has};
 ghost use Rattle.job.specs.Follow.{mayFollow};
 ghost use Rattle.job.specs.Rules.{wordRefusalOf, limited, headRefusal, knownRefusal, actionRefusal, lawRefusal, formulaShape, formulaRange, formulaRefusal, nodeShape, nodeRange, nodeRefusal, memberRefusal, conditionShape, conditionRange, conditionRefusal, shiftWindowRefusal, groupRefusal, groupMemberRefusal};
-use crate::ACTION;
-use crate::CONDITION;
-use crate::FORMULA;
-use crate::GROUP;
-use crate::GROUP_MEMBER;
-use crate::HEAD;
-use crate::KNOWN;
 use crate::LAST_MOMENT;
-use crate::LAW;
-use crate::MAX_ACTIONS;
-use crate::MAX_CONDITIONS;
-use crate::MAX_FORMULAS;
-use crate::MAX_MEMBERS;
-use crate::MAX_NODES;
-use crate::MEMBER;
-use crate::NODE;
 use crate::NOTHING;
 use crate::SET_NODE;
-use crate::SHIFT_WINDOW;
 use answers::JOB_SHAPE;
 use answers::JOB_TWICE;
 use answers::JOB_VALUE;
+use words::ACTION;
+use words::ACTIONS;
+use words::CONDITION;
+use words::CONDITIONS;
+use words::FORMULA;
+use words::FORMULAS;
+use words::GROUP;
+use words::GROUP_MEMBER;
+use words::HEAD;
+use words::KNOWN;
+use words::LAW;
+use words::MEMBER;
+use words::MEMBERS;
+use words::NODE;
+use words::NODES;
+use words::SHIFT_WINDOW;
 use words::forms;
 
 pub fn word_refusal_of(shape: bool, range: bool, fresh: bool) -> u32
@@ -93,7 +93,7 @@ pub fn head(w: u32) -> u32
     let actions = words::actions_of(w);
     let range = (1 <= fluents)
         & (fluents <= most)
-        & ((1 <= actions) & (actions <= MAX_ACTIONS))
+        & ((1 <= actions) & (actions <= ACTIONS))
         & (words::last_of(w) <= LAST_MOMENT);
     word_refusal_of(shape, range, true)
 }
@@ -160,7 +160,7 @@ pub fn formula(head: u32, formulas: usize, w: u32) -> u32
     ensures { λ r. ⌜ r ≡ formulaRefusal head formulas w ⌝ }
 {
     limited_to(
-        MAX_FORMULAS,
+        FORMULAS,
         formulas,
         formula_shape(head, w),
         formula_range(head, formulas, w),
@@ -204,7 +204,7 @@ pub fn node(actions: usize, formulas: usize, nodes: usize, w: u32) -> u32
     ensures { λ r. ⌜ r ≡ nodeRefusal actions formulas nodes w ⌝ }
 {
     limited_to(
-        MAX_NODES,
+        NODES,
         nodes,
         node_shape(w),
         node_range(actions, formulas, nodes, w),
@@ -215,7 +215,7 @@ pub fn member(nodes: usize, members: usize, w: u32) -> u32
     ensures { λ r. ⌜ r ≡ memberRefusal nodes members w ⌝ }
 {
     let range = words::member_node(w) + 1 < nodes;
-    limited_to(MAX_MEMBERS, members, words::member_spare(w), range)
+    limited_to(MEMBERS, members, words::member_spare(w), range)
 }
 
 fn condition_shape(w: u32) -> bool
@@ -247,7 +247,7 @@ pub fn condition(formulas: usize, members: usize, conditions: usize, w: u32) -> 
     ensures { λ r. ⌜ r ≡ conditionRefusal formulas members conditions w ⌝ }
 {
     limited_to(
-        MAX_CONDITIONS,
+        CONDITIONS,
         conditions,
         condition_shape(w),
         condition_range(formulas, members, w),

@@ -11,19 +11,8 @@ ghost use Rattle.job.specs.Follow.{predecessor};
 ghost use Rattle.job.specs.Refusal.{refusalOf};
 ghost use Rattle.job.specs.Code.Entries.{Listed};
 ghost use Rattle.job.specs.Code.State.{Tied};
-use crate::ACTION;
-use crate::CONDITION;
-use crate::FORMULA;
-use crate::GROUP;
-use crate::GROUP_MEMBER;
-use crate::HEAD;
-use crate::KNOWN;
-use crate::LAW;
-use crate::MEMBER;
-use crate::NODE;
 use crate::NOTHING;
 use crate::SET_NODE;
-use crate::SHIFT_WINDOW;
 use crate::Scanned;
 use crate::State;
 use crate::entries;
@@ -32,6 +21,17 @@ use crate::names;
 use crate::names::Names;
 use crate::rules;
 use answers::JOB_SHAPE;
+use words::ACTION;
+use words::CONDITION;
+use words::FORMULA;
+use words::GROUP;
+use words::GROUP_MEMBER;
+use words::HEAD;
+use words::KNOWN;
+use words::LAW;
+use words::MEMBER;
+use words::NODE;
+use words::SHIFT_WINDOW;
 
 // What stands directly before position `i`.
 fn predecessor(job: &[u32], i: usize) -> u32
