@@ -16,7 +16,7 @@ use Rattle.model.specs.Code.Forms.{NamedOnce}
 use Rattle.model.proofs.Forms.{form-number}
 use Rattle.reading.specs.Code.Forms.{NodeReadable}
 use Rattle.lengths.proofs.Words.{lower}
-use Rattle.lengths.proofs.Length.{length-le}
+use Rattle.lengths.proofs.Length.{words-4032}
 use Rattle.finder.specs.Find.{ReadingsBounded}
 
 pub formed-job : (job starts : List ℕ) → WellFormed job → (p : ℕ) → p < nodeCount job → NodeReadable (procedureOf job) (planTrajectory job starts) p
@@ -44,4 +44,4 @@ unfolding procedureOf
 readings-bounded job starts p b e ws ok l h r =
     let formed = well-formed job ok in
     let soon : lastMoment job < 64 = omega (arith, formed .few-moments) in
-    length-le (lower (formed-job job starts formed)) (once-job job ok) (formed .few-nodes) soon l h r
+    words-4032 (lower (formed-job job starts formed)) (once-job job ok) (formed .few-nodes) soon l h r

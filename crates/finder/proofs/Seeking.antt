@@ -24,6 +24,7 @@ use Rattle.reading.proofs.Transfer.{transfer}
 use Rattle.reading.proofs.Agreement.{extends, agrees-back, formed-there, found-same, counted-same}
 use Rattle.model.proofs.Named.{named-there}
 use Rattle.extract.specs.Code.Contract.{Emittable, Emitted}
+use Rattle.extract.proofs.Whole.{emittable}
 use Rattle.finder.specs.Find.{RootReading, Triples, Searched, unread, read}
 use Rattle.finder.proofs.Job.{formed-job, once-job}
 
@@ -66,13 +67,7 @@ module _ (job starts : List ℕ) (w : Arrays) (ok : jobRefusal job .number ≡ 0
     pub emit-ready : {started size : ℕ} → AllStarts (startIn (w .starts)) started → endIn table (w .count - 1) 0 (w .last) ≡ true → 4096 ≤ size
         → Emittable (procedureIn job w) (trajectoryIn w) started (length job) (w .places) table size
     emit-ready mask h l =
-        record {
-          prepared = record { ready = readable; found = t .table; mask = mask };
-          once = named-there (c .agrees) (once-job job ok);
-          some = some-node;
-          found = record { yes = h };
-          room = omega arith;
-        }
+        emittable (record { ready = readable; found = t .table; mask = mask }) (named-there (c .agrees) (once-job job ok)) some-node (record { yes = h }) (omega arith)
 
     -- what it wrote is a reading of the root
     pub written-reading : {before after : List ℕ} {l : ℕ} → Emitted (procedureIn job w) (trajectoryIn w) before after l → Searched job starts before (Accepted l r) after

@@ -26,7 +26,7 @@ unfolding count
 below-times q [] h l = absurd (omega arith)
 below-times {n} q (x ∷ xs) h l = by-cases (ℕ-discrete q x) (λ e. rw e (h .0)) (λ ne. below-times q xs (h .1) (rw (ne-eqb q x ne, zero-add) at l))
 
-times-at : (xs : List ℕ) (i : ℕ) → i < length xs → 0 < count (getD xs i 0) xs
+pub times-at : (xs : List ℕ) (i : ℕ) → i < length xs → 0 < count (getD xs i 0) xs
 unfolding count
 times-at [] i l = absurd (omega arith)
 times-at (x ∷ xs) zero l = rw (eq-eqb x x refl) (omega arith)
@@ -44,7 +44,7 @@ unfolding sumBelow
 sum-zero zero h = refl
 sum-zero (suc n) h = omega (arith, sum-zero n (λ i l. h i (omega arith)), h n (omega arith))
 
--- of terms that are each at most another; of more terms
+-- terms that are each at most another; more terms
 pub sum-each : {f g : ℕ → ℕ} (n : ℕ) → ((i : ℕ) → i < n → f i ≤ g i) → sumBelow f n ≤ sumBelow g n
 unfolding sumBelow
 sum-each zero h = zero-le
@@ -54,6 +54,19 @@ pub sum-more : (f : ℕ → ℕ) (m n : ℕ) → m ≤ n → sumBelow f m ≤ su
 unfolding sumBelow
 sum-more f m zero h = let none : m ≡ 0 = omega arith in rw none (omega arith)
 sum-more f m (suc n) h = by-cases (ℕ-discrete m (suc n)) (λ e. rw e (omega arith)) (λ ne. omega (arith, sum-more f m n (omega arith)))
+
+-- two terms are at most the sum
+pub sum-one : (f : ℕ → ℕ) (n i : ℕ) → i < n → f i ≤ sumBelow f n
+unfolding sumBelow
+sum-one f zero i l = absurd (omega arith)
+sum-one f (suc n) i l =
+    by-cases (ℕ-discrete i n) (λ e. omega (arith, ap f e)) (λ ne. omega (arith, sum-one f n i (omega arith)))
+
+pub sum-two : (f : ℕ → ℕ) (n i j : ℕ) → i < j → j < n → f i + f j ≤ sumBelow f n
+unfolding sumBelow
+sum-two f zero i j l k = absurd (omega arith)
+sum-two f (suc n) i j l k =
+    by-cases (ℕ-discrete j n) (λ e. omega (arith, ap f e, sum-one f n i (omega arith))) (λ ne. omega (arith, sum-two f n i j l (omega arith)))
 
 -- only the term at x counts
 sum-single : (f : ℕ → ℕ) (x n : ℕ) → x < n → sumBelow (λ q. indicator (eqb q x) * f q) n ≡ f x

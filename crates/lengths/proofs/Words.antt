@@ -17,7 +17,7 @@ use Rattle.reading.specs.Reading.{Mode, whole, passes, Reading, act, test, sequ
 use Rattle.reading.proofs.Step.{onward}
 use Rattle.model.proofs.Forms.{at-below, below-le}
 use Rattle.lengths.proofs.Sums.{total, total-mul, joined-le}
-use Rattle.lengths.proofs.Tree.{Lower, nodes, nodes-is}
+use Rattle.lengths.proofs.Tree.{Lower, branch, branch-is}
 
 -- a procedure whose nodes are formed has children with lower numbers
 pub lower : {P : Procedure} {T : Trajectory} → ((p : ℕ) → p < P .count → NodeReadable P T p) → Lower P
@@ -43,6 +43,10 @@ share v d₁ d₂ d i j e l₁ l₂ = rw (← e) (omega arith)
 longer : {d d′ : ℕ} → d ≤ d′ → max 1 d ≤ max 1 d′
 longer h = omega arith
 
+-- how many nodes there are from p down
+abbrev pub nodes : Procedure → ℕ → ℕ
+nodes P p = branch P (λ q. 1) p
+
 -- the bound on a node's words, and on those of a loop's passes
 abbrev pub AtMost : Procedure → Mode → ℕ → ℕ → ℕ → List ℕ → Type 0
 AtMost P whole p b e ws = p < P .count → length ws ≤ nodes P p * max 1 (e - b)
@@ -50,7 +54,7 @@ AtMost P passes p b e ws = fieldY P p < P .count → length ws ≤ nodes P (fiel
 
 module _ {P : Procedure} (low : Lower P) where
   nodes-as : {p : ℕ} (k : Form) → formAt P p ≡ k → p < P .count → (nodes P p ≡ 1 + total (nodes P) (childrenAs P k p)) × Below (P .count) (childrenAs P k p)
-  nodes-as {p} k f l = rw (← f) (nodes-is low p l, below-le (children P p) (omega arith) (low .at p l))
+  nodes-as {p} k f l = rw (← f) (branch-is low (λ q. 1) p l, below-le (children P p) (omega arith) (low .at p l))
 
   pub words-le : {T : Trajectory} {o : Mode} {p b e : ℕ} {ws : List ℕ} → Reading P T o p b e ws → AtMost P o p b e ws
   unfolding total

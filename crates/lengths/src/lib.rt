@@ -1,1 +1,1 @@
-// How long a reading can be: laws.
+// How long a reading can be: definitions and laws.

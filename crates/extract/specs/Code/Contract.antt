@@ -12,6 +12,7 @@ use Rattle.model.specs.declared.Triple.{Triple}
 use Rattle.reading.specs.declared.pauses.Timeline.{Timeline}
 use Rattle.reading.specs.Reading.{whole, Reading}
 use Rattle.model.specs.Code.Forms.{NamedOnce}
+use Rattle.lengths.specs.Code.Bound.{lengthBound}
 use Rattle.extract.specs.Code.Parts.{Prepared, Unseen, procedureBy, trajectoryBy}
 
 -- there is room from `at` on for every list of words that R allows
@@ -54,12 +55,13 @@ pub record Emittable (P : Procedure) (T : Trajectory) (started job : ℕ) (place
   pub once : NamedOnce P
   pub some : 0 < P .count
   pub found : InTable table (P .count - 1) 0 (T .last)
-  pub room : 4032 ≤ size
+  pub room : lengthBound P (T .last) ≤ size
 
 -- what it promises: a reading's words at the buffer's front, as many as it returns, and the rest of the buffer as it was
 pub record Emitted (P : Procedure) (T : Trajectory) (before after : List ℕ) (count : ℕ) : Type 0 where
   pub words : List ℕ
   pub reading : Reading P T whole (P .count - 1) 0 (T .last) words
   pub counted : count ≡ length words
+  pub bounded : count ≤ lengthBound P (T .last)
   pub few : count ≤ 4032
   pub buffer : after ≡ words ++ drop count before
