@@ -21,8 +21,8 @@
  * again when it returns, and need not be cleared before it is lent a second time.
  *
  * Time, measured, not proved: find takes about 0.1 ms on an ordinary door, and about 0.15 s on the slowest single task set that a search of
- * an hour found. No job that the tests count takes more than 0.25 s on the machine measured; they fail if one takes a quarter more
- * instructions. check, fill and the trial calls take less than a ms. A call can't be stopped on its way; a host that must stay responsive
+ * an hour found. No job that the tests count takes more than 0.25 s on the machine measured; they fail if one takes clearly more
+ * instructions than when their limits were set. check, fill and the trial calls take about a ms or less. A call can't be stopped on its way; a host that must stay responsive
  * calls find on a thread of its own.
  *
  * Each call returns one 64-bit number: refusal number, 0 for success, in bits 63..56; position, counted from 0 within the list

@@ -15,12 +15,13 @@ pub fn are_held(part: Part) -> bool {
     let wrong: Vec<String> = figures.iter().filter(|figure| !figure.is_right()).map(Figure::name).collect();
     wrong.iter().for_each(|name| println!("wrong answer: {name}  FAILED"));
     let taken = match counts(part) {
-        Ok(counts) => figures.iter().map(Figure::name).zip(counts).collect(),
+        Ok(counts) => figures.iter().map(Figure::name).zip(counts).collect::<HashMap<_, _>>(),
         Err(told) => {
             println!("{told}");
             return false;
         }
     };
+    assert_eq!(taken.len(), figures.len(), "each figure has a name of its own");
     println!("{:>12} {:>12}", "instructions", "limit");
     let held: Vec<bool> = figures.iter().map(|figure| is_held(figure, &taken)).collect();
     wrong.is_empty() && !held.contains(&false)

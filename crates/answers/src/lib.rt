@@ -11,7 +11,7 @@ pub const JOB_SHAPE: u32 = 2;
 
 pub const JOB_VALUE: u32 = 3;
 
-pub const JOB_TWICE: u32 = 4;
+pub const JOB_FLUENT_TWICE: u32 = 4;
 
 pub const JOB_NODES: u32 = 5;
 

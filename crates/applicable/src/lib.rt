@@ -21,7 +21,6 @@ use answers::first_refusal;
 use answers::refuse;
 use answers::row_of;
 use groups::some_full;
-use history::HELD_ROOM;
 use history::finish_of;
 use history::keep_unfinished;
 use history::laws_of;
@@ -103,7 +102,7 @@ fn held_refusal(job: &[u32], plan: Plan, starts: &[u32], u: usize, a: usize) -> 
     ensures { λ r. ⌜ r ≡ heldRefusal (now (job .entry)) (now (starts .entry)) u a ⌝ }
 {
     let durations = plan.durations;
-    let mut held = [0u32; HELD_ROOM];
+    let mut held = [0u32; MOST_STARTS];
     copy_words(starts, 0, &mut held);
     let count = keep_unfinished(&durations, u, &mut held, starts.len());
     if some_busy(job, &durations, &held[..count], u, a) {

@@ -43,8 +43,9 @@ p2 = record {
   number = 0x0d00000000000002;
 }
 
--- P3: Example 3 of 004 with the theory of its Example 1, without its fourth action d, which no start uses. Fluents 0, 1, 2 are f, g, h, all initially false; actions 0, 1, 2 are b (lasts 2, makes h), c (lasts
--- 2, makes g) and a (lasts 3, needs g and h, makes f); b start window 0..0 c, end window 0..0 a. The facts are 004's six states
+-- P3: Example 3 of 004 with the theory of its Example 1, without its fourth action d, which no start uses. Fluents 0, 1, 2 are f, g, h, all
+-- initially false; actions 0, 1, 2 are b (lasts 2, makes h), c (lasts 2, makes g) and a (lasts 3, needs g and h, makes f); b start window 0..0 c,
+-- end window 0..0 a. The facts are 004's six states
 abbrev pub p3 : Case
 p3 = record {
   job = 0x10030305 ∷ 0x20000040 ∷ 0x20000041 ∷ 0x20000042 ∷ 0x30000002 ∷ 0x40000082 ∷ 0x30000042 ∷ 0x40000081

@@ -26,7 +26,7 @@ fn first_begins(begins: [u64; MEMBERS], count: usize, a: u32, z: u32) -> [u32; M
     ensures { λ r. ⌜ ((i : ℕ) → i < count → (a ≤ entryAt r i) × (entryAt r i ≤ z)) × ((i : ℕ) → entryAt r i < 64) × ((i x : ℕ) → i < count → In (entryAt begins i) x → a ≤ x → x ≤ z → In (entryAt begins i) (entryAt r i)) ⌝ }
 {
     let window = bitset::between(a, z);
-    let mut r = [a; 4];
+    let mut r = [a; MEMBERS];
     let mut i = 0;
     while i < count {
         let mask = bitset::inter(begins[i], window);

@@ -63,7 +63,7 @@ pub fn cut(table: &[u64], x: usize, y: usize, b: usize, e: usize, pause: Pause, 
     }
 }
 
-// An end of each of the sets xs and ys, of which e is the greater. There are such.
+// Returns an end of each of the sets xs and ys, of which e is the greater. The caller guarantees that they exist.
 pub fn ends(xs: u64, ys: u64, e: usize) -> Pair
     requires { ⌜ (e < 64) × Max xs ys e ⌝ }
     ensures { λ r. ⌜ EndPair xs ys e (r .first) (r .second) ⌝ }

@@ -18,7 +18,7 @@ use words::ENDS;
 // The number of the refusal that there is no reading, as an answer has it.
 const NO_READING: u64 = answers::NO_READING as u64;
 
-// Of a plan that passes: fills the table, counts, and writes a reading of the root where there is one.
+// Seeks a reading of a plan that passes: fills the table, counts the triples, and writes a reading of the root if there is one.
 fn seek(job: &[u32], starts: &[u32], arrays: Arrays, buffer: &mut [u32]) -> Answer
     requires { ⌜ Seekable (now job) (now starts) arrays (length (now buffer)) ⌝ }
     ensures { λ r. ⌜ Searched (now (job .entry)) (now (starts .entry)) (now (buffer .entry)) r (now (buffer .exit)) ⌝ }
@@ -56,7 +56,7 @@ fn seek(job: &[u32], starts: &[u32], arrays: Arrays, buffer: &mut [u32]) -> Answ
     }
 }
 
-// Of any lists.
+// The find call on any lists: runs every row, then seeks a reading.
 pub fn find_reading(job: &[u32], starts: &[u32], facts: &[u32], buffer: &mut [u32]) -> Answer
     ensures { λ r. ⌜ Outcome (now (job .entry)) (now (starts .entry)) (now (facts .entry)) (now (buffer .entry)) r (now (buffer .exit)) ⌝ }
     ensures { λ r. ⌜ InRange r × (lengthOf r ≤ 4032) ⌝ }

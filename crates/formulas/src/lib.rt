@@ -21,15 +21,17 @@ use words::formula_x;
 use words::formula_y;
 use words::last_of;
 
-// The entries of a row of the tables of 'and' and 'or', one for each value.
+// The tables of 'and' and 'or' have an entry for each two values: how many values there are, and how many entries.
 pub const VALUES: usize = 3;
 
-// The lesser and the greater in the order fails < open < holds.
-pub const AND: [u8; 9] = [0, 0, 0, 0, 1, 1, 0, 1, 2];
+pub const ENTRIES: usize = VALUES * VALUES;
 
-pub const OR: [u8; 9] = [0, 1, 2, 1, 1, 2, 2, 2, 2];
+// 'And' is the lesser and 'or' the greater in the order fails < open < holds.
+pub const AND: [u8; ENTRIES] = [FAILS, FAILS, FAILS, FAILS, OPEN, OPEN, FAILS, OPEN, HOLDS];
 
-fn by_table(table: &[u8; 9], a: u8, b: u8) -> u8
+pub const OR: [u8; ENTRIES] = [FAILS, OPEN, HOLDS, OPEN, OPEN, HOLDS, HOLDS, HOLDS, HOLDS];
+
+fn by_table(table: &[u8; ENTRIES], a: u8, b: u8) -> u8
     requires { ⌜ (a ≤ 2) × (b ≤ 2) ⌝ }
     ensures { λ r. ⌜ r ≡ byTable (now (table .entry)) a b ⌝ }
 {
@@ -48,7 +50,7 @@ fn ago(values: &[u8; FORMULA_VALUES], x: usize, t: usize, k: usize) -> u8
 }
 
 // The value of 'formula `x` has held for `y` moments' at moment `t`: 'and' over the values of `x`, oldest first.
-fn held_for(and: &[u8; 9], values: &[u8; FORMULA_VALUES], x: usize, y: usize, t: usize) -> u8
+fn held_for(and: &[u8; ENTRIES], values: &[u8; FORMULA_VALUES], x: usize, y: usize, t: usize) -> u8
     requires { ⌜ HeldReady (now and) (now values) x t ⌝ }
     ensures { λ r. ⌜ r ≡ heldFor (now (and .entry)) (tabulated (now (values .entry)) x) y t ⌝ }
 {
@@ -63,8 +65,8 @@ fn held_for(and: &[u8; 9], values: &[u8; FORMULA_VALUES], x: usize, y: usize, t:
 
 // The value of the formula word `w` at moment `t`, by the history and the table so far.
 fn form_value(
-    and: &[u8; 9],
-    or: &[u8; 9],
+    and: &[u8; ENTRIES],
+    or: &[u8; ENTRIES],
     head: u32,
     w: u32,
     history: &[u8; STATES],
@@ -90,8 +92,8 @@ fn form_value(
 
 // Fills the column of moment `t`, formula by formula.
 fn fill_moment(
-    and: &[u8; 9],
-    or: &[u8; 9],
+    and: &[u8; ENTRIES],
+    or: &[u8; ENTRIES],
     job: &[u32],
     formulas: &[usize; FORMULAS],
     count: usize,
@@ -114,8 +116,8 @@ fn fill_moment(
 
 // The table of all formulas, by the given tables of 'and' and 'or': entry k * 64 + t has the value of formula k at moment t.
 pub fn formula_values(
-    and: &[u8; 9],
-    or: &[u8; 9],
+    and: &[u8; ENTRIES],
+    or: &[u8; ENTRIES],
     job: &[u32],
     formulas: &[usize; FORMULAS],
     count: usize,
@@ -135,7 +137,7 @@ pub fn formula_values(
     values
 }
 
-// The same by the lesser and the greater.
+// The table of all formulas by the two constant tables.
 pub fn standard_values(
     job: &[u32],
     formulas: &[usize; FORMULAS],

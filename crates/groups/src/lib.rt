@@ -19,7 +19,6 @@ use answers::refuse;
 use bitset::has;
 use bitset::single;
 use bitset::union;
-use history::HELD_ROOM;
 use history::keep_unfinished;
 use words::*;
 
@@ -123,7 +122,7 @@ fn all_empty(members: &[u64; GROUPS]) -> bool
 }
 
 // Keeps of the first `count` starts, which all finish after moment `t`, those that finish after moment `u`, which is not before `t`.
-// At the same moment that is all of them, without a pass. Returns their number.
+// If the moment has not changed, all are kept without a pass. Returns their number.
 fn keep_from(
     durations: &[usize; ACTIONS],
     t: usize,
@@ -156,7 +155,7 @@ pub fn over_limit(
     if all_empty(&members) {
         return none();
     }
-    let mut held = [0u32; HELD_ROOM];
+    let mut held = [0u32; MOST_STARTS];
     let mut count = 0;
     let mut t = 0;
     let mut i = 0;

@@ -16,7 +16,7 @@ use Rattle.words.proofs.Lists.{each-of, each-at, each-map}
 use Rattle.job.specs.Code.WellFormed.{WellFormed}
 use Rattle.job.specs.Parts.{actions, duration}
 use Rattle.history.specs.Actions.{inHand}
-use Rattle.history.specs.Held.{heldAt, beginsAt, startingAt, unfinished, Lasting, Ascending, Timed, HeldList}
+use Rattle.history.specs.Held.{heldAt, beginsAt, startingAt, unfinished, Lasting, Ascending, TimedBy, HeldList}
 use Rattle.history.specs.Code.Tables.{Durations, Named, Walkable}
 use Rattle.history.specs.Code.Held.{unfinishedBy, Filtered, Carried}
 use Rattle.history.specs.Code.Passes.{AfterPass}
@@ -27,7 +27,7 @@ use Rattle.history.proofs.Moments.{state-next}
 pub each-lasts : {job S : List ℕ} → WellFormed job → Named job S → Lasting job S
 each-lasts {job} {S} w n = each-of S (λ i l. w .lasting _ (n .action i l))
 
-pub each-timed : {job durations S : List ℕ} → Durations job durations → Named job S → Timed job durations S
+pub each-timed : {job durations S : List ℕ} → Durations job durations → Named job S → TimedBy job durations S
 each-timed {S = S} d n = each-of S (λ i l. d .entry _ (n .action i l))
 
 -- starts that pass a test name actions of the job as the others do
@@ -54,7 +54,7 @@ module _ {job S : List ℕ} {t : ℕ} {held : List ℕ} {count : ℕ} (h : HeldL
       (filter-apart (inHand job t) (beginsAt (t + 1)) (λ s e. ne-eqb (startMoment s) (t + 1) (λ z. omega (arith, in-hand-true job t s e .0))) S)
 
 -- the list at the next moment: those of the list that do not finish are kept, and the starts that begin then are written behind them
-module _ {job : List ℕ} (durations : List ℕ) {S : List ℕ} {t : ℕ} {held : List ℕ} {count : ℕ} (timed : Timed job durations S) (lasting : Lasting job S)
+module _ {job : List ℕ} (durations : List ℕ) {S : List ℕ} {t : ℕ} {held : List ℕ} {count : ℕ} (timed : TimedBy job durations S) (lasting : Lasting job S)
     (ascends : Ascending S) (h : HeldList job S t held count) {n : ℕ} {kept : List ℕ} (f : Filtered (unfinishedBy durations (t + 1)) count held n kept) where
   same-finish : (s : ℕ) → getD durations (startAction s) 0 ≡ duration job (startAction s) → unfinishedBy durations (t + 1) s ≡ unfinished job (suc t) s
   same-finish s e = rw (add-one t, e)

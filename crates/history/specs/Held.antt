@@ -35,8 +35,8 @@ abbrev pub Ascending : List ℕ → Type 0
 Ascending starts = Pairs (λ s s'. startMoment s ≤ startMoment s') starts
 
 -- a table, by action, has the duration of each start
-abbrev pub Timed : List ℕ → List ℕ → List ℕ → Type 0
-Timed job durations starts = Each (λ s. getD durations (startAction s) 0 ≡ duration job (startAction s)) starts
+abbrev pub TimedBy : List ℕ → List ℕ → List ℕ → Type 0
+TimedBy job durations starts = Each (λ s. getD durations (startAction s) 0 ≡ duration job (startAction s)) starts
 
 -- a list in which the code carries the starts in hand: its first `count` words are exactly the starts in hand at moment t, in their order
 pub record HeldList (job starts : List ℕ) (t : ℕ) (list : List ℕ) (count : ℕ) : Type 0 where

@@ -4,16 +4,12 @@ ghost use mathlib.Core.List.{List};
 ghost use Prim.Native.Nat.{ℕ, _+_, _<_, _≤_};
 ghost use lib.ListN.{length, getD, drop};
 ghost use Rattle.words.specs.Scan.{takeWhile};
-ghost use Rattle.history.specs.Held.{beginsAt, startingAt, Lasting, Ascending, Timed, HeldList};
+ghost use Rattle.history.specs.Held.{beginsAt, startingAt, Lasting, Ascending, TimedBy, HeldList};
 ghost use Rattle.history.specs.Code.Held.{unfinishedBy, Filtered};
 use crate::tables::finish_of;
 use words::ACTIONS;
-use words::MOMENTS;
 use words::copy_words;
 use words::start_moment;
-
-// The room of a list of starts in hand: as many as a plan can have, one for each moment and action.
-pub const HELD_ROOM: usize = MOMENTS * ACTIONS;
 
 // Returns how many starts from position `from` on begin at moment `t`, up to the first that does not.
 fn starting_count(starts: &[u32], from: usize, t: usize) -> usize
@@ -82,7 +78,7 @@ pub(crate) fn hold_next(
     count: usize,
 ) -> usize
     requires { ⌜ ((a : ℕ) → getD (now durations) a 0 < 64) × (t < 64) × (count + length (now starting) ≤ length (now held)) ⌝ }
-    ensures { λ r. ⌜ ((job starts : List ℕ) → Timed job (now (durations .entry)) starts → Lasting job starts → Ascending starts → now (starting .entry) ≡ startingAt starts (t + 1) → HeldList job starts t (now (held .entry)) count → HeldList job starts (t + 1) (now (held .exit)) r) ⌝ }
+    ensures { λ r. ⌜ ((job starts : List ℕ) → TimedBy job (now (durations .entry)) starts → Lasting job starts → Ascending starts → now (starting .entry) ≡ startingAt starts (t + 1) → HeldList job starts t (now (held .entry)) count → HeldList job starts (t + 1) (now (held .exit)) r) ⌝ }
 {
     let kept = keep_unfinished(durations, t + 1, held, count);
     copy_words(starting, kept, held);

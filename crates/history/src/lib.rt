@@ -3,7 +3,6 @@ mod carry;
 pub mod states;
 pub mod tables;
 
-pub use carry::HELD_ROOM;
 pub use carry::keep_unfinished;
 pub use states::history;
 pub use tables::durations;

@@ -13,7 +13,6 @@ ghost use Rattle.history.specs.Held.{startingAt, Ascending};
 ghost use Rattle.history.specs.Code.Held.{Carried, Steppable};
 ghost use Rattle.history.specs.Code.Stores.{Overlaid, Mapped};
 ghost use Rattle.history.specs.Code.Passes.{changed, changedBy, AfterPass};
-use crate::carry::HELD_ROOM;
 use crate::carry::hold_first;
 use crate::carry::hold_next;
 use crate::carry::starting_at;
@@ -23,6 +22,7 @@ use words::ACTIONS;
 use words::EFFECTS;
 use words::FLUENTS;
 use words::KNOWN;
+use words::MOST_STARTS;
 use words::OPEN;
 use words::STATES;
 use words::fluent_of;
@@ -69,7 +69,7 @@ fn changed(hiding: bool, value: u8, old: u8) -> u8
     }
 }
 
-// The same for the first `n` fluents and action `a`.
+// Applies action `a` to the first `n` fluents of the state: each changes as `changed` says.
 fn apply(effects: &[u8; EFFECTS], a: usize, n: usize, hiding: bool, state: &mut [u8; FLUENTS])
     requires { ⌜ (a < 64) × (n ≤ 256) × (n ≤ length (now state)) ⌝ }
     ensures { λ _. ⌜ Mapped n (changedBy (now (effects .entry)) a hiding) (now (state .entry)) (now (state .exit)) ⌝ }
@@ -119,9 +119,9 @@ fn apply_starts(
     }
 }
 
-// From moment `t` to the next, at which the starts in `starting` begin. Of those in hand, the first `count` words of `held`, the ones that
-// finish then give their effects and leave the list, and the others hide. Those that begin join the list and do not hide yet. How many are
-// in hand then.
+// Carries the walk from moment `t` to the next, at which the starts in `starting` begin. Of the starts in hand, the first `count` words of
+// `held`, those that finish then give their effects and leave the list, and the others hide. Those that begin join the list and do not hide
+// yet. Returns the number of starts in hand at the next moment.
 fn step(
     job: &[u32],
     durations: &[usize; ACTIONS],
@@ -156,7 +156,7 @@ pub fn history(
     let mut table = [OPEN; STATES];
     let mut state = initial_state(job);
     store_row(&state, 0, &mut table);
-    let mut held = [0u32; HELD_ROOM];
+    let mut held = [0u32; MOST_STARTS];
     let mut count = hold_first(starts, &mut held);
     let mut next = count;
     let mut t = 0;

@@ -1,16 +1,16 @@
 -- The children that a word names, by the tests of a form that the code makes. Assumes nothing.
-use mathlib.Core.Bool.{Bool, true, false, cond, _&&_, _||_, and-true, and-assoc}
+use mathlib.Core.Bool.{Bool, true, cond, _&&_, _||_, and-true, and-assoc}
 use mathlib.Core.List.{[], _∷_}
 use mathlib.Core.Path.{_≡_, refl, sym}
 use Prim.Native.Nat.{ℕ, zero, suc, _+_}
 use native.Mathlib.Omega.{arith}
-use borrow.Author.Tests.{eqb-true, ne-eqb, le-leb, lt-leb}
+use borrow.Author.Tests.{ne-eqb, le-leb, lt-leb}
 use lib.Dec.{eqb, ltb}
-use Rattle.words.specs.Tests.{implies, indicator, within}
-use Rattle.words.specs.Fields.{kind, form, nodeX, nodeY, nodeM, memberNode}
-use Rattle.words.specs.Scan.{count, every}
+use Rattle.words.specs.Tests.{implies, within}
+use Rattle.words.specs.Fields.{form, nodeX, nodeY, nodeM}
+use Rattle.words.specs.Scan.{every}
 use Rattle.model.specs.Forms.{formNumber, namedByForm}
-use Rattle.job.specs.Children.{nodeChildren, wordChildren}
+use Rattle.job.specs.Children.{nodeChildren}
 
 -- the forms that name X, Y, M
 abbrev namesX : ℕ → Bool

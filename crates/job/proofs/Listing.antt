@@ -25,7 +25,7 @@ use Rattle.bitset.proofs.In.{empty-entry}
 use Rattle.job.specs.Rules.{sameFluent}
 use Rattle.job.specs.Parts.{listsIn}
 use Rattle.job.specs.Before.{before, since}
-use Rattle.job.specs.Follow.{setNode, predecessor, mayFollow}
+use Rattle.job.specs.Follow.{predecessor, mayFollow}
 use Rattle.job.specs.Code.Entries.{lists, entryOf, sameEntry, hasEntry, Stored, Listed}
 use Rattle.job.proofs.Follow.{word-before}
 

@@ -1,5 +1,5 @@
 -- Laws of the two sets of nodes that are named: one name more, and which nodes are named exactly once. Assumes nothing.
-use mathlib.Core.Bool.{Bool, true, false, not, cond, _&&_, _||_, or-true, or-false, and-true, and-false}
+use mathlib.Core.Bool.{Bool, true, false, not, cond, _&&_, _||_, or-true, or-false, and-false}
 use mathlib.Core.List.{List}
 use mathlib.Core.Path.{_≡_, refl, ap, _∙_}
 use Prim.Native.Nat.{ℕ, zero, suc, _+_}
@@ -11,10 +11,10 @@ use Rattle.bitset.specs.Code.Members.{has, IsSetOf}
 use Rattle.job.specs.Before.{named}
 use Rattle.job.specs.Refusal.{nameRefusal}
 use Rattle.job.specs.declared.names.Names.{Names}
-use Rattle.job.specs.Code.Names.{Named}
+use Rattle.job.specs.Code.Names.{NamedTimes}
 
 -- two tellings of how often each node is named
-pub named-same : {n m : ℕ → ℕ} {s : Names} → Named n s → ((v : ℕ) → n v ≡ m v) → Named m s
+pub named-same : {n m : ℕ → ℕ} {s : Names} → NamedTimes n s → ((v : ℕ) → n v ≡ m v) → NamedTimes m s
 named-same h e = record { named = λ v. h .named v ∙ ap (leb 1) (e v); again = λ v. h .again v ∙ ap (leb 2) (e v) }
 
 -- one name more, if t
@@ -34,7 +34,7 @@ exactly-once (suc zero) = refl
 exactly-once (suc (suc n)) = rw (le-leb 1 (suc (suc n)) (omega arith), le-leb 2 (suc (suc n)) (omega arith), ne-eqb (suc (suc n)) 1 (λ z. omega arith))
 
 -- the nodes that are in the first set alone are those that are named exactly once, and the others are refused
-pub once-set : (p : List ℕ) {s : Names} (x : ℕ) → Named (λ v. named v p) s → IsSetOf x (λ v. has (s .named) v && not (has (s .again) v))
+pub once-set : (p : List ℕ) {s : Names} (x : ℕ) → NamedTimes (λ v. named v p) s → IsSetOf x (λ v. has (s .named) v && not (has (s .again) v))
     → IsSetOf x (λ v. eqb (named v p) 1)
 once-set p x h is v = is v ∙ rw (h .named v, h .again v) (exactly-once (named v p))
 

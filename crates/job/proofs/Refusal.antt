@@ -9,16 +9,12 @@ use lib.Dec.{eqb, ltb}
 use lib.ListN.{getD, length}
 use borrow.Author.Tests.{ne-eqb, eq-eqb, ltb-true, eqb-true, not-false}
 use Rattle.words.specs.Tests.{indicator, within}
-use Rattle.words.specs.Fields.{kind, actionNumber, actionsOf, groupNumber, groupAction}
-use Rattle.words.specs.Scan.{any}
+use Rattle.words.specs.Fields.{kind, actionNumber, actionsOf}
 use Rattle.words.proofs.Choices.{both-true}
-use Rattle.words.proofs.Lists.{each-of}
-use Rattle.words.proofs.Scan.{any-agree}
 use Rattle.answers.specs.declared.Refusal.{Refusal}
 use Rattle.answers.specs.Rows.{refusal, row, firstRefusal, firstOf}
 use Rattle.answers.proofs.Rows.{first-none, or-none, or-refused, or-passed, or-assoc, row-none}
-use Rattle.job.specs.Rules.{wordRefusalOf, limited, sameFluent}
-use Rattle.job.specs.Parts.{listsIn}
+use Rattle.job.specs.Rules.{wordRefusalOf, limited}
 use Rattle.job.specs.Before.{before, countOfKind}
 use Rattle.job.specs.Follow.{byKind, predecessor, mayFollow}
 use Rattle.job.specs.Refusal.{rules, wordRefusal, refusalOf, nameRefusal, emptySet, endRefusal, jobRefusal}

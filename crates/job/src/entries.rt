@@ -9,10 +9,13 @@ use words::GROUP_MEMBER;
 use words::KNOWN;
 use words::LAW;
 
-// The set is kept in rows of 64 numbers, one bit each.
+// The numbers are below 1,024: a group's number has four bits and an action's six; two pairs of roles have 256 fluents each. The set is kept
+// in rows of 64 numbers, one bit each.
+const ENTRIES: usize = 1024;
+
 const ROW: usize = 64;
 
-pub const ENTRY_ROWS: usize = 16;
+pub const ENTRY_ROWS: usize = ENTRIES / ROW;
 
 // A law's roles are two pairs: 0 and 1 need a value, 2 and 3 make one.
 const ROLES_OF_PAIR: u32 = 2;

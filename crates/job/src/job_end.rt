@@ -6,7 +6,7 @@ ghost use lib.ListN.{length, getD};
 ghost use Rattle.answers.specs.Rows.{firstOf};
 ghost use Rattle.job.specs.Before.{before, countOfKind, named};
 ghost use Rattle.job.specs.Refusal.{nameRefusal, endRefusal};
-ghost use Rattle.job.specs.Code.Names.{Named};
+ghost use Rattle.job.specs.Code.Names.{NamedTimes};
 ghost use Rattle.job.specs.Code.State.{Tied};
 use crate::State;
 use crate::names::Names;
@@ -26,7 +26,7 @@ fn less_one(n: usize) -> usize
 // Refuses the lowest node below `root` that is not named exactly once.
 fn name_refusal(names: Names, root: usize) -> Refusal
     requires { ⌜ root ≤ 64 ⌝ }
-    ensures { λ r. ⌜ ((p : List ℕ) → Named (λ v. named v p) names → r ≡ firstOf (nameRefusal p) root) ⌝ }
+    ensures { λ r. ⌜ ((p : List ℕ) → NamedTimes (λ v. named v p) names → r ≡ firstOf (nameRefusal p) root) ⌝ }
 {
     let once = bitset::minus(names.named, names.again);
     let mut v = 0;

@@ -7,6 +7,7 @@ use job_end::end_refusal;
 use names::Names;
 use positions::index_words;
 use scan::scan_words;
+use words::MOMENTS;
 
 pub mod entries;
 pub mod job_end;
@@ -23,9 +24,9 @@ pub const NOTHING: u32 = 17;
 // The most words that a job may have, and the greatest last moment.
 pub const MAX_WORDS: usize = 2048;
 
-pub const LAST_MOMENT: usize = 63;
+pub const LAST_MOMENT: usize = MOMENTS - 1;
 
-// Of each kind that is indexed (actions, formulas, nodes) there are at most as many.
+// The most words of a kind that is indexed: actions, formulas or nodes.
 pub const MAX_PLACES: usize = 64;
 
 // How many words of one kind there are, and where each stands.

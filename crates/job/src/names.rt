@@ -4,7 +4,7 @@ ghost use lib.Dec.{eqb};
 ghost use Rattle.words.specs.Tests.{indicator};
 ghost use Rattle.words.specs.Scan.{count};
 ghost use Rattle.job.specs.Children.{nodeChildren, wordChildren};
-ghost use Rattle.job.specs.Code.Names.{Named};
+ghost use Rattle.job.specs.Code.Names.{NamedTimes};
 use words::MEMBER;
 use words::NODE;
 use words::forms::CHOICE;
@@ -23,7 +23,7 @@ pub struct Names {
 // Names node `q` once more.
 fn with_name(names: Names, q: usize) -> Names
     requires { ⌜ q < 64 ⌝ }
-    ensures { λ r. ⌜ ((n : ℕ → ℕ) → Named n names → Named (λ v. n v + indicator (eqb v q)) r) ⌝ }
+    ensures { λ r. ⌜ ((n : ℕ → ℕ) → NamedTimes n names → NamedTimes (λ v. n v + indicator (eqb v q)) r) ⌝ }
 {
     let one = bitset::single(q as u32);
     let again = bitset::union(names.again, bitset::inter(names.named, one));
@@ -33,7 +33,7 @@ fn with_name(names: Names, q: usize) -> Names
 
 // Names once more each child that the node word `w` names.
 fn with_node(names: Names, w: u32) -> Names
-    ensures { λ r. ⌜ ((n : ℕ → ℕ) → Named n names → Named (λ v. n v + count v (nodeChildren w)) r) ⌝ }
+    ensures { λ r. ⌜ ((n : ℕ → ℕ) → NamedTimes n names → NamedTimes (λ v. n v + count v (nodeChildren w)) r) ⌝ }
 {
     let x = words::node_x(w);
     let y = words::node_y(w);
@@ -47,7 +47,7 @@ fn with_node(names: Names, w: u32) -> Names
 
 // Names once more each child that the word `w` names.
 pub fn with_children(names: Names, w: u32) -> Names
-    ensures { λ r. ⌜ ((n : ℕ → ℕ) → Named n names → Named (λ v. n v + count v (wordChildren w)) r) ⌝ }
+    ensures { λ r. ⌜ ((n : ℕ → ℕ) → NamedTimes n names → NamedTimes (λ v. n v + count v (wordChildren w)) r) ⌝ }
 {
     match words::kind_of(w) {
         NODE => with_node(names, w),

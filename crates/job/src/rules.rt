@@ -11,8 +11,8 @@ ghost use Rattle.job.specs.Rules.{wordRefusalOf, limited, headRefusal, k
 use crate::LAST_MOMENT;
 use crate::NOTHING;
 use crate::SET_NODE;
+use answers::JOB_FLUENT_TWICE;
 use answers::JOB_SHAPE;
-use answers::JOB_TWICE;
 use answers::JOB_VALUE;
 use words::ACTION;
 use words::ACTIONS;
@@ -37,7 +37,7 @@ pub fn word_refusal_of(shape: bool, range: bool, fresh: bool) -> u32
 {
     if shape {
         if range {
-            if fresh { 0 } else { JOB_TWICE }
+            if fresh { 0 } else { JOB_FLUENT_TWICE }
         } else {
             JOB_VALUE
         }

@@ -2,7 +2,7 @@
 -- A node below a loop weighs n, for the loop's passes share out its moments; any other node is read once at most. A reading of any other node
 -- has at most 4,032 words too. Assumes nothing.
 use mathlib.Core.Path.{_≡_, refl, ap, ap₂, _∙_}
-use mathlib.Core.Bool.{Bool, true, false, cond, _||_, or-true}
+use mathlib.Core.Bool.{Bool, true, false, _||_, or-true}
 use mathlib.Core.List.{List, [], _∷_}
 use Prim.Native.Nat.{ℕ, zero, suc, _+_, _-_, _*_, _≤_, _<_, max}
 use native.Mathlib.Nat.{le-refl, le-trans, mul-le-mul, mul-le-mul-left}

@@ -33,7 +33,7 @@ pub struct SetCounts {
     pub conditions: usize,
 }
 
-// Of the task set whose node's word stands at `place`.
+// Returns how many members and conditions the task set has whose node's word stands at `place`.
 pub fn set_counts(words: &[u32], place: usize) -> SetCounts
     requires { ⌜ place < length (now words) ⌝ }
     ensures { λ r. ⌜ SetWords (now (words .entry)) place r ⌝ }

@@ -213,7 +213,7 @@ pub fn unplaced(later: &[u64; ROWS], count: usize, a: u32, z: u32, last: usize, 
         from: a,
         last,
         left: bitset::upto(count as u32 - 1),
-        begins: [every; 4],
+        begins: [every; MEMBERS],
         ends,
     }
 }

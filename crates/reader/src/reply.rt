@@ -9,6 +9,7 @@ ghost use Rattle.reader.specs.Reply.{badFile, textRoom, lent, Answered, 
 ghost use Rattle.reader.specs.Code.Buffers.{ReplyRoom};
 use text::files;
 use text::report;
+use words::BUFFER_WORDS;
 
 // The text is at the start of out, and the answer is its length.
 pub fn reply(job: &[u8], plan: &[u8], out: &mut [u8]) -> usize
@@ -45,9 +46,6 @@ fn are_sized(job: usize, plan: usize) -> bool
 
 const FILE_WORDS: usize = files::MAX_BYTES / 4;
 
-// How many words find is lent.
-const LENT_WORDS: usize = 4096;
-
 // Zeros, as values whose length alone is known: a goal does not write them out.
 fn file_words() -> [u32; FILE_WORDS]
     ensures { λ r. ⌜ 8192 ≡ length r ⌝ }
@@ -55,10 +53,10 @@ fn file_words() -> [u32; FILE_WORDS]
     [0; FILE_WORDS]
 }
 
-fn lent_words() -> [u32; LENT_WORDS]
+fn lent_words() -> [u32; BUFFER_WORDS]
     ensures { λ r. ⌜ r ≡ lent ⌝ }
 {
-    [0; LENT_WORDS]
+    [0; BUFFER_WORDS]
 }
 
 // The same for files of a good size, with the room that it needs.

@@ -4,7 +4,6 @@ ghost use mathlib.Core.Bool.{true};
 ghost use mathlib.Core.Path.{_≡_};
 ghost use mathlib.Core.Logic.{_↔_, _⊎_};
 ghost use Prim.Native.Nat.{ℕ, _+_, _*_, _<_, _≤_};
-ghost use lib.ListN.{length};
 ghost use Rattle.bitset.specs.Code.Members.{has, In};
 ghost use Rattle.words.specs.Fields.{fails, holds};
 ghost use Rattle.model.specs.Code.Arrays.{alone, trajectoryAt};
@@ -86,7 +85,7 @@ fn test_row(value: u8, b: usize) -> u64
     0
 }
 
-// 2, sequence.
+// 2, sequence: Y begins where X ends.
 fn sequence_row(last: usize, table: &[u64], x: usize, y: usize, b: usize) -> u64
     requires { ⌜ RowsThrough (now table) x y b last ⌝ }
     ensures { λ r. ⌜ ((e : ℕ) → In r e ↔ InTurn b last (InTable (now (table .entry)) x b) (λ m. InTable (now (table .entry)) y m e)) ⌝ }
@@ -94,7 +93,7 @@ fn sequence_row(last: usize, table: &[u64], x: usize, y: usize, b: usize) -> u64
     bitset::join_rows(table[x * MOMENTS + b], table, y * MOMENTS)
 }
 
-// 3, choice.
+// 3, choice: the ends of either part.
 fn choice_row(table: &[u64], x: usize, y: usize, b: usize) -> u64
     requires { ⌜ TwoRows (now table) x y b ⌝ }
     ensures { λ r. ⌜ ((e : ℕ) → In r e ↔ (InTable (now (table .entry)) x b e ⊎ InTable (now (table .entry)) y b e)) ⌝ }

@@ -12,6 +12,7 @@ use keeping::PAIRS;
 use narrowing::bounds::BOUNDS;
 use narrowing::bounds::FILLED;
 use narrowing::bounds::SOONER;
+use words::MEMBERS;
 use words::MOMENTS;
 use words::forms::BEGIN_AFTER_END;
 use words::forms::HOLDS_BETWEEN;
@@ -50,7 +51,7 @@ fn join_down(base: usize, bounds: &mut [u64; BOUNDS])
     requires { ⌜ (base ≤ 1984) × (length (now bounds) ≡ 2052) ⌝ }
     ensures { λ _. ⌜ Grows (now (bounds .entry)) (now (bounds .exit)) × ((d e y : ℕ) → d ≤ e → e < 64 → In (getD (now (bounds .entry)) (base + e) 0) y → In (getD (now (bounds .exit)) (base + d) 0) y) ⌝ }
 {
-    let mut e = 63;
+    let mut e = MOMENTS - 1;
     while 0 < e {
         let later = bounds[base + e];
         e -= 1;
@@ -64,7 +65,7 @@ fn join_up(base: usize, bounds: &mut [u64; BOUNDS])
     ensures { λ _. ⌜ Grows (now (bounds .entry)) (now (bounds .exit)) × ((d e y : ℕ) → e ≤ d → d < 64 → In (getD (now (bounds .entry)) (base + e) 0) y → In (getD (now (bounds .exit)) (base + d) 0) y) ⌝ }
 {
     let mut e = 0;
-    while e < 63 {
+    while e < MOMENTS - 1 {
         let sooner = bounds[base + e];
         e += 1;
         bounds[base + e] = bitset::union(bounds[base + e], sooner);
@@ -81,13 +82,13 @@ fn fill_pair(ends: &[u64; PAIRS], p: usize, a: u32, z: u32, bounds: &mut [u64; B
     join_up(SOONER + p * MOMENTS, bounds);
 }
 
-// The pairs of members of which some condition ties the end of w to the begin of j, at w * 4 + j.
+// The pairs of members of which some condition ties the end of w to the begin of j, at w * MEMBERS + j.
 fn tied(conds: &[u32]) -> u64 {
     let mut pairs = 0;
     let mut c = 0;
     while c < conds.len() {
         let word = conds[c];
-        let p = words::condition_i(word) * 4 + words::condition_j(word);
+        let p = words::condition_i(word) * MEMBERS + words::condition_j(word);
         match words::form_of(word) {
             BEGIN_AFTER_END => pairs = bitset::union(pairs, bitset::single(p as u32)),
             HOLDS_BETWEEN => pairs = bitset::union(pairs, bitset::single(p as u32)),
@@ -118,7 +119,7 @@ fn fill_members(
         return;
     }
     if w != j {
-        fill_pair(ends, w * 4 + j, a, z, bounds);
+        fill_pair(ends, w * MEMBERS + j, a, z, bounds);
         bounds[FILLED + j] = bitset::union(bounds[FILLED + j], bitset::single(w as u32));
     }
 }

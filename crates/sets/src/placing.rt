@@ -112,8 +112,8 @@ pub fn place(
 {
     if members.len() == 1 {
         return Placement {
-            begins: [b; 4],
-            ends: [e; 4],
+            begins: [b; MEMBERS],
+            ends: [e; MEMBERS],
         };
     }
     place_by_tables(members, conds, values, table, b, e, n)

@@ -19,6 +19,7 @@ use keeping::ROWS;
 use keeping::pair_at;
 use keeping::pair_index;
 use words::FORMULA_VALUES;
+use words::MEMBERS;
 use words::MOMENTS;
 use words::forms::BEGIN_AFTER_BEGIN;
 use words::forms::HOLDS_BEFORE;
@@ -61,9 +62,9 @@ fn cut_for(
     let i = words::condition_i(w);
     let j = ending::ends::partner(form, i, words::condition_j(w));
     match form {
-        BEGIN_AFTER_BEGIN => cut(goes, j * 4 + i, allow, c, a, z),
-        HOLDS_BEFORE => cut(goes, j * 4 + i, allow, c, a, z),
-        _ => cut(ends, i * 4 + j, allow, c, a, z),
+        BEGIN_AFTER_BEGIN => cut(goes, j * MEMBERS + i, allow, c, a, z),
+        HOLDS_BEFORE => cut(goes, j * MEMBERS + i, allow, c, a, z),
+        _ => cut(ends, i * MEMBERS + j, allow, c, a, z),
     }
 }
 
@@ -210,7 +211,7 @@ fn cut_pair(i: usize, j: usize, a: u32, z: u32, ends: &mut [u64; PAIRS], goes: &
     }
 }
 
-// The pairs of members that some condition is on, i and j at i * 4 + j.
+// The pairs of members that some condition is on, i and j at i * MEMBERS + j.
 fn constrained(conds: &[u32]) -> u64 {
     let mut pairs = 0;
     let mut c = 0;
@@ -218,8 +219,8 @@ fn constrained(conds: &[u32]) -> u64 {
         let w = conds[c];
         let i = words::condition_i(w);
         let j = ending::ends::partner(words::form_of(w), i, words::condition_j(w));
-        pairs = bitset::union(pairs, bitset::single((i * 4 + j) as u32));
-        pairs = bitset::union(pairs, bitset::single((j * 4 + i) as u32));
+        pairs = bitset::union(pairs, bitset::single((i * MEMBERS + j) as u32));
+        pairs = bitset::union(pairs, bitset::single((j * MEMBERS + i) as u32));
         c += 1;
     }
     pairs

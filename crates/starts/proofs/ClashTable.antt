@@ -16,7 +16,7 @@ use Rattle.job.specs.Parts.{fluents, actions}
 use Rattle.job.specs.Code.WellFormed.{WellFormed}
 use Rattle.starts.specs.Rows.{opposed, clash}
 use Rattle.starts.specs.Code.Latest.{Told, PairStored, Clashes, ClashesWith, clashesAfter}
-use Rattle.starts.specs.Code.Given.{Paired, Storable, Compared}
+use Rattle.starts.specs.Code.Given.{Paired, PairStorable, Compared}
 use Rattle.starts.proofs.Opposed.{clash-swap, clash-self}
 
 -- two actions are opposed on a fluent where their effects in the table are
@@ -60,7 +60,7 @@ module _ {job : List ℕ} (formed : WellFormed job) {a b v : ℕ} (ha : a < acti
           rw (ex, ey) ev
 
 -- both stores of a pair
-pub pair-stored : {job effects : List ℕ} {a b : ℕ} {table : List ℕ} → Storable job effects a b table → {v : ℕ} → v ≡ indicator (clash job a b)
+pub pair-stored : {job effects : List ℕ} {a b : ℕ} {table : List ℕ} → PairStorable job effects a b table → {v : ℕ} → v ≡ indicator (clash job a b)
     → PairStored job a b table (set (set table (a * 64 + b) v) (b * 64 + a) v)
 pair-stored {job} {a} {b} {table} given {v} ev = record {
   size = length-set first (b * 64 + a) v ∙ length-set table (a * 64 + b) v;

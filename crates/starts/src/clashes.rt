@@ -7,7 +7,7 @@ ghost use Rattle.job.specs.Parts.{actions};
 ghost use Rattle.history.specs.Code.Tables.{Effects};
 ghost use Rattle.starts.specs.Rows.{clash, clashes, numbered};
 ghost use Rattle.starts.specs.Code.Latest.{PairStored, ClashesWith, clashesAfter};
-ghost use Rattle.starts.specs.Code.Given.{Timed, Paired, Storable, Comparable, Compared};
+ghost use Rattle.starts.specs.Code.Given.{Timed, Paired, PairStorable, Comparable, Compared};
 use answers::Refusal;
 use answers::START_CLASHES;
 use answers::none;
@@ -40,7 +40,7 @@ fn store_pair(
     b: usize,
     table: &mut [u8; ACTION_PAIRS],
 )
-    requires { ⌜ Storable (now job) (now effects) a b (now table) ⌝ }
+    requires { ⌜ PairStorable (now job) (now effects) a b (now table) ⌝ }
     ensures { λ _. ⌜ PairStored (now (job .entry)) a b (now (table .entry)) (now (table .exit)) ⌝ }
 {
     let entry = has_clash(job, effects, a, b) as u8;

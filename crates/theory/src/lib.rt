@@ -38,6 +38,7 @@ use shifts::shifts_of;
 use starts::check_needs;
 use starts::check_times;
 use words::ACTIONS;
+use words::BUFFER_WORDS;
 use words::EFFECTS;
 use words::FLUENTS;
 use words::GROUPS;
@@ -223,9 +224,6 @@ pub fn check_plan(job: &[u32], starts: &[u32], facts: &[u32]) -> Answer
     let plan = judge_facts(job, starts, facts);
     answer_of(plan.refusal, 0, 0)
 }
-
-// The words that a lent buffer has at least: more than a reading has, and as many as there can be facts, if the head is not wide.
-pub const BUFFER_WORDS: usize = 4096;
 
 // The first row 12, of fill, find and trial_show: refuses a lent buffer that is too short for any job.
 pub fn buffer_refusal(room: usize) -> Refusal

@@ -10,7 +10,6 @@ ghost use Rattle.theory.specs.Answers.{written};
 ghost use Rattle.moves.specs.Trials.{Start, On, fresh, after};
 ghost use Rattle.moves.specs.Calls.{trialWords, trialIn, beginAnswer, moveAnswer, shownFacts, showAnswer, handedBack};
 ghost use Rattle.trial.specs.Stepped.{trialOf, Sized, Storable};
-use crate::MOST_STARTS;
 use crate::Moved;
 use crate::Trial;
 use answers::Answer;
@@ -22,6 +21,7 @@ use answers::refuse;
 use job::check_job;
 use theory::buffer_refusal;
 use theory::check_job_and_room;
+use words::MOST_STARTS;
 use words::copy_words;
 
 // The words that a trial takes: the moment, the number, and room for the starts.

@@ -30,17 +30,13 @@ use theory::buffer_refusal;
 use theory::check_job_and_room;
 use theory::judge_starts;
 use theory::refused;
-use words::ACTIONS;
-use words::MOMENTS;
+use words::MOST_STARTS;
 use words::insert_word;
 use words::last_of;
 use words::start_moment;
 use words::start_word;
 
 pub mod calls;
-
-// How many starts a trial has room for: one for each moment and action.
-pub const MOST_STARTS: usize = MOMENTS * ACTIONS;
 
 // The moment, the number of starts, and the starts, ascending; the words after them say nothing.
 pub struct Trial {

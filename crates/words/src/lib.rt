@@ -41,7 +41,7 @@ pub const GROUP: u32 = 13;
 
 pub const GROUP_MEMBER: u32 = 14;
 
-// The roles of a law.
+// The roles of a law, all four by name.
 pub const NEEDS_TRUE: u32 = 0;
 
 pub const NEEDS_FALSE: u32 = 1;
@@ -74,12 +74,17 @@ pub const MEMBERS: usize = 4;
 
 pub const CONDITIONS: usize = 8;
 
+// How many starts a plan can have, one for each moment and action, and how many words a lent buffer has at least.
+pub const MOST_STARTS: usize = MOMENTS * ACTIONS;
+
+pub const BUFFER_WORDS: usize = 4096;
+
 // How many fluents a job may have whose head is not wide, and how many words the list of facts may have under either head.
 pub const NARROW_FLUENTS: usize = 64;
 
-pub const NARROW_FACTS: usize = 4096;
+pub const NARROW_FACTS: usize = MOMENTS * NARROW_FLUENTS;
 
-pub const WIDE_FACTS: usize = 16384;
+pub const WIDE_FACTS: usize = MOMENTS * FLUENTS;
 
 // The sizes of the tables by action and fluent, by moment and fluent, by two actions, by formula and moment, and by node and moment.
 pub const EFFECTS: usize = ACTIONS * FLUENTS;

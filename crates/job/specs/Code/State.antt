@@ -6,7 +6,7 @@ use Rattle.job.specs.Before.{countOfKind, since, latest, named}
 use Rattle.words.specs.Scan.{any}
 use Rattle.bitset.specs.Code.Members.{IsSetOf}
 use Rattle.job.specs.Parts.{isGroup}
-use Rattle.job.specs.Code.Names.{Named}
+use Rattle.job.specs.Code.Names.{NamedTimes}
 use Rattle.job.specs.declared.State.{State}
 
 pub record Tied (p : List ℕ) (s : State) : Type 0 where
@@ -17,4 +17,4 @@ pub record Tied (p : List ℕ) (s : State) : Type 0 where
   pub conditions : s .conditions ≡ countOfKind 8 (since 6 p)
   pub node : s .node ≡ latest 6 p
   pub groups : IsSetOf (s .groups) (λ g. any (isGroup g) p)
-  pub names : Named (λ v. named v p) (s .names)
+  pub names : NamedTimes (λ v. named v p) (s .names)

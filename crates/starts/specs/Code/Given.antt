@@ -39,7 +39,7 @@ pub record Paired (job effects : List ℕ) (a b : ℕ) : Type 0 where
   pub second : b < actions job
 
 -- two such actions, and a table of clashes to store them in
-pub record Storable (job effects : List ℕ) (a b : ℕ) (table : List ℕ) : Type 0 where
+pub record PairStorable (job effects : List ℕ) (a b : ℕ) (table : List ℕ) : Type 0 where
   pub two : Paired job effects a b
   pub size : length table ≡ 4096
 
