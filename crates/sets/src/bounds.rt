@@ -46,12 +46,15 @@ fn mark_pair(ends: &[u64; PAIRS], p: usize, a: u32, z: u32, bounds: &mut [u64; B
     }
 }
 
+// The last of the entries of a row, one for each moment.
+const LAST: usize = MOMENTS - 1;
+
 // Adds to each of 64 entries what the entries after it have.
 fn join_down(base: usize, bounds: &mut [u64; BOUNDS])
     requires { ⌜ (base ≤ 1984) × (length (now bounds) ≡ 2052) ⌝ }
     ensures { λ _. ⌜ Grows (now (bounds .entry)) (now (bounds .exit)) × ((d e y : ℕ) → d ≤ e → e < 64 → In (getD (now (bounds .entry)) (base + e) 0) y → In (getD (now (bounds .exit)) (base + d) 0) y) ⌝ }
 {
-    let mut e = MOMENTS - 1;
+    let mut e = LAST;
     while 0 < e {
         let later = bounds[base + e];
         e -= 1;
@@ -65,7 +68,7 @@ fn join_up(base: usize, bounds: &mut [u64; BOUNDS])
     ensures { λ _. ⌜ Grows (now (bounds .entry)) (now (bounds .exit)) × ((d e y : ℕ) → e ≤ d → d < 64 → In (getD (now (bounds .entry)) (base + e) 0) y → In (getD (now (bounds .exit)) (base + d) 0) y) ⌝ }
 {
     let mut e = 0;
-    while e < MOMENTS - 1 {
+    while e < LAST {
         let sooner = bounds[base + e];
         e += 1;
         bounds[base + e] = bitset::union(bounds[base + e], sooner);
