@@ -1,0 +1,11 @@
+//! Draws jobs, plans, procedures and trials, and damages them. This knows how words are built and which plans are lawful, and
+//! nothing of what the product answers.
+
+pub mod damage;
+pub mod draft;
+pub mod jobs;
+pub mod limits;
+pub mod lists;
+pub mod plans;
+pub mod programs;
+pub mod trials;

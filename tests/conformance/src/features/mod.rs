@@ -1,0 +1,74 @@
+//! One file a feature of the product: how it is drawn, how it is spoiled, and which situations a run must meet.
+
+pub mod groups;
+pub mod jobs;
+pub mod plans;
+pub mod readings;
+pub mod shift_windows;
+
+use crate::draw::draft::{Draft, Drawn};
+use crate::oracle::call::{Call, Expected};
+use crate::oracle::job::Job;
+use crate::oracle::starts::Start;
+use crate::random::Random;
+
+/// A feature as the runs need it.
+#[derive(Clone, Copy)]
+pub struct Feature {
+    pub name: &'static str,
+    /// Draws a lawful plan in which the feature can be met.
+    pub draw: fn(&mut Random) -> Drawn,
+    /// Puts the feature into a plan that was drawn otherwise. Lawful starts stay lawful.
+    pub add: fn(&mut Random, &mut Drawn),
+    /// Changes the plan so that the feature's rule breaks it, or nearly does.
+    pub spoil: fn(&mut Random, &mut Drawn),
+    /// Damages a job, mostly in a word that the feature has.
+    pub damage: fn(&mut Random, &[u32]) -> Vec<u32>,
+    /// Each way to have the feature in a tiny job.
+    pub tiny: fn(&Draft) -> Vec<Draft>,
+    /// Names the situations that a call is in.
+    pub situations: fn(&Seen) -> Vec<&'static str>,
+    /// Each situation that a run must meet, with the answers that calls in it must have got.
+    pub needed: &'static [(&'static str, &'static [usize])],
+}
+
+/// A call that was made, as the situations are told from it.
+pub struct Seen<'a> {
+    pub call: &'a Call,
+    pub expected: &'a Expected,
+    /// The refusal number that the call must return, 0 for a success.
+    pub number: usize,
+    /// The position that the call must return.
+    pub position: usize,
+    /// The call's job, if it is well formed.
+    pub job: Option<&'a Job>,
+    /// The starts that the call is handed, or those of its trial, as far as their words name a moment and an action of the job.
+    pub starts: &'a [Start],
+    /// The reading that find wrote.
+    pub reading: &'a [u32],
+}
+
+impl Seen<'_> {
+    /// The new start of a trial, if the call is one and the job has its action.
+    pub fn new_start(&self) -> Option<Start> {
+        let (Call::TrialStart { trial, action, .. }, Some(job)) = (self.call, self.job) else { return None };
+        let duration = job.actions.get(*action as usize)?.duration;
+        Some(Start { moment: *trial.first()? as usize, action: *action as usize, duration })
+    }
+
+    /// The start that the row at this position speaks of, for a call that is handed start words.
+    pub fn refused_start(&self) -> Option<Start> {
+        match self.call {
+            Call::Check { .. } | Call::Fill { .. } | Call::Find { .. } => self.starts.get(self.position).copied(),
+            _ => self.new_start(),
+        }
+    }
+}
+
+/// The names whose tests hold.
+pub fn met(tests: &[(&'static str, bool)]) -> Vec<&'static str> {
+    tests.iter().filter(|(_, holds)| *holds).map(|(name, _)| *name).collect()
+}
+
+/// A feature that adds nothing to a plan of another.
+pub fn nothing_to_add(_: &mut Random, _: &mut Drawn) {}
