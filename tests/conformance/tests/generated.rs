@@ -1,6 +1,6 @@
 //! Drawn plans of each feature, and of several together, through every call.
 
-use conformance::features::{groups, jobs, plans, readings, shift_windows, Feature};
+use conformance::features::{groups, jobs, plans, readings, shift_windows, trials, wide, Feature};
 use conformance::run::{every_bit, generated, stepped};
 
 fn hold(features: &[Feature], seed: u64, how_many: usize) {
@@ -47,4 +47,19 @@ fn windows_and_groups_together() {
     let together = [readings::FEATURE, shift_windows::FEATURE, groups::FEATURE];
     generated(&together, 8, 1_000).assert(&[]);
     stepped(&together, 9, 300).assert(&[]);
+}
+
+#[test]
+fn wide_jobs() {
+    hold(&[wide::FEATURE], 10, 2_000);
+}
+
+#[test]
+fn every_bit_of_wide_jobs() {
+    every_bit(&[jobs::FEATURE, wide::FEATURE], 11, 20).assert(&[]);
+}
+
+#[test]
+fn trials() {
+    hold(&[trials::FEATURE], 12, 3_000);
 }

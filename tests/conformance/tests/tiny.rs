@@ -1,0 +1,59 @@
+//! Every list of starts of tiny jobs that have a feature, or several, in each way.
+
+use conformance::draw::draft::Draft;
+use conformance::features::{groups, readings, shift_windows, wide, Feature};
+use conformance::run::tiny;
+use conformance::words::{action, formula, initially, law, node};
+
+/// Two actions with these durations and laws, on one fluent that is known true, known false or open.
+fn job(last: usize, durations: [usize; 2], laws: [Option<usize>; 2], known: Option<bool>) -> Draft {
+    let actions = (0..2).map(|number| {
+        let laws = laws[number].map(|role| law(role, 0));
+        [action(number, durations[number])].into_iter().chain(laws).collect()
+    });
+    Draft {
+        fluents: 1,
+        last,
+        initially: known.map(|value| initially(0, value)).into_iter().collect(),
+        actions: actions.collect(),
+        formulas: vec![formula(0, 0, 0), formula(1, 0, 0)],
+        nodes: vec![vec![node(0, 0, 0, 0, 0)]],
+        ..Draft::default()
+    }
+}
+
+fn bases(last: usize) -> Vec<Draft> {
+    vec![
+        job(last, [1, 1], [None, None], None),
+        job(last, [2, 1], [Some(2), Some(0)], Some(false)),
+        job(last, [1, 2], [Some(3), Some(2)], Some(true)),
+        job(last, [2, 2], [Some(2), Some(2)], None),
+    ]
+}
+
+fn hold(features: &[Feature], last: usize) {
+    let report = tiny(features, &bases(last));
+    assert!(report.calls > 100);
+    report.assert(&[]);
+}
+
+#[test]
+fn shift_windows() {
+    (0..=3).for_each(|last| hold(&[shift_windows::FEATURE], last));
+}
+
+#[test]
+fn groups() {
+    (0..=3).for_each(|last| hold(&[groups::FEATURE], last));
+}
+
+#[test]
+fn readings() {
+    (0..=3).for_each(|last| hold(&[readings::FEATURE], last));
+}
+
+#[test]
+fn several_together() {
+    hold(&[readings::FEATURE, groups::FEATURE, shift_windows::FEATURE, wide::FEATURE], 1);
+    hold(&[readings::FEATURE, groups::FEATURE, wide::FEATURE], 2);
+}
