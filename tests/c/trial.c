@@ -1,7 +1,7 @@
 /* A host in C that steps plans by hand from begin to end, with the header's own readers of a trial: the door of the
  * examples, whose files it reads, so run it in the repository's root; and as many starts as moves can give. The facts
- * shown are those of fill for the trial's starts, up to its moment. Prints each fault, and exits with 1 if there is one.
- * The single calls are those of tests/vectors. */
+ * shown are those of fill for the trial's starts, up to its moment. Prints each fault, and exits with 1 if there is
+ * one. The single calls are those of tests/vectors. */
 #include "planreader.h"
 #include <stdio.h>
 #include <string.h>
