@@ -93,13 +93,14 @@ static void take_words(const char *text, struct words *list)
     char *end;
     list->count = 0;
     for (; *text; text = end + (*end == ' ')) {
-        uint32_t word = (uint32_t)strtoul(text, &end, 16), step = 0;
-        unsigned long times = 1;
-        if (end == text) no_listing("no word");
-        if (*end == '+') step = (uint32_t)strtoul(end + 1, &end, 16);
+        unsigned long word = strtoul(text, &end, 16), step = 0, times = 1;
+        int stepped = *end == '+';
+        if (end == text || word > UINT32_MAX) no_listing("no word");
+        if (stepped) step = strtoul(end + 1, &end, 16);
+        if (stepped && *end != '*') no_listing("a step without a number of words");
         if (*end == '*') times = strtoul(end + 1, &end, 10);
         if (*end != ' ' && *end != '\0') no_listing("no word");
-        append(list, word, step, times);
+        append(list, (uint32_t)word, (uint32_t)step, times);
     }
 }
 
