@@ -28,7 +28,8 @@ static void *function(const char *name)
 
 CALL(check, (words j, size_t jn, words s, size_t sn, words f, size_t fn), (j, jn, s, sn, f, fn))
 CALL(fill, (words j, size_t jn, words s, size_t sn, buffer b, size_t bn), (j, jn, s, sn, b, bn))
-CALL(find, (words j, size_t jn, words s, size_t sn, words f, size_t fn, buffer b, size_t bn), (j, jn, s, sn, f, fn, b, bn))
+CALL(find, (words j, size_t jn, words s, size_t sn, words f, size_t fn, buffer b, size_t bn),
+     (j, jn, s, sn, f, fn, b, bn))
 CALL(trial_begin, (words j, size_t jn, buffer t, size_t tn), (j, jn, t, tn))
 CALL(trial_start, (words j, size_t jn, buffer t, size_t tn, uint32_t action), (j, jn, t, tn, action))
 CALL(trial_on, (words j, size_t jn, buffer t, size_t tn), (j, jn, t, tn))

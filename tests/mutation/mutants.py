@@ -2,11 +2,8 @@
 import shutil
 import sys
 from dataclasses import dataclass, field
-from pathlib import Path
 
 from build import ROOT
-
-LIST = Path(__file__).with_name("mutants.txt")
 
 
 @dataclass
@@ -20,15 +17,10 @@ class Mutant:
     def crate(self):
         return self.name.split("/")[0]
 
-    @property
-    def adapts_proof(self):
-        return any(file.startswith("proofs/") for file, _, _ in self.edits)
-
     def copy_to(self, folder):
         """Makes a copy of the crate with the edits."""
         shutil.rmtree(folder, ignore_errors=True)
-        ignored = shutil.ignore_patterns("must-fail")
-        shutil.copytree(ROOT / "crates" / self.crate, folder, ignore=ignored)
+        shutil.copytree(ROOT / "crates" / self.crate, folder, ignore=shutil.ignore_patterns("must-fail"))
         for file, old, new in self.edits:
             text = (folder / file).read_text()
             if text.count(old) != 1:
@@ -39,7 +31,7 @@ class Mutant:
 def read():
     """Returns the mutants of the list, in its order."""
     found = []
-    for line in LIST.read_text().splitlines():
+    for line in (ROOT / "tests/mutation/mutants.txt").read_text().splitlines():
         mark, text = line[:2], line[2:].replace("⏎", "\n")
         if mark == "@ ":
             file = text

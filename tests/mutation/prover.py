@@ -34,7 +34,8 @@ def verdict(kit, mutant, folder):
         status, log = checked(kit, mutant.crate, folder, [])
     (folder / "prover.log").write_text(log)
     if status == 0 and "logic=proved" in log:
-        return "lets it through" + (", its proof adapted" if mutant.adapts_proof else "")
+        adapted = any(file.startswith("proofs/") for file, _, _ in mutant.edits)
+        return "lets it through" + (", its proof adapted" if adapted else "")
     if status == 1 and "logic=not-proved" in log:
         return "refuses: " + first_error(log.replace(f"{folder}/", ""))
     return "NOT A MUTANT: does not reach the prover"

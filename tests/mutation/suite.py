@@ -4,37 +4,33 @@ import filecmp
 import json
 import os
 import shutil
-import signal
 import subprocess
+import sys
 from pathlib import Path
 
-from build import LIBRARY, PROGRAM, ROOT, TARGET, WORK, run
+from build import LIBRARY, PROGRAM, ROOT, WORK, run
 
-HERE = Path(__file__).parent
-LISTINGS = sorted((ROOT / "tests" / "vectors").glob("*.txt"))
+LISTINGS = sorted(path.relative_to(ROOT) for path in (ROOT / "tests" / "vectors").glob("*.txt"))
 LIMIT = 120  # seconds that a test program has
 
-# The test programs of what is built, from quick to slow.
-TESTS = {LIBRARY: ["c-vectors", "vectors", "tiny", "generated"], PROGRAM: ["planread", "examples"]}
+# The test programs of what is built, from quick to slow. The bench is for mutants of speed.
+TESTS = {LIBRARY: ["c-vectors", "vectors", "tiny", "generated", "bench"], PROGRAM: ["planread", "examples"]}
 
 
-def link_tests():
+def link_tests(with_bench):
     """Builds the tests. Returns the command of each test program, by its name."""
-    calls = WORK / "calls"
+    calls, vectors = WORK / "calls", WORK / "vectors"
+    library, source = calls / "libplanreader.a", ROOT / "tests/mutation/calls.c"
     calls.mkdir(parents=True, exist_ok=True)
-    library = calls / "libplanreader.a"
-    run(["cc", "-O2", "-fPIC", "-c", HERE / "calls.c", "-o", calls / "calls.o"])
-    if not library.exists() or library.stat().st_mtime < (HERE / "calls.c").stat().st_mtime:
+    if not library.exists() or library.stat().st_mtime < source.stat().st_mtime:
+        run(["cc", "-O2", "-fPIC", "-c", source, "-o", calls / "calls.o"])
         run(["ar", "rcs", library, calls / "calls.o"])
-    vectors = WORK / "vectors"
     run(["cc", "-std=c11", "-O2", f"-I{ROOT / 'include'}", ROOT / "tests/c/vectors.c", library, "-ldl", "-o", vectors])
     made = executables(["cargo", "test", "--no-run", "--manifest-path", ROOT / "tests/conformance/Cargo.toml"], calls)
+    if with_bench:
+        made |= executables(["cargo", "build", "--release", "--manifest-path", ROOT / "bench/Cargo.toml"], calls)
+        made["bench"] = made["planreader-bench"]
     return {"c-vectors": [vectors, *LISTINGS], **{name: [path] for name, path in made.items()}}
-
-
-def link_bench():
-    words = ["cargo", "build", "--release", "--manifest-path", ROOT / "bench/Cargo.toml"]
-    return [executables(words, WORK / "calls")["planreader-bench"]]
 
 
 def executables(words, calls):
@@ -47,58 +43,37 @@ def executables(words, calls):
 
 def failure(name, words, folder):
     """Runs a test program on what was built in the folder. Returns its name and what fails of it, or None."""
-    env = {**os.environ, "RUST_TEST_THREADS": "1", "MUTANT_LIBRARY": str(folder / "libplanreader.so")}
-    status, said = ended(words, {**env, "PLANREAD": str(folder / "planread")})
+    built = {"MUTANT_LIBRARY": str(folder / "libplanreader.so"), "PLANREAD": str(folder / "planread")}
+    env = {**os.environ, "RUST_TEST_THREADS": "1", **built}
+    more = {"stdin": subprocess.DEVNULL, "stdout": subprocess.PIPE, "stderr": subprocess.STDOUT, "errors": "replace"}
+    ran = subprocess.run(["timeout", str(LIMIT), *map(str, words)], cwd=ROOT, env=env, **more)
     with open(folder / "tests.log", "a") as log:
-        log.write(f"== {name}: {status}\n{said}\n")
-    if status == 0:
-        return None
-    if status is None:
+        log.write(f"== {name}: {ran.returncode}\n{ran.stdout}\n")
+    if ran.returncode <= 0:
+        return f"{name}: crash" if ran.returncode else None
+    if ran.returncode == 124:
         return f"{name}: no end in {LIMIT} s"
-    if status < 0:
-        return f"{name}: crash"
-    lines = said.splitlines()
+    lines = ran.stdout.splitlines()
     tests = [line.split()[1] for line in lines if line.startswith("test ") and line.endswith("FAILED")]
-    return f"{name}: {(tests or lines or ['no word'])[0]}"
-
-
-def ended(words, env):
-    """Returns the exit status of a program and what it said. The status is None if it was stopped at the limit, with
-    all that it started."""
-    more = {"stdin": subprocess.DEVNULL, "stdout": subprocess.PIPE, "stderr": subprocess.STDOUT, "text": True}
-    words = [str(word) for word in words]
-    with subprocess.Popen(words, cwd=ROOT, env=env, start_new_session=True, errors="replace", **more) as process:
-        try:
-            said = process.communicate(timeout=LIMIT)[0]
-        except subprocess.TimeoutExpired:
-            os.killpg(process.pid, signal.SIGKILL)
-            return None, process.communicate()[0]
-        return process.returncode, said
+    return f"{name}: {(tests or lines or ['no word'])[0][:100]}"
 
 
 class Suite:
-    def __init__(self, kit, times):
+    def __init__(self, kit, with_bench):
         self.kit = kit
-        self.words = link_tests()
-        self.times = times and link_bench()
+        self.words = link_tests(with_bench)
         self.plain = WORK / "plain"
         shutil.rmtree(self.plain, ignore_errors=True)
         for what in TESTS:
             kit.build(what, self.plain)
+            failed = self.first_failure(what, self.plain, with_bench)
+            if failed:
+                sys.exit(f"the code as it is fails a test: {failed}")
 
     def first_failure(self, what, folder, speed):
         """Returns what the tests of the library, or those of the program, see first, or None."""
-        for name in TESTS[what]:
-            found = failure(name, self.words[name], folder)
-            if found:
-                return found
-        if speed and what == LIBRARY:
-            return failure("bench", self.times, folder)
-        return None
-
-    def fails_plain(self):
-        """Returns what fails on the code as it is. If something does, no verdict of the tests means anything."""
-        return self.first_failure(LIBRARY, self.plain, self.times) or self.first_failure(PROGRAM, self.plain, False)
+        names = [name for name in TESTS[what] if speed or name != "bench"]
+        return next(filter(None, (failure(name, self.words[name], folder) for name in names)), None)
 
     def verdict(self, mutant, folder):
         """Builds the library and the program if the mutant is in them, and tests what is other code than the plain."""
@@ -111,10 +86,9 @@ class Suite:
                 self.kit.build(what, folder, mutant.crate)
             except subprocess.CalledProcessError:
                 return "NOT A MUTANT: does not build"
-            if filecmp.cmp(folder / archive, self.plain / archive, shallow=False):
-                continue
-            tested = True
-            found = self.first_failure(what, folder, mutant.speed)
-            if found:
-                return f"see it: {found}"
+            if not filecmp.cmp(folder / archive, self.plain / archive, shallow=False):
+                tested = True
+                found = self.first_failure(what, folder, mutant.speed)
+                if found:
+                    return f"see it: {found}"
         return "do not see it" if tested else "do not see it: the same machine code"
