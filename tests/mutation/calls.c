@@ -15,7 +15,7 @@ static void *function(const char *name)
     void *found = library ? dlsym(library, name) : NULL;
     if (!found) {
         fprintf(stderr, "%s\n", dlerror());
-        exit(2);
+        exit(99); /* no test program ends with this status by itself */
     }
     return found;
 }

@@ -6,12 +6,12 @@ import os
 import shutil
 import subprocess
 import sys
-from pathlib import Path
 
 from build import LIBRARY, PROGRAM, ROOT, WORK, run
 
 LISTINGS = sorted(path.relative_to(ROOT) for path in (ROOT / "tests" / "vectors").glob("*.txt"))
 LIMIT = 120  # seconds that a test program has
+NO_LIBRARY = 99  # the status of a test program that calls.c ends
 
 # The test programs of what is built, from quick to slow. The bench is for mutants of speed.
 TESTS = {LIBRARY: ["c-vectors", "vectors", "tiny", "generated", "bench"], PROGRAM: ["planread", "examples"]}
@@ -38,7 +38,7 @@ def executables(words, calls):
     words += ["--offline", "--locked", "--message-format=json", "--target-dir", WORK / "cargo"]
     env = {**os.environ, "PLANREADER_LIB_DIR": str(calls)}
     said = [json.loads(line) for line in run(words, env=env, stdout=subprocess.PIPE, text=True).stdout.splitlines()]
-    return {one["target"]["name"]: Path(one["executable"]) for one in said if one.get("executable")}
+    return {one["target"]["name"]: one["executable"] for one in said if one.get("executable")}
 
 
 def failure(name, words, folder):
@@ -51,6 +51,8 @@ def failure(name, words, folder):
         log.write(f"== {name}: {ran.returncode}\n{ran.stdout}\n")
     if ran.returncode <= 0:
         return f"{name}: crash" if ran.returncode else None
+    if ran.returncode == NO_LIBRARY:
+        sys.exit(f"{name} did not begin: {ran.stdout}")
     if ran.returncode == 124:
         return f"{name}: no end in {LIMIT} s"
     lines = ran.stdout.splitlines()
