@@ -23,7 +23,7 @@ need_clang() {
     apt-get update && apt-get install -y --no-install-recommends clang libclang-rt-14-dev
 }
 
-# Makes a folder like the kit's, whose clang compiles each module twice: as the kit does, and with counters to OBJECT, which is
+# Makes a folder like the kit's, whose clang compiles each module twice: as the kit does, and with counters to OBJECT,
 # an absolute path.
 counting_kit() { # FOLDER OBJECT
     kit=$(dirname "$(dirname "$(rt doc)")")

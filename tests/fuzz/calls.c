@@ -8,7 +8,7 @@ const char *const call_names[CALLS] = {"check", "fill", "find", "trial_begin", "
 const uint32_t call_numbers[CALLS] = {0x18fff, 0x197ff, 0x1bfff, 0x403f, 0x1c7ff, 0x1c7ff, 0x1d7ff};
 unsigned long calls_seen[CALLS][NUMBERS], calls_made;
 
-/* Counters that libFuzzer reads beside the archive's own: answers by number and position, lengths and counts by their size. */
+/* Counters that libFuzzer reads beside the archive's own: answers by number and position, and by length and count. */
 enum { PLACES = 16, SIZES = 25 };
 __attribute__((section("__libfuzzer_extra_counters"))) static uint8_t extra[CALLS][NUMBERS][PLACES + 2 * SIZES];
 
@@ -16,7 +16,8 @@ void hold(bool met, enum call call, const char *what, uint64_t answer)
 {
     if (met) return;
     fprintf(stderr, "violation: %s: %s (number %u, position %u, length %u, count %u)\n", call_names[call], what,
-            planreader_number(answer), planreader_position(answer), planreader_length(answer), planreader_count(answer));
+            planreader_number(answer), planreader_position(answer), planreader_length(answer),
+            planreader_count(answer));
     abort();
 }
 
@@ -59,7 +60,7 @@ static size_t positions(const struct request *r, unsigned number)
     }
 }
 
-/* Whether 12 is due: always below 4,096 words; from fill and trial_show also below 16,384 if the job is wide and accepted. */
+/* Whether 12 is due: below 4,096 words; from fill and trial_show below 16,384 if the job is wide and well formed. */
 static bool is_short(const struct request *r, size_t len, unsigned number)
 {
     bool refused = number >= PLANREADER_JOB_LENGTH && number <= PLANREADER_JOB_NODES;
@@ -70,14 +71,15 @@ static bool is_short(const struct request *r, size_t len, unsigned number)
 static void hold_fields(const struct request *r, uint64_t answer, size_t out_len)
 {
     unsigned number = planreader_number(answer);
-    bool is_long = r->job.len < 1 || r->job.len > PLANREADER_JOB_WORDS, writes = call_numbers[r->call] >> 12 & 1u;
+    bool writes = call_numbers[r->call] >> PLANREADER_BUFFER_SHORT & 1u;
+    bool bad_length = r->job.len < 1 || r->job.len > PLANREADER_JOB_WORDS, is_12 = number == PLANREADER_BUFFER_SHORT;
     bool counts = r->call == FIND && (number == 0 || number == PLANREADER_NO_READING);
     hold(number < NUMBERS && call_numbers[r->call] >> number & 1u, r->call, "a number that the call has not", answer);
     hold(planreader_position(answer) < positions(r, number), r->call, "a position beyond its list", answer);
-    hold(planreader_length(answer) <= (writes && number == 0 ? out_len : 0), r->call, "a length that is too great", answer);
+    hold(planreader_length(answer) <= (writes && number == 0 ? out_len : 0), r->call, "too great a length", answer);
     hold(counts || planreader_count(answer) == 0, r->call, "a count that is not to be there", answer);
-    hold(number == 12 || (number == 1) == is_long, r->call, "1 otherwise than by the job's length", answer);
-    hold(!writes || (number == 12) == is_short(r, out_len, number), r->call, "12 otherwise than by the lengths", answer);
+    hold(is_12 || (number == PLANREADER_JOB_LENGTH) == bad_length, r->call, "1 not by the job's length", answer);
+    hold(!writes || is_12 == is_short(r, out_len, number), r->call, "12 not by the buffer's length", answer);
 }
 
 static unsigned log_2(unsigned n)
@@ -93,10 +95,11 @@ uint64_t make_call(const struct request *request, uint32_t *out, size_t out_len)
     counters_add();
     calls_made++;
     hold_fields(request, answer, out_len);
-    unsigned number = planreader_number(answer), position = planreader_position(answer);
+    unsigned number = planreader_number(answer), place = planreader_position(answer);
     uint8_t *noted = extra[request->call][number];
     calls_seen[request->call][number]++;
-    noted[position < PLACES ? position : PLACES - 1]++;
+    if (number == PLANREADER_JOB_LENGTH) place = log_2((unsigned)request->job.len); /* tells no words from too many */
+    noted[place < PLACES ? place : PLACES - 1]++;
     noted[PLACES + log_2(planreader_length(answer))]++;
     noted[PLACES + SIZES + log_2(planreader_count(answer))]++;
     return answer;

@@ -24,8 +24,8 @@ void hold(bool met, enum call call, const char *what, uint64_t answer);
  * trial_begin, trial_start and trial_on. */
 uint64_t make_call(const struct request *request, uint32_t *out, size_t out_len);
 
-/* Makes a call that writes to a buffer, twice, on different words in the buffer and at either end of its room: the answers
- * and the words written must be the same, and no other word may change. */
+/* Makes a call that writes to a buffer, twice, on different words in the buffer and at either end of its room: the
+ * answers and the words written must be the same, and no other word may change. */
 uint64_t write_call(const struct request *request, size_t len, uint32_t choices);
 
 /* The words that the last write_call wrote, if this was its answer. */

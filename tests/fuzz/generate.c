@@ -12,7 +12,7 @@ uint32_t roll(struct dice *dice, uint32_t sides)
 
 bool chance(struct dice *dice, uint32_t one_in) { return roll(dice, one_in) == 0; }
 
-/* A job under construction. Its fluents are the highest that its head allows, so that those of a wide job need eight bits. */
+/* A job under construction. It uses the highest fluents that its head allows: in a wide job they need eight bits. */
 struct draft {
     struct input *in;
     struct dice *dice;
@@ -32,7 +32,8 @@ static void draw_head(struct draft *draft)
     unsigned all = draft->first_fluent + draft->fluents;
     add(draft, (draft->wide ? planreader_wide_head : planreader_head)(all, draft->actions, 0));
     for (unsigned f = draft->first_fluent; f < all; f++)
-        if (!chance(draft->dice, 4)) add(draft, (draft->wide ? planreader_wide_known : planreader_known)(f, !chance(draft->dice, 3)));
+        if (!chance(draft->dice, 4))
+            add(draft, (draft->wide ? planreader_wide_known : planreader_known)(f, !chance(draft->dice, 3)));
 }
 
 static void draw_action(struct draft *draft, unsigned action)
@@ -61,7 +62,8 @@ static void draw_formula(struct draft *draft)
 {
     unsigned form = roll(draft->dice, draft->formulas ? 6 : 2), x = roll(draft->dice, draft->formulas);
     unsigned y = form == PLANREADER_HELD_FOR ? roll(draft->dice, 4) : roll(draft->dice, draft->formulas);
-    if (form == PLANREADER_FLUENT) add(draft, (draft->wide ? planreader_wide_fluent : planreader_fluent)(some_fluent(draft)));
+    if (form == PLANREADER_FLUENT)
+        add(draft, (draft->wide ? planreader_wide_fluent : planreader_fluent)(some_fluent(draft)));
     else add(draft, planreader_formula(form, x, form >= PLANREADER_AND ? y : 0));
     draft->formulas++;
 }
@@ -76,7 +78,8 @@ static unsigned draw_leaf(struct draft *draft, unsigned begin)
 {
     unsigned action = roll(draft->dice, draft->actions);
     bool is_test = draft->formulas && chance(draft->dice, 3);
-    add_node(draft, is_test ? PLANREADER_TEST : PLANREADER_ACT, is_test ? roll(draft->dice, draft->formulas) : action, 0, 0);
+    add_node(draft, is_test ? PLANREADER_TEST : PLANREADER_ACT, is_test ? roll(draft->dice, draft->formulas) : action,
+             0, 0);
     if (is_test || !draft->starting) return begin;
     uint32_t start = planreader_start(begin, action);
     if (start && draft->in->starts_len < STARTS_MOST) draft->in->starts[draft->in->starts_len++] = start;
@@ -97,9 +100,11 @@ static unsigned draw_set(struct draft *draft, unsigned size, unsigned begin)
     add_node(draft, PLANREADER_TASK_SET, 0, 0, 0);
     for (unsigned i = 0; i < members; i++) add(draft, planreader_member(child[i]));
     for (unsigned i = roll(dice, 3); i > 0; i--)
-        add(draft, planreader_condition(roll(dice, 2), 0, roll(dice, members), roll(dice, members), 0, 63 - roll(dice, 8)));
+        add(draft,
+            planreader_condition(roll(dice, 2), 0, roll(dice, members), roll(dice, members), 0, 63 - roll(dice, 8)));
     if (draft->formulas && chance(dice, 2))
-        add(draft, planreader_condition(2 + roll(dice, 2), roll(dice, draft->formulas), roll(dice, members), 0, 0, roll(dice, 3)));
+        add(draft, planreader_condition(2 + roll(dice, 2), roll(dice, draft->formulas), roll(dice, members), 0, 0,
+                                        roll(dice, 3)));
     return end;
 }
 
@@ -107,11 +112,13 @@ static unsigned draw_set(struct draft *draft, unsigned size, unsigned begin)
 static unsigned draw_pair(struct draft *draft, unsigned form, unsigned size, unsigned begin)
 {
     struct dice *dice = draft->dice;
-    bool starting = draft->starting, is_choice = form == PLANREADER_CHOICE || form == PLANREADER_IF, first = chance(dice, 2);
+    bool starting = draft->starting, first = chance(dice, 2);
+    bool is_choice = form == PLANREADER_CHOICE || form == PLANREADER_IF;
     unsigned m = roll(dice, 3), n = m + roll(dice, 4), formula = roll(dice, draft->formulas);
     draft->starting = starting && (!is_choice || first);
     unsigned end = draw_tree(draft, size / 2, begin), x = draft->nodes - 1;
-    unsigned next = is_choice ? begin : form == PLANREADER_SEQUENCE ? end : form == PLANREADER_END_WINDOW ? end + m : begin + m;
+    unsigned next = form == PLANREADER_SEQUENCE || form == PLANREADER_END_WINDOW ? end : begin;
+    if (form >= PLANREADER_START_WINDOW) next += m;
     draft->starting = starting && (!is_choice || !first);
     unsigned ends = draw_tree(draft, size / 2, next), y = draft->nodes - 1;
     draft->starting = starting;

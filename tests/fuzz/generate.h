@@ -13,6 +13,6 @@ uint32_t roll(struct dice *dice, uint32_t sides);
 /* True once in so many times. */
 bool chance(struct dice *dice, uint32_t one_in);
 
-/* Draws a job with a procedure of about `size` nodes, and the starts of carrying it out. fill may refuse some of them. */
+/* Draws a job with a procedure of about `size` nodes, and starts that carry it out, some of which fill may refuse. */
 void generate(struct input *in, struct dice *dice, unsigned size);
 #endif

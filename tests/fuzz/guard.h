@@ -1,4 +1,4 @@
-/* Memory for the lists of a call: between two inaccessible pages, with guard words on the side that does not touch one. */
+/* Memory for the lists of a call: each touches an inaccessible page, and has guard words on its other side. */
 #ifndef GUARD_H
 #define GUARD_H
 #include "input.h"
@@ -10,8 +10,8 @@ struct guarded {
     size_t len;
 };
 
-/* Places a list in the room and returns where a call finds it: the room's end, or its begin if the choices say so. An empty
- * list is NULL or points into an inaccessible page. */
+/* Places a list in the room and returns where a call finds it: the room's end, or its begin if the choices say so. An
+ * empty list is NULL or points into an inaccessible page. */
 uint32_t *guard_lend(struct guarded *room, struct list contents, uint32_t choices);
 
 /* Lends a list that faults when written to. */

@@ -1,7 +1,5 @@
-/* Runs check, fill and find on one input (input.h), then the trial calls (trial.c). What is held is the C boundary: memory,
- * fields, buffers, and that the calls agree with each other. What the answers must be is proved, and tested elsewhere.
- *
- * The archive is not built with AddressSanitizer, so the lists are lent in memory between inaccessible pages (guard.h). */
+/* Runs check, fill and find on one input (input.h), then the trial calls (trial.c). What is held is the C boundary:
+ * memory, fields, buffers, and that the calls agree with each other. Whether an answer is right is proved. */
 #include "harness.h"
 #include "calls.h"
 #include "counters.h"
@@ -31,7 +29,8 @@ static uint64_t check_by_fill(uint64_t filled, struct list right, struct list gi
 }
 
 /* Holds check of some facts to what fill answered and wrote, twice. The facts stay lent. */
-static uint64_t hold_check(struct request *request, struct list given, uint64_t filled, struct list right, uint32_t choices)
+static uint64_t hold_check(struct request *request, struct list given, uint64_t filled, struct list right,
+                           uint32_t choices)
 {
     request->call = CHECK;
     request->facts = guard_lend_locked(&facts_room, given, choices);
@@ -62,11 +61,12 @@ static void hold_other_buffer(struct request *request, uint64_t answer, struct l
     uint64_t again = write_call(request, len, choices);
     if (planreader_number(again) == PLANREADER_BUFFER_SHORT) return; /* make_call holds when it is due */
     hold(again == answer, request->call, "another answer with another buffer", again);
-    hold(same_words(written(again).words, right.words, right.len), request->call, "other words with another buffer", again);
+    bool is_same = same_words(written(again).words, right.words, right.len);
+    hold(is_same, request->call, "other words with another buffer", again);
 }
 
-/* Makes a call with the buffer that it needs and with others: one word too short, for either 12, and the input's own. Returns
- * the answer, and the words written as a copy. */
+/* Makes a call with the buffer that it needs and with others: one word too short, for either 12, and the input's own.
+ * Returns the answer, and the words written as a copy. */
 static uint64_t hold_buffers(struct request *request, uint32_t choices, struct list *copy)
 {
     uint32_t head = head_of(request->job);
@@ -85,7 +85,8 @@ static uint64_t hold_buffers(struct request *request, uint32_t choices, struct l
 /* job, starts and facts may be one list: the answers are those of three equal lists. */
 static void hold_one_list(struct list job, uint32_t choices)
 {
-    struct list starts = guard_lend_locked(&starts_room, job, choices), facts = guard_lend_locked(&facts_room, job, choices);
+    struct list starts = guard_lend_locked(&starts_room, job, choices);
+    struct list facts = guard_lend_locked(&facts_room, job, choices);
     for (enum call call = CHECK; call <= FIND; call++) {
         struct request one = {call, job, job, job, {NULL, 0}, 0}, three = {call, job, starts, facts, {NULL, 0}, 0};
         size_t len = PLANREADER_WIDE_BUFFER_WORDS;
@@ -98,7 +99,8 @@ static void hold_one_list(struct list job, uint32_t choices)
 /* Holds that a list that was only read is as it was lent. */
 static void hold_unchanged(const struct guarded *room, struct list list)
 {
-    hold(guard_intact(room) && same_words(room->words, list.words, list.len), CHECK, "a list that is only read changed", 0);
+    bool is_same = guard_intact(room) && same_words(room->words, list.words, list.len);
+    hold(is_same, CHECK, "a list that is only read changed", 0);
 }
 
 /* check, fill and find on one input. Returns fill's answer. */
@@ -119,6 +121,7 @@ static uint64_t examine(struct list job, struct list starts, struct list facts, 
     hold_unchanged(&facts_room, facts);
     if (accepted) hold_near_facts(&request, filled, right, choices);
     hold_unchanged(&starts_room, starts);
+    hold_unchanged(&job_room, job);
     if (choices & ONE_LIST) hold_one_list(request.job, choices);
     free((void *)(uintptr_t)right.words);
     free((void *)(uintptr_t)reading.words);
@@ -131,9 +134,9 @@ int LLVMFuzzerTestOneInput(const uint8_t *data, size_t size)
     input_decode(&in, data, size);
     struct list job = {in.job, in.job_len}, starts = {in.starts, in.starts_len}, facts = {in.facts, in.facts_len};
     uint64_t filled = examine(job, starts, facts, in.choices);
-    bool refused = planreader_number(filled) >= PLANREADER_JOB_LENGTH && planreader_number(filled) <= PLANREADER_JOB_NODES;
-    struct list lent = {job.len ? job_room.words : guard_lend_locked(&job_room, job, in.choices).words, job.len};
-    examine_trials(lent, refused ? filled : 0, starts, &in);
+    unsigned number = planreader_number(filled);
+    bool is_refused = number >= PLANREADER_JOB_LENGTH && number <= PLANREADER_JOB_NODES;
+    examine_trials(guard_lend_locked(&job_room, job, in.choices), is_refused ? filled : 0, starts, &in);
     hold_unchanged(&job_room, job);
     counters_show();
     return 0;

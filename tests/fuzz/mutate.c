@@ -1,4 +1,4 @@
-/* The mutator: it changes an input by words, not bytes, and asks fill what to put right, so that find meets plans that pass. */
+/* The mutator: it changes an input by words, and asks fill what to put right, so that find meets plans that pass. */
 #include "generate.h"
 #include "harness.h"
 #include <stdlib.h>
@@ -11,8 +11,14 @@ struct open_list {
 };
 
 static struct open_list open_job(struct input *in) { return (struct open_list){in->job, &in->job_len, JOB_MOST}; }
-static struct open_list open_starts(struct input *in) { return (struct open_list){in->starts, &in->starts_len, STARTS_MOST}; }
-static struct open_list open_facts(struct input *in) { return (struct open_list){in->facts, &in->facts_len, FACTS_MOST}; }
+static struct open_list open_starts(struct input *in)
+{
+    return (struct open_list){in->starts, &in->starts_len, STARTS_MOST};
+}
+static struct open_list open_facts(struct input *in)
+{
+    return (struct open_list){in->facts, &in->facts_len, FACTS_MOST};
+}
 
 static struct open_list some_list(struct input *in, struct dice *dice)
 {
@@ -191,7 +197,8 @@ static void change_rest(struct input *in, struct dice *dice)
     case 2: in->odd = (uint8_t)(chance(dice, 2) ? roll(dice, 256) : 0); break;
     case 3: in->choices ^= 1u << roll(dice, 8); break;
     default:
-        while (in->job_len && in->job_len < len && len % 5 == 0) insert(open_job(in), in->job_len, in->job[in->job_len - 1]);
+        if (in->job_len == 0 || !chance(dice, 5)) break;
+        while (in->job_len < len) insert(open_job(in), in->job_len, in->job[in->job_len - 1]);
     }
 }
 
@@ -210,7 +217,7 @@ static void number_actions(struct input *in)
     in->job[0] = with_field(in->job[0], 15, 8, number);
 }
 
-/* Mends what a refusal is about, and returns whether it tried: leaves out the word, or puts an unnamed node under a new root. */
+/* Leaves out the word that is refused, or puts an unnamed node under a new root. Returns whether it could. */
 static bool mend(struct input *in, uint64_t answer)
 {
     unsigned number = planreader_number(answer), position = planreader_position(answer), nodes = nodes_in(in);
@@ -240,9 +247,9 @@ static void put_right(struct input *in, struct dice *dice)
 
 size_t LLVMFuzzerCustomMutator(uint8_t *data, size_t size, size_t most, unsigned int seed)
 {
-    typedef void mutation(struct input *in, struct dice *dice);
-    static mutation *const mutations[] = {change_field, change_field, change_field, add_word,    add_word,
-                                          move_words,   move_words,   wrap_root,    write_facts, change_rest};
+    static void (*const mutations[])(struct input *, struct dice *) = {
+        change_field, change_field, change_field, add_word,    add_word,
+        move_words,   move_words,   wrap_root,    write_facts, change_rest};
     static struct input in;
     struct dice dice = {seed};
     input_decode(&in, data, size);

@@ -1,6 +1,6 @@
 /* Runs the harness without libFuzzer: replay SEED MUTATIONS FINDING FILE..
- * Each file as it is, then so many mutations of them, the same for the same seed. Prints how often each call gave each number,
- * and fails if a number that a call has was never given. The input of a violation is written to FINDING. */
+ * Runs each file as it is, then so many mutations of them, the same for the same seed. Prints how often each call gave
+ * each number, and fails if a number that a call has was never given. Writes the input of a violation to FINDING. */
 #include "calls.h"
 #include "generate.h"
 #include "harness.h"
@@ -69,7 +69,8 @@ int main(int argc, char **argv)
         current_size = LLVMFuzzerCustomMutator(current, current_size, BYTES_MOST, roll(&dice, UINT32_MAX));
         LLVMFuzzerTestOneInput(current, current_size);
     }
-    printf("%d stored inputs, %lu mutations with seed %s, %lu calls; answers by number:\n", files, mutations, argv[1], calls_made);
+    printf("%d stored inputs, %lu mutations with seed %s, %lu calls; answers by number:\n", files, mutations, argv[1],
+           calls_made);
     for (enum call call = CHECK; call < CALLS; call++) never += report(call);
     return never != 0;
 }

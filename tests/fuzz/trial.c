@@ -1,5 +1,5 @@
-/* Runs the trial calls on one input. fill foretells every answer and every word: a trial is judged as fill judges its starts, a
- * new start as fill judges the list with the start in its place, and what is shown is fill's list up to the trial's moment. */
+/* Runs the trial calls on one input. fill foretells every answer and word: a trial is judged as fill judges its starts,
+ * a new start as fill judges the list with it, and what is shown is fill's list up to the trial's moment. */
 #include "calls.h"
 #include "harness.h"
 
@@ -51,7 +51,7 @@ static uint64_t trial_refusal(const struct stage *stage, const struct trial *tri
     return answer_of(planreader_number(filled));
 }
 
-/* The refusal of an action's start at the moment of a sound trial; if it is 0, the trial then has the start in its place. */
+/* The refusal of an action's start at the moment of a sound trial. If it is 0, the start is put in its place. */
 static uint64_t start_refusal(struct list job, struct trial *trial, uint32_t action)
 {
     static struct trial with;
@@ -85,7 +85,7 @@ static uint64_t expected(enum call call, const struct stage *stage, struct trial
     return 0;
 }
 
-/* Makes trial_begin or a move; holds the answer, all words of the trial and those around it. The trial becomes what is left. */
+/* Makes trial_begin or a move; holds the answer, the trial and the words around it. The trial becomes what is left. */
 static uint64_t hold_move(enum call call, const struct stage *stage, struct trial *trial, uint32_t action)
 {
     uint32_t *words = guard_lend(&trial_room, (struct list){trial->words, trial->len}, stage->choices);
@@ -143,7 +143,7 @@ static void make_trial(struct trial *trial, uint32_t moment, struct list starts)
         trial->words[i] = i - 2 < starts.len ? starts.words[i - 2] : 0x5eed0000u + (uint32_t)i;
 }
 
-/* Steps through the starts from a fresh trial, at each moment from the last start down. Leaves a long plan unfinished. */
+/* Steps through the starts from a fresh trial, at each moment from the last start down, for a number of moves. */
 static void hold_walk(const struct stage *stage, struct list starts)
 {
     static struct trial trial;

@@ -1,5 +1,6 @@
-/* Wrong libraries: the proved calls, under the names right_check, right_fill and so on, with one fault in one call: the row of
- * the table that the environment's FAULT numbers, from 0. FAULT=count prints the number of rows. The harness must catch each. */
+/* Wrong libraries: the proved calls, under the names right_check, right_fill and so on, with one fault in one call:
+ * the row of the table that the environment's FAULT numbers, from 0. FAULT=count prints the number of rows. The
+ * harness must catch each. */
 #include "calls.h"
 #include <stdio.h>
 #include <stdlib.h>
@@ -40,24 +41,33 @@ static const struct fault {
     enum spoil spoil;
     enum which which;
 } faults[] = {
-    {CHECK, READS_BEFORE, JOB},        {CHECK, READS_AFTER, JOB},          {CHECK, READS_BEFORE, STARTS},
-    {CHECK, READS_AFTER, STARTS},      {CHECK, READS_AFTER, FACTS},        {CHECK, WRITES_TO, JOB},
-    {CHECK, LENGTH_LEFT, OUT},         {CHECK, ANSWER_BEFORE, OUT},        {FILL, READS_AFTER, STARTS},
-    {FILL, WRITES_TO, STARTS},         {FILL, WRITES_BEFORE, OUT},         {FILL, WRITES_AFTER, OUT},
-    {FILL, REFUSAL_WRITES, OUT},       {FILL, SPILLS, OUT},                {FILL, LEAVES_FIRST, OUT},
-    {FILL, TAKES_IN, OUT},             {FILL, REFUSES_LONG, OUT},          {FILL, ACCEPTS_SHORT, OUT},
-    {FILL, COUNT_LEFT, OUT},           {FIND, READS_BEFORE, FACTS},        {FIND, READS_AFTER, FACTS},
-    {FIND, WRITES_TO, FACTS},          {FIND, WRITES_BEFORE, OUT},         {FIND, WRITES_AFTER, OUT},
-    {FIND, REFUSAL_WRITES, OUT},       {FIND, SPILLS, OUT},                {FIND, LEAVES_LAST, OUT},
-    {FIND, TAKES_IN, OUT},             {FIND, REFUSES_LONG, OUT},          {FIND, ACCEPTS_SHORT, OUT},
-    {TRIAL_BEGIN, WRITES_AFTER, OUT},  {TRIAL_BEGIN, REFUSAL_WRITES, OUT}, {TRIAL_BEGIN, CLEARS_REST, OUT},
-    {TRIAL_BEGIN, LEAVES_FIRST, OUT},  {TRIAL_BEGIN, ACCEPTS_SHORT, OUT},  {TRIAL_START, READS_AFTER, OUT},
-    {TRIAL_START, WRITES_BEFORE, OUT}, {TRIAL_START, REFUSAL_WRITES, OUT}, {TRIAL_START, CLEARS_REST, OUT},
-    {TRIAL_START, LEAVES_LAST, OUT},   {TRIAL_START, ANSWER_BEFORE, OUT},  {TRIAL_ON, WRITES_AFTER, OUT},
-    {TRIAL_ON, REFUSAL_WRITES, OUT},   {TRIAL_ON, SPILLS, OUT},            {TRIAL_ON, LEAVES_FIRST, OUT},
-    {TRIAL_ON, REFUSES_LONG, OUT},     {TRIAL_SHOW, READS_AFTER, TRIAL},   {TRIAL_SHOW, WRITES_TO, TRIAL},
-    {TRIAL_SHOW, WRITES_AFTER, OUT},   {TRIAL_SHOW, REFUSAL_WRITES, OUT},  {TRIAL_SHOW, SPILLS, OUT},
-    {TRIAL_SHOW, TAKES_IN, OUT},       {TRIAL_SHOW, ACCEPTS_SHORT, OUT},   {TRIAL_SHOW, LENGTH_LEFT, OUT},
+    {CHECK, READS_BEFORE, JOB},        {CHECK, READS_AFTER, JOB},
+    {CHECK, READS_BEFORE, STARTS},     {CHECK, READS_AFTER, STARTS},
+    {CHECK, READS_AFTER, FACTS},       {CHECK, WRITES_TO, JOB},
+    {CHECK, LENGTH_LEFT, OUT},         {CHECK, ANSWER_BEFORE, OUT},
+    {FILL, READS_AFTER, STARTS},       {FILL, WRITES_TO, STARTS},
+    {FILL, WRITES_BEFORE, OUT},        {FILL, WRITES_AFTER, OUT},
+    {FILL, REFUSAL_WRITES, OUT},       {FILL, SPILLS, OUT},
+    {FILL, LEAVES_FIRST, OUT},         {FILL, TAKES_IN, OUT},
+    {FILL, REFUSES_LONG, OUT},         {FILL, ACCEPTS_SHORT, OUT},
+    {FILL, COUNT_LEFT, OUT},           {FIND, READS_BEFORE, FACTS},
+    {FIND, READS_AFTER, FACTS},        {FIND, WRITES_TO, FACTS},
+    {FIND, WRITES_BEFORE, OUT},        {FIND, WRITES_AFTER, OUT},
+    {FIND, REFUSAL_WRITES, OUT},       {FIND, SPILLS, OUT},
+    {FIND, LEAVES_LAST, OUT},          {FIND, TAKES_IN, OUT},
+    {FIND, REFUSES_LONG, OUT},         {FIND, ACCEPTS_SHORT, OUT},
+    {TRIAL_BEGIN, WRITES_AFTER, OUT},  {TRIAL_BEGIN, REFUSAL_WRITES, OUT},
+    {TRIAL_BEGIN, CLEARS_REST, OUT},   {TRIAL_BEGIN, LEAVES_FIRST, OUT},
+    {TRIAL_BEGIN, ACCEPTS_SHORT, OUT}, {TRIAL_START, READS_AFTER, OUT},
+    {TRIAL_START, WRITES_BEFORE, OUT}, {TRIAL_START, REFUSAL_WRITES, OUT},
+    {TRIAL_START, CLEARS_REST, OUT},   {TRIAL_START, LEAVES_LAST, OUT},
+    {TRIAL_START, ANSWER_BEFORE, OUT}, {TRIAL_ON, WRITES_AFTER, OUT},
+    {TRIAL_ON, REFUSAL_WRITES, OUT},   {TRIAL_ON, SPILLS, OUT},
+    {TRIAL_ON, LEAVES_FIRST, OUT},     {TRIAL_ON, REFUSES_LONG, OUT},
+    {TRIAL_SHOW, READS_AFTER, TRIAL},  {TRIAL_SHOW, WRITES_TO, TRIAL},
+    {TRIAL_SHOW, WRITES_AFTER, OUT},   {TRIAL_SHOW, REFUSAL_WRITES, OUT},
+    {TRIAL_SHOW, SPILLS, OUT},         {TRIAL_SHOW, TAKES_IN, OUT},
+    {TRIAL_SHOW, ACCEPTS_SHORT, OUT},  {TRIAL_SHOW, LENGTH_LEFT, OUT},
 };
 enum { FAULTS = sizeof faults / sizeof *faults };
 static struct fault fault;
@@ -150,7 +160,8 @@ static uint64_t spoiled(const struct request *r, uint32_t *out, size_t len)
 
 uint64_t check(const uint32_t *job, size_t j, const uint32_t *starts, size_t s, const uint32_t *facts, size_t f)
 {
-    return spoiled(&(struct request){.call = CHECK, .job = {job, j}, .starts = {starts, s}, .facts = {facts, f}}, NULL, 0);
+    return spoiled(&(struct request){.call = CHECK, .job = {job, j}, .starts = {starts, s}, .facts = {facts, f}}, NULL,
+                   0);
 }
 
 uint64_t fill(const uint32_t *job, size_t j, const uint32_t *starts, size_t s, uint32_t *buffer, size_t b)
@@ -161,7 +172,8 @@ uint64_t fill(const uint32_t *job, size_t j, const uint32_t *starts, size_t s, u
 uint64_t find(const uint32_t *job, size_t j, const uint32_t *starts, size_t s, const uint32_t *facts, size_t f,
               uint32_t *buffer, size_t b)
 {
-    return spoiled(&(struct request){.call = FIND, .job = {job, j}, .starts = {starts, s}, .facts = {facts, f}}, buffer, b);
+    return spoiled(&(struct request){.call = FIND, .job = {job, j}, .starts = {starts, s}, .facts = {facts, f}}, buffer,
+                   b);
 }
 
 uint64_t trial_begin(const uint32_t *job, size_t j, uint32_t *trial, size_t t)
