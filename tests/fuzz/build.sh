@@ -1,5 +1,5 @@
 # How the fuzzer and the replayer are built; read by the scripts beside it, from the top of the repository.
-sources='tests/fuzz/input.c tests/fuzz/guard.c tests/fuzz/reading.c tests/fuzz/generate.c tests/fuzz/mutate.c tests/fuzz/counters.c tests/fuzz/shift.c tests/fuzz/group.c tests/fuzz/wide.c tests/fuzz/held.c tests/fuzz/trial.c tests/fuzz/harness.c'
+sources=$(for name in input guard calls counters generate mutate trial harness; do echo tests/fuzz/$name.c; done)
 strict='-std=c11 -Wall -Wextra -Wpedantic -Werror -Iinclude -O2 -g'
 
 # Compiles sources to target/fuzz/FOLDER, and prints the objects' names.
@@ -15,13 +15,7 @@ compile() { # FOLDER COMPILER-AND-WORDS SOURCE..
     done
 }
 
-# The harness with a main function of its own, for the machine's C compiler and its AddressSanitizer: prints the objects' names.
-compile_replay() {
-    # shellcheck disable=SC2086
-    compile replay-objects 'cc -fsanitize=address' $sources tests/fuzz/replay.c
-}
-
-# Debian's clang with its libFuzzer, where the machine has none.
+# Installs Debian's clang with its libFuzzer if the machine has none.
 need_clang() {
     mkdir -p target/fuzz
     echo 'int LLVMFuzzerTestOneInput(const void *d, unsigned long n) { (void)d; (void)n; return 0; }' >target/fuzz/try.c
@@ -29,7 +23,8 @@ need_clang() {
     apt-get update && apt-get install -y --no-install-recommends clang libclang-rt-14-dev
 }
 
-# A folder like the kit's, whose clang compiles each module twice: as the kit does, and with counters to OBJECT, a whole path.
+# Makes a folder like the kit's, whose clang compiles each module twice: as the kit does, and with counters to OBJECT,
+# an absolute path.
 counting_kit() { # FOLDER OBJECT
     kit=$(dirname "$(dirname "$(rt doc)")")
     own=on/$(uname -m)
@@ -49,7 +44,7 @@ WRAPPER
     chmod +x "$1/$own/toolchain/bin/clang"
 }
 
-# The proved module with counters: target/fuzz/counted.o. libplanreader.a is made by the way, as ever.
+# Writes the proved module with counters to target/fuzz/counted.o, beside libplanreader.a.
 build_counted() {
     counting_kit target/fuzz/kit "$(pwd)/target/fuzz/counted.o"
     rm -f target/fuzz/counted.o

@@ -1,5 +1,5 @@
-/* The coverage counters of the archive, where it has any. They are bytes and run over: one that is met 256 times in an input would show as not
- * met, and loops of 64 turns called four times do just that. So they are added up after each call, and stop at 255. */
+/* The coverage counters of the archive, if it has any. They are bytes that run over: one met 256 times in an input
+ * would show as not met. So they are added up after each call, and the sums stop at 255. */
 #ifndef COUNTERS_H
 #define COUNTERS_H
 

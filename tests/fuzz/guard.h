@@ -1,25 +1,24 @@
-/* Memory for the lists of a call: between two inaccessible pages, with guard words where the list does not reach them. */
+/* Memory for the lists of a call: each touches an inaccessible page, and has guard words on its other side. */
 #ifndef GUARD_H
 #define GUARD_H
-#include "word.h"
-#include <stdbool.h>
+#include "input.h"
 
 struct guarded {
+    size_t most;           /* the longest list, in words; set this alone */
     uint32_t *begin, *end; /* the accessible words */
     uint32_t *words;       /* the list */
     size_t len;
 };
 
-/* Maps room for lists of at most `most` words. */
-void guard_make(struct guarded *room, size_t most);
+/* Places a list in the room and returns where a call finds it: the room's end, or its begin if the choices say so. An
+ * empty list is NULL or points into an inaccessible page. */
+uint32_t *guard_lend(struct guarded *room, struct list contents, uint32_t choices);
 
-/* Makes a list of `len` words with these contents, at the room's end or begin, and guard words on its other side. */
-void guard_place(struct guarded *room, const uint32_t *contents, size_t len, bool at_begin);
+/* Lends a list that faults when written to. */
+struct list guard_lend_locked(struct guarded *room, struct list contents, uint32_t choices);
 
-/* From now on a write to the room faults; or it does not. */
-void guard_lock(struct guarded *room);
-void guard_unlock(struct guarded *room);
-
-/* Are the guard words as they were placed? */
+/* Whether the guard words are as they were placed. */
 bool guard_intact(const struct guarded *room);
+
+bool same_words(const uint32_t *a, const uint32_t *b, size_t len);
 #endif

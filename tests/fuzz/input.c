@@ -3,6 +3,7 @@
 
 static size_t least(size_t a, size_t b) { return a < b ? a : b; }
 
+/* Moves at most `wanted` words from the data to a list of at most `most`, and returns their number. */
 static size_t take(uint32_t *to, size_t wanted, size_t most, const uint8_t **data, size_t *left)
 {
     size_t len = least(least(wanted, most), *left);
@@ -10,17 +11,6 @@ static size_t take(uint32_t *to, size_t wanted, size_t most, const uint8_t **dat
     *data += len * sizeof *to;
     *left -= len;
     return len;
-}
-
-/* The bytes after the words: those that are there, and others by the words. The moment is then the last start's or the one after it. */
-static void decode_trial(struct input *in, const uint8_t *bytes, size_t number)
-{
-    uint32_t sum = in->choices, last = in->starts_len ? field(in->starts[in->starts_len - 1], 11, 6) : 0;
-    for (size_t i = 0; i < in->job_len; i++) sum = (sum ^ in->job[i]) * 16777619u;
-    for (size_t i = 0; i < in->starts_len; i++) sum = (sum ^ in->starts[i]) * 16777619u;
-    in->moment = number > 0 ? bytes[0] : (uint8_t)(last + (sum >> 31));
-    in->action = number > 1 ? bytes[1] : (uint8_t)(sum >> 16 & 7u);
-    in->odd = number > 2 ? bytes[2] : (uint8_t)(sum >> 30 & 1u ? sum >> 8 : 0);
 }
 
 void input_decode(struct input *in, const uint8_t *data, size_t size)
@@ -33,9 +23,13 @@ void input_decode(struct input *in, const uint8_t *data, size_t size)
     in->job_len = take(in->job, field(control, 19, 8), JOB_MOST, &data, &left);
     in->starts_len = take(in->starts, field(control, 31, 20), STARTS_MOST, &data, &left);
     in->facts_len = take(in->facts, left, FACTS_MOST, &data, &left);
-    decode_trial(in, bytes, size % sizeof control);
+    size_t rest = size % sizeof control;
+    in->moment = rest > 0 ? bytes[0] : 0;
+    in->action = rest > 1 ? bytes[1] : 0;
+    in->odd = rest > 2 ? bytes[2] : 0;
 }
 
+/* Writes words to the data from byte `at` on, so far as they fit, and returns the byte after them. */
 static size_t put(uint8_t *data, size_t at, size_t most, const uint32_t *from, size_t len)
 {
     size_t words = least(len, (most - at) / sizeof *from);
@@ -57,8 +51,10 @@ size_t input_encode(const struct input *in, uint8_t *data, size_t most)
 
 size_t buffer_words(uint32_t choices, uint32_t head)
 {
-    static const uint16_t narrow[16] = {4096, 0, 1, 64, 2048, 4032, 4094, 4095, 4097, 4098, 4160, 4200, 4500, 4999, 16384, 4096};
-    static const uint16_t wide[16] = {16384, 0, 1, 64, 4094, 4095, 4096, 4097, 5000, 8192, 12288, 16382, 16383, 16385, 16386, BUFFER_MOST};
+    static const uint16_t narrow[16] = {4096, 0,    1,    64,   2048, 4032, 4094,  4095,
+                                        4097, 4098, 4160, 4200, 4500, 4999, 16384, BUFFER_MOST};
+    static const uint16_t wide[16] = {16384, 0,    1,     64,    4094,  4095,  4096,  4097,
+                                      5000,  8192, 12288, 16382, 16383, 16385, 16386, BUFFER_MOST};
     return is_wide(head) ? wide[choices & 15u] : narrow[choices & 15u];
 }
 
