@@ -39,7 +39,9 @@ fn reading(call: &Call, world: &World, count: usize, given: &Given) -> Option<St
     let length = given.answer.length;
     let root = Triple { node: world.root(), begin: 0, end: world.last() };
     match length {
-        _ if given.answer != Answer::success(length, count) => Some(format!("the root reads, and the count is {count}")),
+        _ if given.answer != Answer::success(length, count) => {
+            Some(format!("the root reads, and the count is {count}"))
+        }
         _ if length > buffer.len() => Some("the reading is longer than the buffer".to_string()),
         _ if buffer[length..] != before[length..] => Some("a word after the reading is changed".to_string()),
         _ if !is_reading(world, &buffer[..length], root) => Some(format!("no reading: {:08x?}", &buffer[..length])),

@@ -110,7 +110,11 @@ type Read = (*const u32, usize);
 type Write = (*mut u32, usize);
 
 /// Lays the lists out between guard words, makes the call on them, and looks at what it left.
-fn with<const N: usize>(read: [&Vec<u32>; N], lent: Option<&Vec<u32>>, call: impl Fn([Read; N], Write) -> u64) -> Given {
+fn with<const N: usize>(
+    read: [&Vec<u32>; N],
+    lent: Option<&Vec<u32>>,
+    call: impl Fn([Read; N], Write) -> u64,
+) -> Given {
     let lists = read.map(|words| Guarded::new(words));
     let mut own = Guarded::new(lent.map_or(&[], |words| words));
     let length = own.words().len();

@@ -46,7 +46,8 @@ fn listings_are_the_files_word_for_word() {
 fn facts_are_those_of_the_rules() {
     for (folder, job) in folders() {
         let job = listed(&job, "job.txt");
-        let (starts, given): (Vec<u32>, Vec<u32>) = listed(&folder, "plan.txt").into_iter().partition(|&word| kind(word) == 9);
+        let (starts, given): (Vec<u32>, Vec<u32>) =
+            listed(&folder, "plan.txt").into_iter().partition(|&word| kind(word) == 9);
         if read_plan(&job, &starts).is_ok() {
             assert_eq!(facts(&job, &starts), given, "{folder:?}");
         }

@@ -54,7 +54,8 @@ fn empty_files_and_files_of_32_kib_are_good() {
     assert_eq!(printed_words(&vec![0; 8_192], &[]), "refused 1 at 0 triples 0\n");
     assert_eq!(printed_words(&job, &vec![0xa0000000; 8_192]), "refused 11 at 0 triples 0\n");
     assert_eq!(printed_words(&job, &vec![0x90000000; 8_192]), "refused 6 at 1 triples 0\n");
-    let wide: Vec<u32> = [0x1100011f].into_iter().chain(0x20000000..0x20000100).chain([0x30000001, 0x60000000]).collect();
+    let wide: Vec<u32> =
+        [0x1100011f].into_iter().chain(0x20000000..0x20000100).chain([0x30000001, 0x60000000]).collect();
     let facts: Vec<u32> = (0..32).flat_map(|t| (0..256).map(move |fluent| 10 << 28 | t << 9 | fluent << 1)).collect();
     assert_eq!(printed_words(&wide, &facts), "refused 13 at 0 triples 0\n");
     assert_eq!(printed_words(&wide, &[&[0x90000000], &facts[..]].concat()), "bad file\n");

@@ -21,7 +21,8 @@ fn is_as_listed(entry: &Entry, answer: Answer, lent: &[Vec<u32>]) -> bool {
     let length = if open || entry.written.len() > 1 { answer.length } else { entry.answer.length };
     let none = vec![vec![]];
     let written = if entry.written.is_empty() { &none } else { &entry.written };
-    answer == Answer { length, ..entry.answer } && (open || written.iter().any(|words| lent == lent_after(entry, words)))
+    answer == Answer { length, ..entry.answer }
+        && (open || written.iter().any(|words| lent == lent_after(entry, words)))
 }
 
 #[test]

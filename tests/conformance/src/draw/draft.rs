@@ -59,7 +59,8 @@ impl Draft {
         let head = vec![words::head(self.fluents, self.actions.len(), self.last)];
         let nodes = self.nodes.concat();
         let actions = self.actions.concat();
-        let parts = [&head, &self.initially, &actions, &self.windows, &self.groups, &self.pairs, &self.formulas, &nodes];
+        let parts =
+            [&head, &self.initially, &actions, &self.windows, &self.groups, &self.pairs, &self.formulas, &nodes];
         parts.into_iter().flatten().copied().collect()
     }
 

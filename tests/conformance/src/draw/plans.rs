@@ -1,11 +1,11 @@
 //! Lawful plans: jobs whose actions can be started, and starts chosen moment by moment within the rules.
 
+use crate::draw::draft::{Draft, Drawn};
+use crate::draw::{jobs, programs};
 use crate::oracle::facts::{initial_state, state_at, State};
 use crate::oracle::job::{read_job, Job};
 use crate::oracle::plan::read_plan;
 use crate::oracle::starts::{clash, exceeds, keeps_windows, Start};
-use crate::draw::draft::{Draft, Drawn};
-use crate::draw::{jobs, programs};
 use crate::random::Random;
 use crate::words;
 

@@ -1,10 +1,10 @@
 //! Programs with a reading: nodes are built from the root down around a chosen reading of a lawful plan.
 
-use crate::oracle::plan::read_plan;
+use crate::draw::draft::Draft;
 use crate::oracle::job::{Condition, Window};
+use crate::oracle::plan::read_plan;
 use crate::oracle::readings::conditions::{met, Placed};
 use crate::oracle::readings::world::World;
-use crate::draw::draft::Draft;
 use crate::random::Random;
 use crate::words;
 

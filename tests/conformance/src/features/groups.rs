@@ -133,7 +133,10 @@ fn situations(seen: &Seen) -> Vec<&'static str> {
     let finishes = |at: &Start| seen.starts.iter().any(|other| other.finishes(at.moment) && grouped(other.action) > 0);
     names.extend(met(&[
         ("a group at its limit", job.groups.iter().any(full)),
-        ("over the limit beside a start that finishes", seen.starts.iter().any(|at| grouped(at.action) > 0 && finishes(at))),
+        (
+            "over the limit beside a start that finishes",
+            seen.starts.iter().any(|at| grouped(at.action) > 0 && finishes(at)),
+        ),
         ("an action in two groups", seen.starts.iter().any(|at| grouped(at.action) > 1)),
         ("16 at a later start", seen.number == 16 && seen.position > 0),
         ("64 actions in one group", job.groups.iter().any(|group| group.actions.len() == 64)),
@@ -151,7 +154,10 @@ fn over(job: &Job, starts: &[Start], start: &Start) -> Vec<&'static str> {
     let own: Vec<&Group> = own.collect();
     let others = |earlier: bool| {
         let beside = starts.iter().filter(|other| other.in_hand(start.moment) && *other != start);
-        beside.filter(|other| (other.moment < start.moment) == earlier).filter(|at| own.iter().any(|of| is_of(of, at))).count()
+        beside
+            .filter(|other| (other.moment < start.moment) == earlier)
+            .filter(|at| own.iter().any(|of| is_of(of, at)))
+            .count()
     };
     met(&[
         ("over the limit by starts of one moment", others(false) > 0 && others(true) == 0),

@@ -89,6 +89,7 @@ fn accepted(job: &[u32]) -> Vec<&'static str> {
     let every = |of: usize, forms: usize| {
         (0..forms).all(|number| job.iter().any(|&word| kind(word) == of && form(word) == number))
     };
-    let sorts = [(5, 6, "every form of a formula"), (6, 9, "every form of a node"), (8, 5, "every form of a condition")];
+    let sorts =
+        [(5, 6, "every form of a formula"), (6, 9, "every form of a node"), (8, 5, "every form of a condition")];
     sorts.iter().filter(|&&(of, forms, _)| every(of, forms)).map(|&(_, _, name)| name).collect()
 }

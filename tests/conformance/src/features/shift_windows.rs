@@ -146,7 +146,10 @@ fn situations(seen: &Seen) -> Vec<&'static str> {
     let windowed = job.actions.iter().any(|action| !action.shifts.is_empty());
     let mut names: Vec<&'static str> = looked_at.iter().flat_map(|start| edges(job, start)).collect();
     names.extend(met(&[
-        ("a free action beside windows", windowed && looked_at.iter().any(|at| job.actions[at.action].shifts.is_empty())),
+        (
+            "a free action beside windows",
+            windowed && looked_at.iter().any(|at| job.actions[at.action].shifts.is_empty()),
+        ),
         ("15 at a later start", seen.number == 15 && seen.position > 0),
         ("a new start", windowed && new.is_some()),
     ]));
@@ -158,12 +161,16 @@ fn edges(job: &Job, start: &Start) -> Vec<&'static str> {
     let shifts = &job.actions[start.action].shifts;
     let (u, end) = (start.moment, start.moment + start.duration);
     let from = shifts.iter().any(|shift| shift.from <= u && u < shift.to && shift.to < end);
-    let meets = |to: usize| shifts.iter().any(|other| other.from <= to && to < end && end <= other.to && other.from > u);
+    let meets =
+        |to: usize| shifts.iter().any(|other| other.from <= to && to < end && end <= other.to && other.from > u);
     met(&[
         ("a start on from", shifts.iter().any(|shift| shift.from == u)),
         ("a start one before from", shifts.iter().any(|shift| shift.from == u + 1 && end <= shift.to)),
         ("a finish on to", shifts.iter().any(|shift| shift.to == end)),
         ("a finish one after to", shifts.iter().any(|shift| shift.to + 1 == end && shift.from <= u)),
-        ("two windows that only together hold a start", from && shifts.iter().any(|shift| shift.from <= u && meets(shift.to))),
+        (
+            "two windows that only together hold a start",
+            from && shifts.iter().any(|shift| shift.from <= u && meets(shift.to)),
+        ),
     ])
 }

@@ -114,7 +114,9 @@ impl Call {
     pub fn lent(&self) -> Vec<Vec<u32>> {
         match self {
             Call::Check { .. } => vec![],
-            Call::Fill { buffer, .. } | Call::Find { buffer, .. } | Call::TrialShow { buffer, .. } => vec![buffer.clone()],
+            Call::Fill { buffer, .. } | Call::Find { buffer, .. } | Call::TrialShow { buffer, .. } => {
+                vec![buffer.clone()]
+            }
             Call::TrialBegin { trial, .. } | Call::TrialStart { trial, .. } => vec![trial.clone()],
             Call::TrialOn { trial, .. } => vec![trial.clone()],
         }
