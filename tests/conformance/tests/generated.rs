@@ -1,6 +1,8 @@
 //! Drawn plans of each feature, and of several together, through every call.
 
-use conformance::features::{groups, jobs, plans, readings, shift_windows, trials, wide, Feature};
+use conformance::features::{
+    groups, jobs, plans, quiet_pause, readings, shift_windows, task_sets, trials, wide, Feature,
+};
 use conformance::run::{every_bit, generated, stepped};
 
 fn hold(features: &[Feature], seed: u64, how_many: usize) {
@@ -40,6 +42,16 @@ fn shift_windows() {
 #[test]
 fn groups() {
     hold(&[groups::FEATURE], 7, 2_000);
+}
+
+#[test]
+fn task_sets() {
+    hold(&[task_sets::FEATURE], 10, 2_000);
+}
+
+#[test]
+fn quiet_pause() {
+    hold(&[quiet_pause::FEATURE], 11, 2_000);
 }
 
 #[test]
