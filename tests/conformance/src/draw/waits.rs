@@ -41,7 +41,8 @@ fn flag_word(flag: usize, value: bool) -> u32 {
     words::initially(FIRST_FLUENT + flag, value)
 }
 
-/// Actions: those of the acts, one of one moment, a long one, and for each flag one that makes it false. No nodes.
+/// Actions: those of the acts, one of one moment, a long one, for each flag one that makes it false, and now and then others up
+/// to number 63. No nodes.
 fn draft(random: &mut Random, own: usize, flags: usize, latest: usize) -> Draft {
     let mut draft = Draft { fluents: FIRST_FLUENT + flags, last: 63, ..Draft::default() };
     draft.initially = vec![words::initially(1, true)];
@@ -59,6 +60,8 @@ fn draft(random: &mut Random, own: usize, flags: usize, latest: usize) -> Draft 
     for flag in 0..flags {
         draft.actions.push(vec![words::action(durations.len() + flag, 1), words::law(3, FIRST_FLUENT + flag)]);
     }
+    let actions = if random.chance(15) { 64 } else { 0 };
+    draft.actions.extend((draft.actions.len()..actions).map(|number| vec![words::action(number, 1)]));
     draft.formulas = vec![words::formula(0, 0, 0), words::formula(2, 0, 0), words::formula(1, 0, 0)];
     draft.formulas.extend((0..flags).map(|flag| words::formula(1, FIRST_FLUENT + flag, 0)));
     draft

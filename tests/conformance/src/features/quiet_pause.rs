@@ -33,6 +33,7 @@ pub const FEATURE: Feature = Feature {
         ("disturbed by an action that no node names", &[0, 13]),
         ("disturbed by an action of X", &[0, 13]),
         ("disturbed by an action of Y", &[0, 13]),
+        ("disturbed by action 63 alone", &[0, 13]),
         ("disturbed before k + M alone", &[0, 13]),
         ("a disturbed pause in a loop", &[0, 13]),
         ("a disturbed pause in an end window", &[0, 13]),
@@ -75,7 +76,9 @@ fn disturb(random: &mut Random, drawn: &mut Drawn) {
         let (k, m) = if pauses.is_empty() { (0, world.last()) } else { random.pick(&pauses).moments };
         let inside = random.between(k, m);
         let moment = *random.pick(&[k.saturating_sub(1), k, inside, m.saturating_sub(1), m, m + 1]);
-        let start = words::start(moment.min(63), random.below(drawn.draft.actions.len()));
+        let actions = drawn.draft.actions.len();
+        let action = if random.chance(40) { actions - 1 } else { random.below(actions) };
+        let start = words::start(moment.min(63), action);
         let starts: BTreeSet<u32> = drawn.starts.iter().copied().chain([start]).collect();
         let starts: Vec<u32> = starts.into_iter().collect();
         if starts.len() > drawn.starts.len() && read_plan(&drawn.draft.words(), &starts).is_ok() {
@@ -182,6 +185,7 @@ fn of_disturbed(world: &World, pause: &Pause) -> Vec<&'static str> {
         ("disturbed by an action that no node names", unnamed),
         ("disturbed by an action of X", named(*x)),
         ("disturbed by an action of Y", named(*y)),
+        ("disturbed by action 63 alone", by.iter().all(|start| start.action == 63)),
         ("disturbed before k + M alone", by.iter().all(|start| start.moment < k + window.m)),
         ("a disturbed pause in a loop", above.contains(&5)),
         ("a disturbed pause in an end window", above.contains(&7)),
