@@ -45,16 +45,6 @@ fn groups() {
 }
 
 #[test]
-fn task_sets() {
-    hold(&[task_sets::FEATURE], 10, 2_000);
-}
-
-#[test]
-fn quiet_pause() {
-    hold(&[quiet_pause::FEATURE], 11, 2_000);
-}
-
-#[test]
 fn windows_and_groups_together() {
     let together = [readings::FEATURE, shift_windows::FEATURE, groups::FEATURE];
     generated(&together, 8, 1_000).assert(&[]);
@@ -74,4 +64,20 @@ fn every_bit_of_wide_jobs() {
 #[test]
 fn trials() {
     hold(&[trials::FEATURE], 12, 3_000);
+}
+
+#[test]
+fn task_sets() {
+    hold(&[task_sets::FEATURE], 13, 2_000);
+}
+
+#[test]
+fn quiet_pause() {
+    hold(&[quiet_pause::FEATURE], 14, 2_000);
+}
+
+#[test]
+fn sets_and_pauses_together() {
+    generated(&[readings::FEATURE, task_sets::FEATURE, quiet_pause::FEATURE], 15, 500).assert(&[]);
+    generated(&[quiet_pause::FEATURE, task_sets::FEATURE, groups::FEATURE, wide::FEATURE], 16, 500).assert(&[]);
 }

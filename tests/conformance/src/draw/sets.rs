@@ -1,5 +1,5 @@
-//! Plans around task sets. Placements are chosen first; members, starts and conditions are drawn to fit them. Bit t of a mask
-//! stands for moment t.
+//! Plans around task sets. Placements are chosen first; members, starts and conditions are drawn to fit them.
+//! Bit t of a mask stands for moment t.
 
 use crate::draw::draft::{Draft, Drawn};
 use crate::draw::placements::{conditions, covering};
@@ -11,61 +11,52 @@ use crate::words;
 
 /// Conditions choose among formula 0, which always holds, and so many after it.
 const ASKED: usize = 3;
-
 /// A formula that holds at a mask takes a fluent and two actions.
 const MOST_MASKS: usize = 24;
-
 /// The actions of acts come first, whether they are used or not.
 const ACTS: usize = 8;
-
 /// A set with more nodes before it than this has no set among its members.
 const MOST_NODES: usize = 20;
 
 /// A set as the root, between waits, or as the body of a loop.
 pub fn any(random: &mut Random) -> Drawn {
     let last = *random.pick(&[0, 1, 2, 2, 3, 3, 4, 4, 5, 5, 6, 6, 7, 8, 12, 20, 63]);
-    match random.below(5) {
-        0 => {
-            let begin = random.below(last + 1);
-            let end = random.between(begin, last);
-            let mut builder = Builder::new(random, last);
-            let set = builder.set(&[Placed { begin, end }], 1);
-            builder.between_waits(set);
-            builder.drawn()
-        }
-        1 | 2 => {
-            let passes = passes(random);
-            let mut builder = Builder::new(random, passes[passes.len() - 1].end);
-            let set = builder.set(&passes, 1);
-            let formula = builder.formula(!(1 << builder.last));
-            builder.add(vec![words::node(5, formula, set, 0, 0)]);
-            builder.drawn()
-        }
-        _ => {
-            let mut builder = Builder::new(random, last);
-            builder.set(&[Placed { begin: 0, end: last }], 2);
-            builder.drawn()
-        }
+    let place = random.below(5);
+    let (begin, passes) = (random.below(last + 1), passes(random));
+    let (last, spans) = match place {
+        0 => (last, vec![Placed { begin, end: random.between(begin, last) }]),
+        1 | 2 => (passes[passes.len() - 1].end, passes),
+        _ => (last, vec![Placed { begin: 0, end: last }]),
+    };
+    let mut builder = Builder::new(random, last);
+    let set = builder.set(&spans, 2);
+    match place {
+        0 => builder.between_waits(set),
+        1 | 2 => builder.repeated(set),
+        _ => (),
     }
+    drawn(last, &builder.masks, &builder.acts, builder.nodes)
 }
 
 /// Passes of a loop, each from the end of the one before, equally long or now and then a moment longer.
 fn passes(random: &mut Random) -> Vec<Placed> {
     let length = random.between(1, 9);
     let count = random.between(1, 63 / length);
-    let mut begin = 0;
-    let mut passes = vec![];
-    for left in (1..=count).rev() {
-        let has_room = begin + left * length < 63;
-        let end = begin + length + usize::from(has_room && random.chance(20));
-        passes.push(Placed { begin, end });
-        begin = end;
-    }
-    passes
+    let mut end = 0;
+    let pass = |left: usize| {
+        let begin = end;
+        end += length + usize::from(begin + left * length < 63 && random.chance(20));
+        Placed { begin, end }
+    };
+    (1..=count).rev().map(pass).collect()
 }
 
 fn moments_to(last: usize) -> u64 {
     u64::MAX >> (63 - last)
+}
+
+fn mask(moments: impl Iterator<Item = usize>) -> u64 {
+    moments.fold(0, |mask, moment| mask | 1 << moment)
 }
 
 /// Moments up to the last: all, all but one, any, the first ones or the last ones.
@@ -101,10 +92,6 @@ impl Builder<'_> {
         Builder { random, last, masks, acts: vec![], nodes: vec![], world: World::new(&plan) }
     }
 
-    fn drawn(self) -> Drawn {
-        drawn(self.last, &self.masks, &self.acts, self.nodes)
-    }
-
     fn add(&mut self, node: Vec<u32>) -> usize {
         self.nodes.push(node);
         self.nodes.len() - 1
@@ -137,11 +124,7 @@ impl Builder<'_> {
 
     /// A set that reads each of these spans, with sets in it so deep at most.
     fn set(&mut self, spans: &[Placed], depth: usize) -> usize {
-        let most = match spans.len() {
-            0..=8 => 4,
-            9..=16 => 3,
-            _ => 2,
-        };
+        let most = [4, 3, 2][(spans.len() / 9).min(2)];
         let members = self.random.between(1, most);
         let placements = self.placements(spans, members);
         let mut set = vec![words::node(8, 0, 0, 0, 0)];
@@ -157,14 +140,11 @@ impl Builder<'_> {
     /// For each span a placement of the members that covers it: the same one, but for the last ends of a longer span.
     fn placements(&mut self, spans: &[Placed], members: usize) -> Vec<Vec<Placed>> {
         let length = spans.iter().map(|span| span.end - span.begin).min().expect("there is a span");
-        let shape = match length > 0 && members > 1 && self.random.chance(15) {
-            true => {
-                let mut shape = covering(self.random, 0, length - 1, members - 1);
-                shape.insert(self.random.below(members), Placed { begin: length, end: length });
-                shape
-            }
-            false => covering(self.random, 0, length, members),
-        };
+        let mut shape = covering(self.random, 0, length, members);
+        if length > 0 && members > 1 && self.random.chance(15) {
+            shape = covering(self.random, 0, length - 1, members - 1);
+            shape.insert(self.random.below(members), Placed { begin: length, end: length });
+        }
         let end = |span: &Placed, end: usize| if end == length { span.end } else { span.begin + end };
         let placed = |span: &Placed, of: &Placed| Placed { begin: span.begin + of.begin, end: end(span, of.end) };
         spans.iter().map(|span| shape.iter().map(|of| placed(span, of)).collect()).collect()
@@ -195,7 +175,7 @@ impl Builder<'_> {
         if lasts == 0 || !alike || self.acts.len() == ACTS {
             return None;
         }
-        let mut begins = spans.iter().fold(0, |mask, span| mask | 1 << span.begin);
+        let mut begins = mask(spans.iter().map(|span| span.begin));
         let extra = self.random.below(self.last + 1);
         let apart = |span: &Placed| span.end <= extra || extra + lasts <= span.begin;
         if extra + lasts <= self.last && spans.iter().all(apart) {
@@ -207,7 +187,7 @@ impl Builder<'_> {
 
     /// A loop of steps to the next end of a span, if none of the spans begins at one of their ends.
     fn steps(&mut self, spans: &[Placed]) -> Option<usize> {
-        let ends = spans.iter().fold(0_u64, |mask, span| mask | 1 << span.end);
+        let ends = mask(spans.iter().map(|span| span.end));
         if self.last > 12 || spans.iter().any(|span| ends >> span.begin & 1 == 1) {
             return None;
         }
@@ -218,8 +198,8 @@ impl Builder<'_> {
 
     /// A test or a wait that reads each of these spans and a little more.
     fn window(&mut self, spans: &[Placed]) -> usize {
-        let begins = spans.iter().fold(self.few_moments(), |mask, span| mask | 1 << span.begin);
-        let ends = spans.iter().fold(self.few_moments(), |mask, span| mask | 1 << span.end);
+        let begins = self.few_moments() | mask(spans.iter().map(|span| span.begin));
+        let ends = self.few_moments() | mask(spans.iter().map(|span| span.end));
         let lengths = || spans.iter().map(|span| span.end - span.begin);
         let (least, most) = (lengths().min().unwrap_or(0), lengths().max().unwrap_or(0));
         if most == 0 && self.random.chance(40) {
@@ -234,8 +214,14 @@ impl Builder<'_> {
     fn few_moments(&mut self) -> u64 {
         match self.random.below(4) {
             0 if self.last <= 6 => some_moments(self.random, self.last),
-            most => (0..most).fold(0, |mask, _| mask | 1 << self.random.below(self.last + 1)),
+            most => mask((0..most).map(|_| self.random.below(self.last + 1))),
         }
+    }
+
+    /// A loop of the set up to the last moment.
+    fn repeated(&mut self, set: usize) {
+        let formula = self.formula(!(1 << self.last));
+        self.add(vec![words::node(5, formula, set, 0, 0)]);
     }
 
     /// A wait from 0 to any moment, the set, and a wait from any moment to n: it reads if the set reads anything.
@@ -247,8 +233,8 @@ impl Builder<'_> {
     }
 }
 
-/// A plan in which formula f + 1, that of fluent f, holds at the moments of mask f alone; after the actions of acts, two of one
-/// moment make a fluent true and false. At 0 a fluent that does not hold is open or known false.
+/// A plan in which formula f + 1, that of fluent f, holds at the moments of mask f alone. After the actions of acts,
+/// two of one moment make a fluent true and false. At 0 a fluent that does not hold is open or known false.
 fn drawn(last: usize, masks: &[u64], acts: &[(usize, u64)], nodes: Vec<Vec<u32>>) -> Drawn {
     let mut draft = Draft { fluents: masks.len(), last, nodes, ..Draft::default() };
     let holds = |fluent: usize, t: usize| masks[fluent] >> t & 1 == 1;
@@ -257,10 +243,9 @@ fn drawn(last: usize, masks: &[u64], acts: &[(usize, u64)], nodes: Vec<Vec<u32>>
     let lasts = |act: usize| acts.get(act).map_or(1, |&(lasts, _)| lasts);
     draft.actions = (0..ACTS).map(|act| vec![words::action(act, lasts(act))]).collect();
     draft.formulas = vec![words::formula(0, 0, 0)];
-    let mut starts = vec![];
-    for (act, &(_, begins)) in acts.iter().enumerate() {
-        starts.extend((0..=last).filter(|t| begins >> t & 1 == 1).map(|t| words::start(t, act)));
-    }
+    let pairs = (0..acts.len()).flat_map(|act| (0..=last).map(move |t| (t, act)));
+    let mut starts: Vec<u32> =
+        pairs.filter(|&(t, act)| acts[act].1 >> t & 1 == 1).map(|(t, act)| words::start(t, act)).collect();
     for fluent in 0..masks.len() {
         let first = draft.actions.len();
         draft.actions.push(vec![words::action(first, 1), words::law(2, fluent)]);

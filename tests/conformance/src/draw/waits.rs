@@ -1,5 +1,5 @@
-//! Plans of a procedure that was carried out: the nodes are drawn first, many of them end windows, and doing what they say
-//! gives the starts.
+//! Plans of a procedure that was carried out: the nodes are drawn first, many of them end windows, and doing what
+//! they say gives the starts.
 
 use crate::draw::draft::{Draft, Drawn};
 use crate::oracle::job::{read_job, Job, Node, Window};
@@ -7,7 +7,7 @@ use crate::random::Random;
 use crate::words;
 use std::collections::BTreeSet;
 
-// Formulas: 0 always holds, 1 is contrary to 2, a fluent that starts may make true; those from FIRST_FLAG on are flags of loops.
+// Formulas: 0 always holds, 1 is contrary to 2, a fluent that starts may make true. The others are flags of loops.
 const ALWAYS: usize = 0;
 const MADE: usize = 2;
 const FIRST_FLAG: usize = 3;
@@ -41,8 +41,8 @@ fn flag_word(flag: usize, value: bool) -> u32 {
     words::initially(FIRST_FLUENT + flag, value)
 }
 
-/// Actions: those of the acts, one of one moment, a long one, for each flag one that makes it false, and now and then others up
-/// to number 63. No nodes.
+/// Actions: those of the acts, one of one moment, a long one, for each flag one that makes it false, and now and then
+/// others up to number 63. No nodes.
 fn draft(random: &mut Random, own: usize, flags: usize, latest: usize) -> Draft {
     let mut draft = Draft { fluents: FIRST_FLUENT + flags, last: 63, ..Draft::default() };
     draft.initially = vec![words::initially(1, true)];

@@ -33,7 +33,7 @@ pub const FEATURE: Feature = Feature {
         ("disturbed by an action that no node names", &[0, 13]),
         ("disturbed by an action of X", &[0, 13]),
         ("disturbed by an action of Y", &[0, 13]),
-        ("disturbed by action 63 alone", &[0, 13]),
+        ("disturbed by action 63 alone", &[13]),
         ("disturbed before k + M alone", &[0, 13]),
         ("a disturbed pause in a loop", &[0, 13]),
         ("a disturbed pause in an end window", &[0, 13]),
@@ -106,11 +106,10 @@ fn pauses(world: &World, decision: &Decision) -> Vec<Pause> {
     pauses
 }
 
-/// End windows of acts and tests with M ≤ N ≤ 2, alone and within and around a loop, a set and other windows.
+/// End windows of acts and tests with M ≤ N ≤ 2; those with N = M + 1 also within a loop, a set and other windows.
 fn tiny(draft: &Draft) -> Vec<Draft> {
-    let formulas = vec![words::formula(0, 0, 0), words::formula(1, 0, 0)];
-    let other = draft.actions.len() - 1;
-    let (always, first, last) = (words::node(1, 0, 0, 0, 0), words::node(0, 0, 0, 0, 0), words::node(0, other, 0, 0, 0));
+    let act = |action: usize| words::node(0, action, 0, 0, 0);
+    let (always, first, last) = (words::node(1, 0, 0, 0, 0), act(0), act(draft.actions.len() - 1));
     let leaves = [(first, last), (first, always), (always, first), (always, last), (always, always)];
     let mut drafts = vec![];
     for (m, n) in [(0, 0), (0, 1), (0, 2), (1, 1), (1, 2), (2, 2)] {
@@ -123,9 +122,10 @@ fn tiny(draft: &Draft) -> Vec<Draft> {
             &[vec![last], vec![words::node(7, 2, 3, m, n)]],
             &[vec![first], vec![words::node(7, 3, 2, 0, n)]],
         ];
+        let around = if n == m + 1 { &around[..] } else { &around[..1] };
         for ((x, y), above) in leaves.iter().flat_map(|leaf| around.iter().map(move |above| (*leaf, above))) {
             let nodes = [&[vec![x], vec![y], vec![wait]], *above].concat();
-            drafts.push(Draft { nodes, formulas: formulas.clone(), ..draft.clone() });
+            drafts.push(Draft { nodes, ..draft.clone() });
         }
     }
     drafts
@@ -145,7 +145,9 @@ fn of_pause(world: &World, pause: &Pause) -> Vec<&'static str> {
     let (k, m) = pause.moments;
     let started: Vec<usize> = (k..=m).filter(|&t| world.starts_at(t)).collect();
     let disturbed = started.first().is_some_and(|&t| t < m);
-    let through = |from: usize, to: usize| world.starts.iter().any(|start| start.moment < from && to <= start.moment + start.duration);
+    let through = |from: usize, to: usize| {
+        world.starts.iter().any(|start| start.moment < from && to <= start.moment + start.duration)
+    };
     let mut names = met(&[
         ("a start at k - 1", k > 0 && world.starts_at(k - 1)),
         ("a start in hand throughout a quiet pause", k < m && !disturbed && through(k, m)),

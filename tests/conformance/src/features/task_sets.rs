@@ -1,5 +1,5 @@
-//! Document 01, task sets: "each member i reads some b_i to e_i inside b..e, each moment of b..e lies in some b_i..e_i, ends
-//! included, and all conditions are met."
+//! Document 01, task sets: "each member i reads some b_i to e_i inside b..e, each moment of b..e lies in some b_i..e_i,
+//! ends included, and all conditions are met."
 
 use crate::draw::draft::{Draft, Drawn};
 use crate::draw::placements::conditions;
@@ -51,7 +51,7 @@ pub const FEATURE: Feature = Feature {
     ],
 };
 
-/// A set of the procedure and a test at any moment, with conditions that a reading from 0 to n and one such moment meet.
+/// A set of the procedure and a test, with conditions that a reading from 0 to n and one moment of the test meet.
 fn add(random: &mut Random, drawn: &mut Drawn) {
     let draft = &mut drawn.draft;
     if draft.nodes.len() > 62 || draft.formulas.is_empty() {
@@ -94,8 +94,7 @@ fn spoil(random: &mut Random, drawn: &mut Drawn) {
 
 /// Two members, each an act, a test or a wait of up to two moments, without a condition and with one of each form.
 fn tiny(draft: &Draft) -> Vec<Draft> {
-    let formulas = vec![words::formula(0, 0, 0), words::formula(1, 0, 0)];
-    let windows = [(0, 0), (0, 1), (1, 1), (1, 2)];
+    let windows = [(0, 0), (0, 1), (1, 2)];
     let with = |form: usize| windows.map(|(m, n)| [(0, 1), (1, 0), (1, 1)].map(|(i, j)| condition(form, i, j, m, n)));
     let conditions = (0..5).flat_map(with).flatten();
     let mut drafts = vec![];
@@ -105,7 +104,7 @@ fn tiny(draft: &Draft) -> Vec<Draft> {
             let actions = draft.actions.len();
             let members = [members.0, members.1].map(|which| words::member(tiny_member(&mut nodes, which, actions)));
             nodes.push([&[words::node(8, 0, 0, 0, 0)], &members[..], condition.as_slice()].concat());
-            drafts.push(Draft { nodes, formulas: formulas.clone(), ..draft.clone() });
+            drafts.push(Draft { nodes, ..draft.clone() });
         }
     }
     drafts
@@ -137,11 +136,13 @@ fn situations(seen: &Seen) -> Vec<&'static str> {
         let word = seen.call.list("job").get(seen.position);
         return met(&[("a word of kind 7 or 8 refused", word.is_some_and(|&word| matches!(kind(word), 7 | 8)))]);
     }
-    let mut names = seen.decided(|world, decision| world.job.nodes.iter().flat_map(|node| of_set(world, decision, node)).collect());
+    let mut names =
+        seen.decided(|world, decision| world.job.nodes.iter().flat_map(|node| of_set(world, decision, node)).collect());
     let (Expected::Reading { world, .. }, reading) = (seen.expected, seen.reading) else { return names };
     let Node::While { body, .. } = world.node(world.root()) else { return names };
     let passes = reading.iter().filter(|&&word| field(word, 17, 12) == *body);
-    let moments: Vec<usize> = passes.map(|&word| field(word, 5, 0) + 1 - field(word, 11, 6).min(field(word, 5, 0))).collect();
+    let moments: Vec<usize> =
+        passes.map(|&word| field(word, 5, 0) + 1 - field(word, 11, 6).min(field(word, 5, 0))).collect();
     names.extend(met(&[
         ("a pass of at most four moments", moments.iter().any(|&moments| moments <= 4)),
         ("a pass of five moments", moments.contains(&5)),
@@ -168,7 +169,8 @@ fn of_set(world: &World, decision: &Decision, node: &Node) -> Vec<&'static str> 
         ("a loop within a set", has(5)),
     ]);
     for condition in conditions {
-        let pairs = spans[condition.i].iter().take(8).flat_map(|&i| spans[condition.j].iter().take(8).map(move |&j| (i, j)));
+        let pairs =
+            spans[condition.i].iter().take(8).flat_map(|&i| spans[condition.j].iter().take(8).map(move |&j| (i, j)));
         names.extend(pairs.flat_map(|(i, j)| edges(world.last(), condition, i, j)));
     }
     names.sort();
