@@ -1,4 +1,4 @@
-//! Placements of a task set's members, and conditions that they meet, often just so.
+//! Placements of a task set's members, passes of a loop over it, and conditions that are met, often just so.
 
 use crate::oracle::job::{Condition, Window};
 use crate::oracle::readings::conditions::{met, Placed};
@@ -18,6 +18,19 @@ pub fn covering(random: &mut Random, b: usize, e: usize, members: usize) -> Vec<
     }
     random.shuffle(&mut placed);
     placed
+}
+
+/// Passes of a loop, each from the end of the one before, equally long or now and then a moment longer.
+pub fn passes(random: &mut Random) -> Vec<Placed> {
+    let length = random.between(1, 9);
+    let count = random.between(1, 63 / length);
+    let mut end = 0;
+    let pass = |left: usize| {
+        let begin = end;
+        end += length + usize::from(begin + left * length < 63 && random.chance(20));
+        Placed { begin, end }
+    };
+    (1..=count).rev().map(pass).collect()
 }
 
 /// At most so many conditions, each of which all these placements of the same members meet.

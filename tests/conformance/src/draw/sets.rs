@@ -2,7 +2,7 @@
 //! Bit t of a mask stands for moment t.
 
 use crate::draw::draft::{Draft, Drawn};
-use crate::draw::placements::{conditions, covering};
+use crate::draw::placements::{conditions, covering, passes};
 use crate::oracle::plan::read_plan;
 use crate::oracle::readings::conditions::Placed;
 use crate::oracle::readings::world::World;
@@ -36,19 +36,6 @@ pub fn any(random: &mut Random) -> Drawn {
         _ => (),
     }
     drawn(last, &builder.masks, &builder.acts, builder.nodes)
-}
-
-/// Passes of a loop, each from the end of the one before, equally long or now and then a moment longer.
-fn passes(random: &mut Random) -> Vec<Placed> {
-    let length = random.between(1, 9);
-    let count = random.between(1, 63 / length);
-    let mut end = 0;
-    let pass = |left: usize| {
-        let begin = end;
-        end += length + usize::from(begin + left * length < 63 && random.chance(20));
-        Placed { begin, end }
-    };
-    (1..=count).rev().map(pass).collect()
 }
 
 fn moments_to(last: usize) -> u64 {
@@ -150,7 +137,7 @@ impl Builder<'_> {
         spans.iter().map(|span| shape.iter().map(|of| placed(span, of)).collect()).collect()
     }
 
-    /// A node that reads each of these spans, and mostly others.
+    /// A node that reads each of these spans, and mostly others; now and then in a choice or a start window.
     fn member(&mut self, spans: &[Placed], depth: usize) -> usize {
         let small = self.nodes.len() < MOST_NODES;
         let node = match self.random.below(8) {
@@ -160,12 +147,18 @@ impl Builder<'_> {
             _ => None,
         };
         let node = node.unwrap_or_else(|| self.window(spans));
-        if small && self.random.chance(15) {
-            let (begins, ends) = (self.few_moments(), self.few_moments());
-            let other = self.wait(begins, ends, (0, 63));
-            return self.add(vec![words::node(3, node, other, 0, 0)]);
+        match self.random.below(if small { 100 } else { 1 }) {
+            1..=15 => {
+                let (begins, ends) = (self.few_moments(), self.few_moments());
+                let other = self.wait(begins, ends, (0, 63));
+                self.add(vec![words::node(3, node, other, 0, 0)])
+            }
+            16..=25 => {
+                let at_begin = self.test(u64::MAX);
+                self.add(vec![words::node(6, node, at_begin, 0, 0)])
+            }
+            _ => node,
         }
-        node
     }
 
     /// An action that is started at the begin of each span and lasts to its end, if the spans last equally long.
