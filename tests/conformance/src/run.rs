@@ -98,7 +98,8 @@ pub fn tiny(features: &[Feature], bases: &[Draft]) -> Report {
     for feature in features {
         drafts = drafts.iter().flat_map(|draft| (feature.tiny)(draft)).collect();
     }
-    drafts.iter().step_by(drafts.len() / MOST_TINY + 1).for_each(|draft| run.every_list(draft));
+    let every = drafts.len() / MOST_TINY + 1;
+    drafts.iter().step_by(every).enumerate().for_each(|(number, draft)| run.every_list(draft, number));
     run.report
 }
 
@@ -225,8 +226,8 @@ impl Run<'_> {
         }
     }
 
-    /// Asks about every ascending list of starts of a tiny job.
-    fn every_list(&mut self, draft: &Draft) {
+    /// Asks about every ascending list of starts of a tiny job, the job of this number.
+    fn every_list(&mut self, draft: &Draft, number: usize) {
         let job = draft.words();
         let actions = draft.actions.len();
         let latest = |action: usize| (draft.last + 1).saturating_sub(draft.duration(action));
@@ -235,7 +236,7 @@ impl Run<'_> {
         all.sort();
         for chosen in 0..1_usize << all.len() {
             let starts: Vec<u32> = (0..all.len()).filter(|place| chosen >> place & 1 == 1).map(|at| all[at]).collect();
-            self.tiny_plan(&job, &starts, chosen);
+            self.tiny_plan(&job, &starts, chosen + number);
         }
     }
 

@@ -1,6 +1,8 @@
 //! Drawn plans of each feature, and of several together, through every call.
 
-use conformance::features::{groups, jobs, plans, readings, shift_windows, trials, wide, Feature};
+use conformance::features::{
+    groups, jobs, plans, quiet_pause, readings, shift_windows, task_sets, trials, wide, Feature,
+};
 use conformance::run::{every_bit, generated, stepped};
 
 fn hold(features: &[Feature], seed: u64, how_many: usize) {
@@ -62,4 +64,20 @@ fn every_bit_of_wide_jobs() {
 #[test]
 fn trials() {
     hold(&[trials::FEATURE], 12, 3_000);
+}
+
+#[test]
+fn task_sets() {
+    hold(&[task_sets::FEATURE], 13, 2_000);
+}
+
+#[test]
+fn quiet_pause() {
+    hold(&[quiet_pause::FEATURE], 14, 2_000);
+}
+
+#[test]
+fn sets_and_pauses_together() {
+    generated(&[readings::FEATURE, task_sets::FEATURE, quiet_pause::FEATURE], 15, 500).assert(&[]);
+    generated(&[quiet_pause::FEATURE, task_sets::FEATURE, groups::FEATURE, wide::FEATURE], 16, 500).assert(&[]);
 }

@@ -1,7 +1,7 @@
 //! Every list of starts of tiny jobs that have a feature, or several, in each way.
 
 use conformance::draw::draft::Draft;
-use conformance::features::{groups, readings, shift_windows, wide, Feature};
+use conformance::features::{groups, quiet_pause, readings, shift_windows, task_sets, wide, Feature};
 use conformance::run::tiny;
 use conformance::words::{action, formula, initially, law, node};
 
@@ -50,6 +50,16 @@ fn groups() {
 #[test]
 fn readings() {
     (0..=3).for_each(|last| hold(&[readings::FEATURE], last));
+}
+
+#[test]
+fn task_sets() {
+    (0..=3).for_each(|last| hold(&[task_sets::FEATURE], last));
+}
+
+#[test]
+fn quiet_pause() {
+    (0..=3).for_each(|last| hold(&[quiet_pause::FEATURE], last));
 }
 
 #[test]

@@ -1,9 +1,9 @@
 //! Programs with a reading: nodes are built from the root down around a chosen reading of a lawful plan.
 
 use crate::draw::draft::Draft;
-use crate::oracle::job::{Condition, Window};
+use crate::draw::placements::{conditions, covering, window_around};
+use crate::oracle::job::Window;
 use crate::oracle::plan::read_plan;
-use crate::oracle::readings::conditions::{met, Placed};
 use crate::oracle::readings::world::World;
 use crate::random::Random;
 use crate::words;
@@ -76,7 +76,7 @@ impl Builder<'_> {
         let (x, k) = self.act_or_test_from(b, e);
         let (y, m) = self.act_or_test_to(k, e);
         let form = self.form_of_wait(k, m);
-        let Window { m, n } = self.window_around(if form == 6 { m - b } else { m - k });
+        let Window { m, n } = window_around(self.random, if form == 6 { m - b } else { m - k });
         self.add(vec![words::node(form, x, y, m, n)])
     }
 
@@ -133,13 +133,6 @@ impl Builder<'_> {
         let all = 0..self.world.job.formulas.len();
         let fitting: Vec<usize> = all.filter(|&formula| fits(self.world, formula)).collect();
         (!fitting.is_empty()).then(|| *self.random.pick(&fitting))
-    }
-
-    /// A window that the difference lies in, often at its edge.
-    fn window_around(&mut self, difference: usize) -> Window {
-        let m = if self.random.chance(50) { difference } else { self.random.below(difference + 1) };
-        let n = if self.random.chance(50) { difference } else { self.random.between(difference, 63) };
-        Window { m, n }
     }
 
     /// A moment between b and e, rather one where a start that begins at b or ends at e leads.
@@ -268,7 +261,7 @@ impl Builder<'_> {
         };
         let x = self.reading(b, k, first);
         let y = self.reading(m, l, second);
-        let window = self.window_around(m - b);
+        let window = window_around(self.random, m - b);
         self.add(vec![words::node(6, x, y, window.m, window.n)])
     }
 
@@ -278,75 +271,21 @@ impl Builder<'_> {
         let m = self.cut(k, e).min(self.quiet_from(k));
         let x = self.reading(b, k, first);
         let y = self.reading(m, e, second);
-        let window = self.window_around(m - k);
+        let window = window_around(self.random, m - k);
         self.add(vec![words::node(7, x, y, window.m, window.n)])
     }
 
     fn task_set(&mut self, b: usize, e: usize, nodes: usize) -> usize {
         let members = self.random.between(1, 4).min(nodes / LEAST_NODES);
-        let placed = self.covering(b, e, members);
+        let placed = covering(self.random, b, e, members);
         let mut set = vec![words::node(8, 0, 0, 0, 0)];
         for member in &placed {
             let node = self.reading(member.begin, member.end, nodes / members);
             set.push(words::member(node));
         }
-        for _ in 0..*self.random.pick(&[0, 1, 1, 2, 3, 12]) {
-            let word = self.condition(&placed);
-            if set.len() < 1 + members + 8 {
-                set.extend(word);
-            }
-        }
+        let most = *self.random.pick(&[0, 1, 1, 2, 3, 12]);
+        set.extend(conditions(self.random, self.world, &[placed], most).iter().take(8));
         self.add(set)
-    }
-
-    /// So many spans inside b..e that leave no moment of it uncovered, in any order.
-    fn covering(&mut self, b: usize, e: usize, members: usize) -> Vec<Placed> {
-        let mut placed = vec![];
-        let mut next = b;
-        for left in (0..members).rev() {
-            let begin = if self.random.chance(70) { next } else { self.random.between(b, next) };
-            let end = if left == 0 { e } else { self.random.between(begin, e) };
-            placed.push(Placed { begin, end });
-            next = next.max((end + self.random.below(2)).min(e));
-        }
-        self.random.shuffle(&mut placed);
-        placed
-    }
-
-    /// A condition that this placement meets, if the draw gives one.
-    fn condition(&mut self, placed: &[Placed]) -> Option<u32> {
-        let i = self.random.below(placed.len());
-        let j = self.random.below(placed.len());
-        let form = self.random.below(5);
-        let formula = self.random.below(self.world.job.formulas.len());
-        let window = self.condition_window(form, placed[i], placed[j])?;
-        let Window { m, n } = window;
-        let condition = Condition { form, formula, i, j, window };
-        met(self.world, &condition, placed).then(|| match form {
-            0 | 1 => words::condition(form, 0, i, j, m, n),
-            2 | 3 => words::condition(form, formula, i, 0, m, n),
-            _ => words::condition(form, formula, i, j, m, n),
-        })
-    }
-
-    fn condition_window(&mut self, form: usize, i: Placed, j: Placed) -> Option<Window> {
-        match form {
-            0 => Some(self.window_around(j.begin.checked_sub(i.begin)?)),
-            1 => Some(self.window_around(j.begin.checked_sub(i.end)?)),
-            2 => Some(self.window_up_to(i.begin)),
-            3 => Some(self.window_up_to(self.world.last() - i.end)),
-            _ => {
-                let room = j.begin.saturating_sub(i.end) + 1;
-                Some(Window { m: self.random.below(room + 1), n: self.random.below(room + 1) })
-            }
-        }
-    }
-
-    /// M ≤ N ≤ limit, often at the limit.
-    fn window_up_to(&mut self, limit: usize) -> Window {
-        let n = if self.random.chance(40) { limit } else { self.random.below(limit + 1) };
-        let m = if self.random.chance(40) { n } else { self.random.below(n + 1) };
-        Window { m, n }
     }
 
     /// Some node that may read or not.
@@ -363,7 +302,7 @@ impl Builder<'_> {
             _ => {
                 let x = self.anything(1);
                 let y = self.anything(1);
-                let Window { m, n } = self.window_around(1);
+                let Window { m, n } = window_around(self.random, 1);
                 let form = *self.random.pick(&[2, 3, 6, 7]);
                 let (m, n) = if form < 6 { (0, 0) } else { (m, n) };
                 self.add(vec![words::node(form, x, y, m, n)])

@@ -3,14 +3,19 @@
 pub mod groups;
 pub mod jobs;
 pub mod plans;
+pub mod quiet_pause;
 pub mod readings;
 pub mod shift_windows;
+pub mod task_sets;
 pub mod trials;
 pub mod wide;
 
 use crate::draw::draft::{Draft, Drawn};
 use crate::oracle::call::{Call, Expected};
 use crate::oracle::job::Job;
+use crate::oracle::plan::read_plan;
+use crate::oracle::readings::decision::{decide, Decision};
+use crate::oracle::readings::world::World;
 use crate::oracle::starts::Start;
 use crate::random::Random;
 
@@ -63,6 +68,19 @@ impl Seen<'_> {
         match self.call {
             Call::Check { .. } | Call::Fill { .. } | Call::Find { .. } => self.starts.get(self.position).copied(),
             _ => self.new_start(),
+        }
+    }
+
+    /// What is told from the triples of a find call that searched, with or without a reading.
+    pub fn decided(&self, tell: impl FnOnce(&World, &Decision) -> Vec<&'static str>) -> Vec<&'static str> {
+        match (self.expected, self.call) {
+            (Expected::Reading { world, decision }, _) => tell(world, decision),
+            (_, Call::Find { job, starts, .. }) if self.number == 13 => {
+                let Ok(plan) = read_plan(job, starts) else { return vec![] };
+                let world = World::new(&plan);
+                decide(&world).map_or(vec![], |decision| tell(&world, &decision))
+            }
+            _ => vec![],
         }
     }
 }
