@@ -1,6 +1,6 @@
 //! Drawn plans of each feature, and of several together, through every call.
 
-use conformance::features::{groups, jobs, plans, readings, shift_windows, Feature};
+use conformance::features::{groups, has_held, in_hand, jobs, plans, readings, shift_windows, Feature};
 use conformance::run::{every_bit, generated, stepped};
 
 fn hold(features: &[Feature], seed: u64, how_many: usize) {
@@ -47,4 +47,14 @@ fn windows_and_groups_together() {
     let together = [readings::FEATURE, shift_windows::FEATURE, groups::FEATURE];
     generated(&together, 8, 1_000).assert(&[]);
     stepped(&together, 9, 300).assert(&[]);
+}
+
+#[test]
+fn has_held() {
+    hold(&[has_held::FEATURE], 10, 2_000);
+}
+
+#[test]
+fn in_hand() {
+    hold(&[in_hand::FEATURE], 11, 2_000);
 }
