@@ -1,6 +1,6 @@
 //! Instructions, counted by callgrind: this program runs itself under valgrind, once for each share of the figures, the shares side by side.
 use crate::figures::{figures, Figure, Part};
-use planreader_tests::checker::answer::Answer;
+use crate::library::Answer;
 use std::hint::black_box;
 use std::process::Command;
 use std::thread;

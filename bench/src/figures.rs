@@ -1,14 +1,8 @@
 //! The figures: a call on a plan, its answer, and how many instructions it may take.
-use crate::jobs;
-use crate::plans::{self, facts, Plan};
-use crate::shapes::{crowds, doors, held, nests, slowest, windows};
-use crate::wide::filler_words;
-use crate::yardstick;
-use planreader_tests::checker::{answer::Answer, trial::TRIAL_WORDS};
-use planreader_tests::host;
-
-/// Find's buffer, in words.
-const FIND_WORDS: usize = 4096;
+use crate::library::{self, facts, filler_words, Answer, FIND_WORDS, TRIAL_WORDS};
+use crate::plans::{self, Plan};
+use crate::shapes::{crowds, doors, held, nests, windows};
+use crate::{jobs, slow, yardstick};
 
 /// The moment of a trial.
 const TRIAL_MOMENT: usize = 62;
@@ -21,7 +15,7 @@ const DOOR: f64 = 2.5;
 const END_WINDOWS: f64 = 1.5;
 const START: f64 = 1.01;
 
-#[derive(Clone, Copy, PartialEq)]
+#[derive(Clone, Copy, Debug, PartialEq)]
 pub enum Call {
     Check,
     Fill,
@@ -63,7 +57,7 @@ pub fn figures(part: Part) -> Vec<Figure> {
     let trials = plans::trials().into_iter().flat_map(trial);
     let doors = doors::narrow().into_iter().flat_map(|door| beside_yardstick(DOOR, door));
     let small = windows::small().into_iter().flat_map(|plan| beside_yardstick(END_WINDOWS, plan));
-    let (gate_sets, long_sets) = slowest::plans();
+    let (gate_sets, long_sets) = slow::plans();
     let gate = [doors::wide(), windows::largest(), held::plans(), nests::plans(), crowds::plans(), gate_sets];
     let long = if part == Part::All { vec![vec![crowds::four_sets()], long_sets] } else { vec![] };
     let finds = gate.into_iter().chain(long).flatten().flat_map(|plan| each(&[Call::Find], plan, || Limit::Listed));
@@ -91,17 +85,7 @@ fn beside_yardstick(times: f64, plan: Plan) -> Vec<Figure> {
 
 /// The name of the figure of a call on a plan.
 pub fn name(call: Call, plan: &Plan) -> String {
-    let call = match call {
-        Call::Check => "check",
-        Call::Fill => "fill",
-        Call::Find => "find",
-        Call::Yardstick => "yardstick",
-        Call::Begin => "begin",
-        Call::Start => "start",
-        Call::On => "on",
-        Call::Show => "show",
-    };
-    format!("{call}: {}", plan.name)
+    format!("{}: {}", format!("{call:?}").to_lowercase(), plan.name)
 }
 
 impl Figure {
@@ -116,25 +100,25 @@ impl Figure {
         let words = self.trial();
         let (mut lent, mut buffer) = (words.clone(), vec![0; filler_words(&job)]);
         match self.call {
-            Call::Check => Box::new(move || host::check(&job, &starts, &facts)),
-            Call::Fill => Box::new(move || host::fill(&job, &starts, &mut buffer)),
-            Call::Find => Box::new(move || host::find(&job, &starts, &facts, &mut buffer[..FIND_WORDS])),
+            Call::Check => Box::new(move || library::check(&job, &starts, &facts)),
+            Call::Fill => Box::new(move || library::fill(&job, &starts, &mut buffer)),
+            Call::Find => Box::new(move || library::find(&job, &starts, &facts, &mut buffer[..FIND_WORDS])),
             Call::Yardstick => Box::new(move || yardstick::find(&job, &starts).answer()),
-            Call::Begin => Box::new(move || host::trial_begin(&job, &mut lent)),
+            Call::Begin => Box::new(move || library::trial_begin(&job, &mut lent)),
             Call::Start => Box::new(move || {
                 lent.copy_from_slice(&words);
-                host::trial_start(&job, &mut lent, 0)
+                library::trial_start(&job, &mut lent, 0)
             }),
             Call::On => Box::new(move || {
                 lent.copy_from_slice(&words);
-                host::trial_on(&job, &mut lent)
+                library::trial_on(&job, &mut lent)
             }),
-            Call::Show => Box::new(move || host::trial_show(&job, &lent, &mut buffer)),
+            Call::Show => Box::new(move || library::trial_show(&job, &lent, &mut buffer)),
         }
     }
 
     /// The words of the trial of the plan's starts: its moment, their number, the starts.
-    pub fn trial(&self) -> Vec<u32> {
+    fn trial(&self) -> Vec<u32> {
         let starts = &self.plan.starts;
         let mut words = [&[TRIAL_MOMENT as u32, starts.len() as u32], &starts[..]].concat();
         words.resize(TRIAL_WORDS, 0);

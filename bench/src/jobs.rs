@@ -1,8 +1,8 @@
 //! Jobs of 2,048 words, each at its worst for a row on the job or for what a plan without starts still goes through.
 use crate::plans::{largest, largest_wide, lawful, windowed, Plan};
-use crate::wide;
-use planreader_tests::words::{
-    action, condition, formula, group, group_member, head, initially, law, member, node, shift_window,
+use crate::words::{
+    action, condition, formula, group, group_member, head, initially, law, member, node, shift_window, wide_head,
+    wide_initially, wide_law, FLUENTS,
 };
 
 /// The most words that a job has, and the place of the last of them.
@@ -45,40 +45,40 @@ fn filled(words: Vec<u32>, more: impl Iterator<Item = u32>, last: &[u32]) -> Vec
 
 /// Actions, each with all laws that it may have: each of the 256 fluents is needed and made.
 fn all_laws(actions: usize) -> impl Iterator<Item = u32> {
-    let laws = || [0, 2].into_iter().flat_map(|role| (0..wide::FLUENTS).map(move |f| wide::law(role, f)));
+    let laws = || [0, 2].into_iter().flat_map(|role| (0..FLUENTS).map(move |f| wide_law(role, f)));
     (0..actions).flat_map(move |a| [action(a, 1)].into_iter().chain(laws()))
 }
 
 /// Three actions with 512 laws and a fourth with 505.
 fn laws_of_an_action() -> Vec<u32> {
-    filled(vec![wide::head(wide::FLUENTS, 4, 63)], all_laws(4), &[formula(0, 0, 0), node(1, 0, 0, 0, 0)])
+    filled(vec![wide_head(FLUENTS, 4, 63)], all_laws(4), &[formula(0, 0, 0), node(1, 0, 0, 0, 0)])
 }
 
 /// Three actions with 512 laws and a fourth with 507, of which the last repeats the first.
 fn repeating() -> Vec<u32> {
-    filled(vec![wide::head(wide::FLUENTS, 4, 63)], all_laws(4), &[wide::law(0, 0)])
+    filled(vec![wide_head(FLUENTS, 4, 63)], all_laws(4), &[wide_law(0, 0)])
 }
 
 /// 64 actions with so many laws each, which all make fluents true.
 fn makes(laws: usize) -> impl Iterator<Item = u32> {
-    let law = move |a: usize, i: usize| wide::law(2, (a * 4 + i * 15) % wide::FLUENTS);
+    let law = move |a: usize, i: usize| wide_law(2, (a * 4 + i * 15) % FLUENTS);
     (0..64).flat_map(move |a| [action(a, 1)].into_iter().chain((0..laws).map(move |i| law(a, i))))
 }
 
 /// Each fluent is known at 0, so that there are 16,384 facts. The last action has more laws than the others.
 fn known() -> Vec<u32> {
-    let known = (0..wide::FLUENTS).map(|f| wide::initially(f, true));
-    let before = [wide::head(wide::FLUENTS, 64, 63)].into_iter().chain(known).collect();
-    let more = (0..wide::FLUENTS).map(|f| wide::law(0, f));
+    let known = (0..FLUENTS).map(|f| wide_initially(f, true));
+    let before = [wide_head(FLUENTS, 64, 63)].into_iter().chain(known).collect();
+    let more = (0..FLUENTS).map(|f| wide_law(0, f));
     filled(before, makes(26).chain(more), &[formula(0, 0, 0), node(1, 0, 0, 0, 0)])
 }
 
 /// Every action makes 29 fluents true; by turns, it makes the last fluent true or false.
 fn clashing() -> Vec<u32> {
-    let laws = |a: usize| (0..29).map(move |i| wide::law(2, (a * 3 + i * 7) % 255)).chain([wide::law(2 + a % 2, 255)]);
+    let laws = |a: usize| (0..29).map(move |i| wide_law(2, (a * 3 + i * 7) % 255)).chain([wide_law(2 + a % 2, 255)]);
     let actions = (0..64).flat_map(|a| [action(a, 1)].into_iter().chain(laws(a)));
-    let more = (0..wide::FLUENTS).map(|f| wide::law(0, f));
-    filled(vec![wide::head(wide::FLUENTS, 64, 63)], actions.chain(more), &[formula(0, 0, 0), node(1, 0, 0, 0, 0)])
+    let more = (0..FLUENTS).map(|f| wide_law(0, f));
+    filled(vec![wide_head(FLUENTS, 64, 63)], actions.chain(more), &[formula(0, 0, 0), node(1, 0, 0, 0, 0)])
 }
 
 /// 64 actions, as many shift windows as there is room for, eight groups, all pairs of group and action, and the last word.

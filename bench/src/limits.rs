@@ -2,12 +2,17 @@
 use crate::count::counts;
 use crate::figures::{figures, name, Figure, Limit, Part};
 use std::collections::HashMap;
+use std::hint::black_box;
+use std::time::{Duration, Instant};
 
 /// Lines of a limit and a figure's name.
 const TABLE: &str = include_str!("../limits.txt");
 
 /// A listed limit is so many times what a figure took when the table was made.
 const MARGIN: f64 = 1.25;
+
+/// No run of a call that is timed follows after this long.
+const LONG: Duration = Duration::from_millis(30);
 
 /// Prints instructions and limits; whether all answers are right and all limits held.
 pub fn are_held(part: Part) -> bool {
@@ -56,18 +61,34 @@ fn listed(name: &str) -> Option<u64> {
 /// Prints the table of limits anew, a quarter above what the figures take now.
 pub fn print_table() -> bool {
     let rounded = |count: u64| ((count as f64 * MARGIN) as u64).div_ceil(1000) * 1000;
-    let is_listed = |figure: &Figure| matches!(figure.limit, Limit::Listed);
-    print(is_listed, |count, name| format!("{:>12}  {name}", rounded(count)))
+    print(
+        |figure| matches!(figure.limit, Limit::Listed),
+        |figure, count| format!("{:>12}  {}", rounded(count), figure.name()),
+    )
 }
 
-/// Prints the instructions of every figure that the archive answers rightly, for the script `before-and-after`.
-pub fn print_counts() -> bool {
-    print(Figure::is_right, |count, name| format!("{count}\t{name}"))
+/// Prints the instructions and the time in milliseconds of every figure that the archive answers rightly.
+pub fn print_figures() -> bool {
+    print(Figure::is_right, |figure, count| {
+        format!("{count:>12} {:>10.4}  {}", least_ms(figure.ready()), figure.name())
+    })
 }
 
-fn print(chosen: impl Fn(&Figure) -> bool, line: impl Fn(u64, &str) -> String) -> bool {
+fn print(chosen: impl Fn(&Figure) -> bool, line: impl Fn(&Figure, u64) -> String) -> bool {
     let taken = counts(Part::All).unwrap_or_else(|told| panic!("{told}"));
     let chosen = figures(Part::All).into_iter().zip(taken).filter(|(figure, _)| chosen(figure));
-    chosen.for_each(|(figure, count)| println!("{}", line(count, &figure.name())));
+    chosen.for_each(|(figure, count)| println!("{}", line(&figure, count)));
     true
+}
+
+/// The least time of several runs, in milliseconds.
+fn least_ms<T>(mut run: impl FnMut() -> T) -> f64 {
+    let begun = Instant::now();
+    let mut least = Duration::MAX;
+    while least == Duration::MAX || begun.elapsed() < LONG {
+        let start = Instant::now();
+        black_box(run());
+        least = least.min(start.elapsed());
+    }
+    least.as_secs_f64() * 1e3
 }

@@ -1,31 +1,28 @@
 //! Holds the archive's calls to numbers of instructions, which callgrind counts, and compares find with a plain finder. It exits with 1 if
 //! a limit is broken or an answer is wrong. No time decides.
-mod compare;
 mod count;
 mod figures;
 mod jobs;
+mod library;
 mod limits;
 mod masks;
 mod plans;
 mod shapes;
 mod slow;
-mod times;
-mod wide;
+mod words;
 mod yardstick;
 
 use figures::Part;
 
-const USAGE: &str = "planreader-bench [all | compare | counts | limits | times | slow-sets MINUTES SEED]";
+const USAGE: &str = "planreader-bench [all | figures | limits | slow-sets MINUTES SEED]";
 
 fn main() {
     let arguments: Vec<String> = std::env::args().skip(1).collect();
     let right = match arguments.iter().map(String::as_str).collect::<Vec<_>>()[..] {
         [] => limits::are_held(Part::Gate),
         ["all"] => limits::are_held(Part::All),
-        ["compare"] => compare::agrees(),
-        ["counts"] => limits::print_counts(),
+        ["figures"] => limits::print_figures(),
         ["limits"] => limits::print_table(),
-        ["times"] => times::print(),
         ["slow-sets", minutes, seed] => slow::search(number(minutes), number(seed)),
         [count::COUNTED, part, share] => count::run(part, share),
         _ => panic!("{USAGE}"),

@@ -1,19 +1,4 @@
-//! Fields of words, and sets of moments as words: bit t stands for moment t. Compiled here, so that all of the yardstick is optimized.
-
-/// The bits high..low of a word.
-pub fn field(word: u32, high: u32, low: u32) -> usize {
-    (word >> low) as usize & ((2 << (high - low)) - 1)
-}
-
-/// Bits 31..28 of a word.
-pub fn kind(word: u32) -> usize {
-    field(word, 31, 28)
-}
-
-/// Bits 27..24 of a word.
-pub fn form(word: u32) -> usize {
-    field(word, 27, 24)
-}
+//! Sets of moments as words: bit t stands for moment t.
 
 /// The moments from t on.
 pub fn from(t: usize) -> u64 {

@@ -1,8 +1,9 @@
 //! Lawful plans with many starts, for check, fill and the calls on a trial: the largest ones, narrow and wide, one with the most shift
 //! windows, some with all groups, and plans by how many starts are in hand.
-use crate::wide;
-use planreader_tests::host;
-use planreader_tests::words::{action, formula, group, group_member, head, initially, law, node, shift_window, start};
+use crate::words::{
+    action, formula, group, group_member, head, initially, law, node, shift_window, start, wide_head, wide_initially,
+    wide_law, FLUENTS,
+};
 
 /// How many laws an action of the largest plans has.
 const LAWS: usize = 29;
@@ -35,14 +36,6 @@ pub struct Plan {
 /// A lawful plan.
 pub fn lawful(name: impl Into<String>, job: Vec<u32>, starts: Vec<u32>) -> Plan {
     Plan { name: name.into(), job, starts, refusal: (0, 0) }
-}
-
-/// The facts of a plan; none if fill refuses it.
-pub fn facts(job: &[u32], starts: &[u32]) -> Vec<u32> {
-    let mut buffer = vec![0; wide::filler_words(job)];
-    let filled = host::fill(job, starts, &mut buffer);
-    buffer.truncate(filled.length);
-    buffer
 }
 
 pub fn all() -> Vec<Plan> {
@@ -142,13 +135,13 @@ pub fn largest_wide(d: usize) -> Plan {
 /// laws each, all true: with d = 1 the first 12 need one of 20 fluents. Each fluent is made by some action.
 pub fn wide_before_formulas(d: usize, after: usize) -> Vec<u32> {
     let needs = if d == 1 { 12 } else { 0 };
-    let mut job = vec![wide::head(wide::FLUENTS, 64, 63)];
-    job.extend((0..2048 - 1 - 64 - WIDE_LAWS - after).map(|f| wide::initially(f, true)));
+    let mut job = vec![wide_head(FLUENTS, 64, 63)];
+    job.extend((0..2048 - 1 - 64 - WIDE_LAWS - after).map(|f| wide_initially(f, true)));
     for a in 0..64 {
         let laws = (WIDE_LAWS - a).div_ceil(64);
         job.push(action(a, d));
-        job.extend((0..needs).map(|i| wide::law(0, (a + i) % NEEDED)));
-        job.extend((needs..laws).map(|i| wide::law(2, (a * 4 + i * 15) % wide::FLUENTS)));
+        job.extend((0..needs).map(|i| wide_law(0, (a + i) % NEEDED)));
+        job.extend((needs..laws).map(|i| wide_law(2, (a * 4 + i * 15) % FLUENTS)));
     }
     job
 }

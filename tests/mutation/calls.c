@@ -1,5 +1,5 @@
-/* The calls of the library that the environment names: tests and bench are linked once, and each mutant or archive is loaded by them. They
- * are found before the program begins, so that nothing of this is counted or timed. */
+/* The calls of the library that MUTANT_LIBRARY names: tests and bench are linked once, and load any mutant or archive.
+ * The calls are looked up before the program begins, so that the bench does not count it. */
 #include <dlfcn.h>
 #include <stddef.h>
 #include <stdint.h>
@@ -7,52 +7,30 @@
 #include <stdlib.h>
 
 typedef const uint32_t *words;
+typedef uint32_t *buffer;
 
-static struct {
-    uint64_t (*check)(words, size_t, words, size_t, words, size_t);
-    uint64_t (*fill)(words, size_t, words, size_t, uint32_t *, size_t);
-    uint64_t (*find)(words, size_t, words, size_t, words, size_t, uint32_t *, size_t);
-    uint64_t (*trial_begin)(words, size_t, uint32_t *, size_t);
-    uint64_t (*trial_start)(words, size_t, uint32_t *, size_t, uint32_t);
-    uint64_t (*trial_on)(words, size_t, uint32_t *, size_t);
-    uint64_t (*trial_show)(words, size_t, words, size_t, uint32_t *, size_t);
-} calls;
-
-static void *function(void *library, const char *name)
+static void *function(const char *name)
 {
+    void *library = dlopen(getenv("MUTANT_LIBRARY"), RTLD_NOW | RTLD_LOCAL);
     void *found = library ? dlsym(library, name) : NULL;
     if (!found) {
         fprintf(stderr, "%s\n", dlerror());
-        exit(2);
+        exit(99); /* no test program ends with this status by itself */
     }
     return found;
 }
 
-__attribute__((constructor)) static void load(void)
-{
-    void *library = dlopen(getenv("MUTANT_LIBRARY"), RTLD_NOW | RTLD_LOCAL);
-    *(void **)&calls.check = function(library, "check");
-    *(void **)&calls.fill = function(library, "fill");
-    *(void **)&calls.find = function(library, "find");
-    *(void **)&calls.trial_begin = function(library, "trial_begin");
-    *(void **)&calls.trial_start = function(library, "trial_start");
-    *(void **)&calls.trial_on = function(library, "trial_on");
-    *(void **)&calls.trial_show = function(library, "trial_show");
-}
+/* Defines a call, by its parameters and by their names. */
+#define CALL(name, parameters, arguments) \
+    static uint64_t(*name##_call) parameters; \
+    __attribute__((constructor)) static void load_##name(void) { *(void **)&name##_call = function(#name); } \
+    uint64_t name parameters { return name##_call arguments; }
 
-uint64_t check(words job, size_t j, words starts, size_t s, words facts, size_t f) { return calls.check(job, j, starts, s, facts, f); }
-
-uint64_t fill(words job, size_t j, words starts, size_t s, uint32_t *buffer, size_t b) { return calls.fill(job, j, starts, s, buffer, b); }
-
-uint64_t find(words job, size_t j, words starts, size_t s, words facts, size_t f, uint32_t *buffer, size_t b)
-{
-    return calls.find(job, j, starts, s, facts, f, buffer, b);
-}
-
-uint64_t trial_begin(words job, size_t j, uint32_t *trial, size_t t) { return calls.trial_begin(job, j, trial, t); }
-
-uint64_t trial_start(words job, size_t j, uint32_t *trial, size_t t, uint32_t action) { return calls.trial_start(job, j, trial, t, action); }
-
-uint64_t trial_on(words job, size_t j, uint32_t *trial, size_t t) { return calls.trial_on(job, j, trial, t); }
-
-uint64_t trial_show(words job, size_t j, words trial, size_t t, uint32_t *buffer, size_t b) { return calls.trial_show(job, j, trial, t, buffer, b); }
+CALL(check, (words j, size_t jn, words s, size_t sn, words f, size_t fn), (j, jn, s, sn, f, fn))
+CALL(fill, (words j, size_t jn, words s, size_t sn, buffer b, size_t bn), (j, jn, s, sn, b, bn))
+CALL(find, (words j, size_t jn, words s, size_t sn, words f, size_t fn, buffer b, size_t bn),
+     (j, jn, s, sn, f, fn, b, bn))
+CALL(trial_begin, (words j, size_t jn, buffer t, size_t tn), (j, jn, t, tn))
+CALL(trial_start, (words j, size_t jn, buffer t, size_t tn, uint32_t action), (j, jn, t, tn, action))
+CALL(trial_on, (words j, size_t jn, buffer t, size_t tn), (j, jn, t, tn))
+CALL(trial_show, (words j, size_t jn, words t, size_t tn, buffer b, size_t bn), (j, jn, t, tn, b, bn))

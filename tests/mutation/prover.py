@@ -1,93 +1,65 @@
 """The prover's verdict on a mutant: as `rt must-fail` has it, over the proved libraries of the crates below."""
 import re
 import subprocess
-import time
-from dataclasses import dataclass
 
-from kit import ROOT, TARGET, WORK
+from build import ROOT, TARGET, WORK
 
-
-@dataclass
-class Refusal:
-    refused: bool
-    why: str
-    place: str
-    seconds: float
-
-
-def crate_words(kit, crate, folder):
-    """As rt passes them to `rattle check`."""
-    given = ["--crate-name", crate, str(folder / "src" / "lib.rt"), "--extern", f"std={kit.library('std')}"]
-    for dep in kit.crates[crate]:
-        given += ["--extern", f"{dep}={kit.library(dep)}"]
-    given += ["-L", f"dependency={TARGET / 'rlib'}", "-L", f"dependency={kit.own / 'rlib'}"]
-    return given + ["--antt-project", str(kit.home / "logic" / "antt-project.json"), "--logic-built", str(kit.own / "logic-built")]
-
-
-def check(kit, mutant, folder):
-    """Checks the copy, and keeps what the prover says in prover.log. The crate as it is was checked first, so that only what the mutant
-    changes is checked anew."""
-    kept = WORK / "incremental" / mutant.crate
-    if not kept.exists():
-        kept.mkdir(parents=True)
-        checked(kit, mutant.crate, ROOT / "crates" / mutant.crate, ["--incremental", str(kept)])
-    log = checked(kit, mutant.crate, folder, ["--incremental", str(kept)])
-    (folder / "prover.log").write_text(log)
-
-
-def confirm(kit, mutant, folder):
-    """Checks a mutant that got through once more, from nothing, where it was not yet."""
-    if "incremental=trusted" in (folder / "prover.log").read_text():
-        (folder / "prover.log").write_text(checked(kit, mutant.crate, folder, []))
-
-
-def checked(kit, crate, folder, more):
-    began = time.time()
-    words = [kit.tool("rattle"), "check", *crate_words(kit, crate, folder), *more]
-    ran = subprocess.run(words, stdout=subprocess.PIPE, stderr=subprocess.STDOUT, text=True)
-    return f"exit {ran.returncode} after {time.time() - began:.1f} s\n{ran.stdout}"
-
-
-def saved(folder):
-    """The verdict, by that log."""
-    head, _, log = (folder / "prover.log").read_text().partition("\n")
-    status, seconds = int(head.split()[1]), float(head.split()[3])
-    if status == 0 and "logic=proved" in log:
-        return Refusal(False, "", "", seconds)
-    if status == 1 and "logic=not-proved" in log:
-        place, why = first_error(log, folder)
-        return Refusal(True, why, place, seconds)
-    return Refusal(True, "NOT A MUTANT: does not reach the prover", "", seconds)
-
-
-def first_error(log, folder):
-    """The place and the kind of the first error, of the gravest kind that the log has. A line that begins with blanks goes on with the one
-    before."""
-    found = []
-    for line in log.replace(f"{folder}/", "").replace("\n  ", " ").splitlines():
-        at = re.match(r"(\S+?:\d+):\d+: error: (.*)", line) or re.match(r"note: (\S+?:\d+):\d+: (it is not proved .*)", line)
-        if at and kind_of(at[2]):
-            found.append((at[1], kind_of(at[2])))
-    for kind in KINDS:
-        for place, its in found:
-            if its == kind:
-                return place, kind
-    return "", "other"
-
-
-# The kinds of errors, and what such an error says.
+# The kinds of errors, the gravest first, and what an error of the kind says.
 KINDS = {
-    # a fact that is asked: no proof of it was found
+    # No proof was found of a fact that is asked.
     "a fact fails": ("`search`: no proof", "`omega`", "it is not proved that", "give a proof of that"),
-    # a step of the written proof is a proof of something else than what is asked
+    # A step of the written proof proves something else than what is asked.
     "a step fails": ("expected type", "two types", "two sides", "`rw`"),
-    # the written proof names what the mutant does not ask, or leaves out what it asks
+    # The written proof names what the mutant does not ask, or leaves out what it asks.
     "proof must change": (" that can be named from here", " has no field "),
 }
 
 
-def kind_of(message):
+def prove_below(kit, todo):
+    """Proves the crates that the mutants' crates cite, if they are not proved yet."""
+    below = {dep for mutant in todo for dep in kit.crates[mutant.crate] if dep in kit.crates}
+    if below:
+        subprocess.run(["rt", "check", *sorted(below)], cwd=ROOT, check=True, stdout=subprocess.DEVNULL)
+
+
+def verdict(kit, mutant, folder):
+    """Checks the copy, and keeps what the prover says in prover.log. The crate as it is was checked first, so that only
+    what the mutant changes is checked anew; one that gets through is checked once more, from nothing."""
+    kept = WORK / "incremental" / mutant.crate
+    if not kept.exists():
+        kept.mkdir(parents=True)
+        checked(kit, mutant.crate, ROOT / "crates" / mutant.crate, ["--incremental", str(kept)])
+    status, log = checked(kit, mutant.crate, folder, ["--incremental", str(kept)])
+    if status == 0 and "incremental=trusted" in log:
+        status, log = checked(kit, mutant.crate, folder, [])
+    (folder / "prover.log").write_text(log)
+    if status == 0 and "logic=proved" in log:
+        adapted = any(file.startswith("proofs/") for file, _, _ in mutant.edits)
+        return "lets it through" + (", its proof adapted" if adapted else "")
+    if status == 1 and "logic=not-proved" in log:
+        return "refuses: " + first_error(log.replace(f"{folder}/", ""))
+    return "NOT A MUTANT: does not reach the prover"
+
+
+def checked(kit, crate, folder, more):
+    """Runs `rattle check` on a crate as rt does. Returns its status and what it says."""
+    words = [str(kit.own / "bin" / "rattle"), "check", "--crate-name", crate, str(folder / "src" / "lib.rt")]
+    for dep in ["std", *kit.crates[crate]]:
+        words += ["--extern", f"{dep}={(TARGET if dep in kit.crates else kit.own) / 'rlib' / dep}.rlib"]
+    words += ["-L", f"dependency={TARGET / 'rlib'}", "-L", f"dependency={kit.own / 'rlib'}"]
+    words += ["--antt-project", str(kit.home / "logic" / "antt-project.json")]
+    words += ["--logic-built", str(kit.own / "logic-built"), *more]
+    ran = subprocess.run(words, stdout=subprocess.PIPE, stderr=subprocess.STDOUT, text=True)
+    return ran.returncode, ran.stdout
+
+
+def first_error(log):
+    """Returns the kind and the place of the first error of the gravest kind. A line that begins with blanks goes on
+    with the one before."""
+    pattern = r"^(?:(\S+?:\d+):\d+: error:|note: (\S+?:\d+):\d+: (?=it is not proved)) ?(.*)$"
+    errors = re.findall(pattern, log.replace("\n  ", " "), re.MULTILINE)
     for kind, marks in KINDS.items():
-        if any(mark in message for mark in marks):
-            return kind
-    return None
+        for error, note, message in errors:
+            if any(mark in message for mark in marks):
+                return f"{kind}, {error or note}"
+    return "other"

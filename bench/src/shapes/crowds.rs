@@ -1,7 +1,7 @@
 //! Task sets of four members that read between many moments, with conditions that could make a search long.
 use super::nodes::Nodes;
 use crate::plans::{lawful, Plan};
-use planreader_tests::words::{action, condition, formula, head, node};
+use crate::words::{action, condition, formula, head, node};
 
 type Crowd = (&'static str, usize, Vec<u32>);
 
@@ -20,20 +20,13 @@ pub fn four_sets() -> Plan {
 /// So many sets of four members, and a choice of them where there is more than one.
 fn plan(sets: usize, (name, span, conditions): Crowd) -> Plan {
     let mut nodes = Nodes::after(before_nodes());
-    let mut root = add_crowd(&mut nodes, 4, span, &conditions);
+    let mut root = add_crowd(&mut nodes, span, &conditions);
     for _ in 1..sets {
-        let set = add_crowd(&mut nodes, 4, span, &conditions);
+        let set = add_crowd(&mut nodes, span, &conditions);
         root = nodes.add(node(3, root, set, 0, 0), &[]);
     }
     let count = if sets == 1 { String::new() } else { format!("{sets} sets of ") };
     lawful(format!("{count}four members, {name}"), nodes.words, vec![])
-}
-
-/// A job of one set.
-pub fn crowd(members: usize, span: usize, conditions: &[u32]) -> Vec<u32> {
-    let mut nodes = Nodes::after(before_nodes());
-    add_crowd(&mut nodes, members, span, conditions);
-    nodes.words
 }
 
 /// Formula 0 holds always, 1 never.
@@ -41,9 +34,9 @@ fn before_nodes() -> Vec<u32> {
     vec![head(1, 1, 63), action(0, 1), formula(0, 0, 0), formula(2, 0, 0)]
 }
 
-/// A task set of some members, each of which reads from b to e for all b ≤ e ≤ 63 with e ≤ b + span.
-fn add_crowd(nodes: &mut Nodes, members: usize, span: usize, conditions: &[u32]) -> usize {
-    let members: Vec<usize> = (0..members).map(|_| nodes.window(0, span)).collect();
+/// A task set of four members, each of which reads from b to e for all b ≤ e ≤ 63 with e ≤ b + span.
+fn add_crowd(nodes: &mut Nodes, span: usize, conditions: &[u32]) -> usize {
+    let members: Vec<usize> = (0..4).map(|_| nodes.window(0, span)).collect();
     nodes.set(&members, conditions)
 }
 

@@ -1,8 +1,7 @@
 //! Ordinary doors, narrow and wide.
 use super::nodes::Nodes;
 use crate::plans::{lawful, Plan};
-use crate::wide;
-use planreader_tests::words::{action, condition, formula, head, initially, law, node, start};
+use crate::words::{action, condition, formula, head, initially, law, node, start, wide_initially, widened, FLUENTS};
 
 fn doors() -> [(&'static str, (Vec<u32>, Vec<u32>)); 2] {
     [("door, sets after the loop", door()), ("door, sets in the loop", door_of_passes())]
@@ -23,8 +22,8 @@ pub fn wide() -> Vec<Plan> {
 /// The door with a wide head and 256 fluents, its own the last of them; the others are known at 0 and stay. Then checking the job and 16,384
 /// facts, which the yardstick does not do, counts most.
 fn wide_door((job, starts): (Vec<u32>, Vec<u32>)) -> (Vec<u32>, Vec<u32>) {
-    let mut job = wide::widened(&job);
-    job.splice(1..1, (0..wide::FLUENTS - 1).map(|f| wide::initially(f, true)));
+    let mut job = widened(&job);
+    job.splice(1..1, (0..FLUENTS - 1).map(|f| wide_initially(f, true)));
     (job, starts)
 }
 

@@ -1,7 +1,7 @@
 //! Request L7, "X has held for Y moments": jobs of 64 formulas, all of form 5 but the first, a fluent.
 use super::nodes::Nodes;
 use crate::plans::{lawful, Plan};
-use planreader_tests::words::{action, formula, head, initially, law, node, start};
+use crate::words::{action, formula, head, initially, law, node, start};
 
 /// The most formulas that a job has, and the most moments that a formula looks back.
 const FORMULAS: usize = 64;

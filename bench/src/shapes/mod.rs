@@ -3,6 +3,5 @@ pub mod crowds;
 pub mod doors;
 pub mod held;
 pub mod nests;
-mod nodes;
-pub mod slowest;
+pub mod nodes;
 pub mod windows;

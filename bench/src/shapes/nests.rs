@@ -1,7 +1,7 @@
 //! Sets within sets, and sets within a loop.
 use super::nodes::Nodes;
 use crate::plans::{lawful, Plan};
-use planreader_tests::words::{action, condition, formula, head, initially, law, node, start};
+use crate::words::{action, condition, formula, head, initially, law, node, start};
 
 /// With eight sets of four there is room for so many spans, which are three nodes each.
 const SPANS: usize = 15;

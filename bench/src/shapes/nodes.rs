@@ -1,5 +1,5 @@
 //! A job's nodes, added one by one after its other words.
-use planreader_tests::words::{member, node};
+use crate::words::{member, node};
 
 pub struct Nodes {
     pub words: Vec<u32>,

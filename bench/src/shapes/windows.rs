@@ -1,7 +1,7 @@
 //! Jobs with as many end windows as there is room for, over rows of many ends: in plans with few starts, with many, and with the most.
 use super::nodes::Nodes;
 use crate::plans::{self, largest_wide, lawful, wide_before_formulas, Plan};
-use planreader_tests::words::{action, formula, head, kind, node, start};
+use crate::words::{action, formula, head, kind, node, start};
 
 /// Formula 0 always holds.
 pub fn small() -> [Plan; 3] {

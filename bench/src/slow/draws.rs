@@ -1,7 +1,6 @@
 //! Draws of sets that could be slow, and changes of them.
+use super::set::{Condition, Set, Span};
 use crate::masks::{from, range, upto};
-use planreader_tests::generate::sets::{Condition, Root, SetDraft, SetPlan, Span};
-use planreader_tests::random::Random;
 
 const LAST: usize = 63;
 
@@ -10,12 +9,34 @@ const SPANS: usize = 3;
 const FORMULAS: usize = 6;
 const CONDITIONS: usize = 8;
 
-pub fn plan(random: &mut Random) -> SetPlan {
+/// A seeded generator of numbers (splitmix64): a seed gives the same draws on every machine.
+pub struct Random(pub u64);
+
+impl Random {
+    fn number(&mut self) -> u64 {
+        self.0 = self.0.wrapping_add(0x9e37_79b9_7f4a_7c15);
+        let mut z = self.0;
+        z = (z ^ (z >> 30)).wrapping_mul(0xbf58_476d_1ce4_e5b9);
+        z = (z ^ (z >> 27)).wrapping_mul(0x94d0_49bb_1331_11eb);
+        z ^ (z >> 31)
+    }
+
+    /// One of 0 .. bound - 1; the bound is above 0.
+    pub fn below(&mut self, bound: usize) -> usize {
+        (self.number() % bound as u64) as usize
+    }
+
+    fn pick<'a, T>(&mut self, of: &'a [T]) -> &'a T {
+        &of[self.below(of.len())]
+    }
+}
+
+pub fn set(random: &mut Random) -> Set {
     let count = *random.pick(&[3, 4, 4, 4, 4]);
     let members = (0..count).map(|_| member(random)).collect();
     let conditions = (0..random.below(CONDITIONS + 1)).map(|_| condition(random, count)).collect();
     let moments = (0..FORMULAS).map(|_| moments(random)).collect();
-    SetPlan { last: LAST, sets: vec![SetDraft { members, conditions }], moments, root: Root::Set }
+    Set { members, conditions, moments }
 }
 
 fn moments(random: &mut Random) -> u64 {
@@ -72,21 +93,20 @@ fn condition(random: &mut Random, members: usize) -> Condition {
     }
 }
 
-/// The plan with one to three changes.
-pub fn changed(random: &mut Random, plan: &SetPlan) -> SetPlan {
-    let mut plan = plan.clone();
+/// The set with one to three changes.
+pub fn changed(random: &mut Random, set: &Set) -> Set {
+    let mut set = set.clone();
     for _ in 0..*random.pick(&[1, 1, 1, 2, 2, 3]) {
-        change(random, &mut plan);
+        change(random, &mut set);
     }
-    plan
+    set
 }
 
-fn change(random: &mut Random, plan: &mut SetPlan) {
+fn change(random: &mut Random, Set { members, conditions, moments: held }: &mut Set) {
     let formula = random.below(FORMULAS);
-    let SetDraft { members, conditions } = &mut plan.sets[0];
     let i = random.below(members.len());
     match random.below(12) {
-        0 => plan.moments[formula] = moments(random),
+        0 => held[formula] = moments(random),
         1 => members[i] = member(random),
         2 => {
             let which = random.below(members[i].len());
@@ -107,7 +127,7 @@ fn change(random: &mut Random, plan: &mut SetPlan) {
 
 fn change_conditions(random: &mut Random, members: usize, conditions: &mut Vec<Condition>) {
     let drawn = condition(random, members);
-    if conditions.len() < CONDITIONS && random.chance(40) || conditions.is_empty() {
+    if conditions.len() < CONDITIONS && random.below(100) < 40 || conditions.is_empty() {
         return conditions.push(drawn);
     }
     let which = random.below(conditions.len());
@@ -121,7 +141,7 @@ fn change_conditions(random: &mut Random, members: usize, conditions: &mut Vec<C
 }
 
 fn change_window(random: &mut Random, condition: &mut Condition) {
-    condition[random.between(4, 5)] = number(random);
+    condition[4 + random.below(2)] = number(random);
     if condition[0] < 4 && condition[4] > condition[5] {
         condition.swap(4, 5);
     }

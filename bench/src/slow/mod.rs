@@ -1,27 +1,36 @@
-//! A search for slow task sets: sets of three and four members with n = 63 are drawn and changed, and the slowest kept.
+//! Task sets on which find takes long: those of slowest.txt, and a search for more.
 mod climb;
-pub mod draws;
+mod draws;
+mod set;
 
-use climb::Slow;
-use planreader_tests::generate::sets::{SetPlan, Span};
+use crate::plans::{lawful, Plan};
+use set::Set;
 use std::time::Duration;
 
-/// How many sets are printed.
+const LISTING: &str = include_str!("../../slowest.txt");
+
+/// The numbers of the sets that the gate counts: one of the slowest, and those that take some milliseconds.
+const GATE: [usize; 5] = [1, 6, 7, 8, 11];
+
+/// How many sets a search prints.
 const MOST: usize = 8;
 
-/// Searches for so many minutes, and prints the slowest sets as src/shapes/slowest.rs has them.
-pub fn search(minutes: u64, seed: u64) -> bool {
-    for Slow { microseconds, plan } in climb::slowest(Duration::from_secs(60 * minutes), seed, MOST) {
-        println!("find took {microseconds} microseconds\n{}\n", literal(&plan));
-    }
-    true
+/// The sets of the listing that the gate counts, and the others, which take it too long.
+pub fn plans() -> (Vec<Plan>, Vec<Plan>) {
+    let plan = |(number, lines): (usize, &str)| {
+        let (job, starts) = Set::read(lines).words();
+        (number, lawful(format!("slow set {number}"), job, starts))
+    };
+    let (gate, long): (Vec<_>, Vec<_>) =
+        LISTING.split("\n\n").enumerate().skip(1).map(plan).partition(|(number, _)| GATE.contains(number));
+    let without_number = |plans: Vec<(usize, Plan)>| plans.into_iter().map(|(_, plan)| plan).collect();
+    (without_number(gate), without_number(long))
 }
 
-fn literal(plan: &SetPlan) -> String {
-    let span = |span: &Span| format!("({:#x}, {:#x}, {}, {})", span.begins, span.ends, span.least, span.most);
-    let member = |spans: &Vec<Span>| format!("&[{}]", spans.iter().map(span).collect::<Vec<_>>().join(", "));
-    let set = &plan.sets[0];
-    let members = set.members.iter().map(member).collect::<Vec<_>>().join(",\n    ");
-    let moments = plan.moments.iter().map(|word| format!("{word:#x}")).collect::<Vec<_>>().join(", ");
-    format!("members: &[\n    {members},\n],\nconditions: &{:?},\nmoments: &[{moments}],", set.conditions)
+/// Searches for so many minutes, and prints the slowest sets as slowest.txt has them.
+pub fn search(minutes: u64, seed: u64) -> bool {
+    for climb::Slow { microseconds, set } in climb::slowest(Duration::from_secs(60 * minutes), seed, MOST) {
+        println!("# find took {microseconds} microseconds\n{}\n", set.listing());
+    }
+    true
 }

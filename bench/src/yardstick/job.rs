@@ -1,5 +1,5 @@
 //! A well-formed job, taken apart; nothing is checked.
-use crate::masks::{field, form, kind};
+use crate::words::{field, form, kind};
 
 pub struct Job {
     /// n

@@ -6,7 +6,7 @@ pub mod rows;
 pub mod sets;
 pub mod world;
 
-use planreader_tests::checker::answer::Answer;
+use crate::library::Answer;
 use reading::Writer;
 use sets::Sets;
 

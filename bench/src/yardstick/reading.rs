@@ -1,12 +1,10 @@
 //! A reading of a node from b to e, of which the table says that there is one.
 use crate::masks::{each, from, has, low};
+use crate::words;
 use crate::yardstick::job::Job;
 use crate::yardstick::rows::{later_of, quiet_window, window, Table};
 use crate::yardstick::sets::{Set, Sets};
 use crate::yardstick::world::World;
-
-/// The kind of a word of a reading.
-const READING: usize = 11;
 
 pub struct Writer<'a> {
     pub job: &'a Job,
@@ -18,7 +16,7 @@ pub struct Writer<'a> {
 
 impl Writer<'_> {
     pub fn write(&mut self, number: usize, b: usize, e: usize) {
-        self.reading.push((READING << 28 | number << 12 | b << 6 | e) as u32);
+        self.reading.push(words::reading(number, b, e));
         let node = &self.job.nodes[number];
         match node.form {
             0 | 1 => {}

@@ -1,5 +1,6 @@
 //! What the nodes are read from: the moments at which actions start and at which formulas hold and fail.
-use crate::masks::{each, field, range, upto};
+use crate::masks::{each, range, upto};
+use crate::words::field;
 use crate::yardstick::job::{Formula, Job};
 
 pub struct World {

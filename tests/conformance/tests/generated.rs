@@ -1,6 +1,6 @@
 //! Drawn plans of each feature, and of several together, through every call.
 
-use conformance::features::{groups, has_held, in_hand, jobs, plans, readings, shift_windows, Feature};
+use conformance::features::{groups, has_held, in_hand, jobs, plans, readings, shift_windows, trials, wide, Feature};
 use conformance::run::{every_bit, generated, stepped};
 
 fn hold(features: &[Feature], seed: u64, how_many: usize) {
@@ -50,11 +50,26 @@ fn windows_and_groups_together() {
 }
 
 #[test]
+fn wide_jobs() {
+    hold(&[wide::FEATURE], 10, 2_000);
+}
+
+#[test]
+fn every_bit_of_wide_jobs() {
+    every_bit(&[jobs::FEATURE, wide::FEATURE], 11, 20).assert(&[]);
+}
+
+#[test]
+fn trials() {
+    hold(&[trials::FEATURE], 12, 3_000);
+}
+
+#[test]
 fn has_held() {
-    hold(&[has_held::FEATURE], 10, 2_000);
+    hold(&[has_held::FEATURE], 13, 2_000);
 }
 
 #[test]
 fn in_hand() {
-    hold(&[in_hand::FEATURE], 11, 2_000);
+    hold(&[in_hand::FEATURE], 14, 2_000);
 }

@@ -1,36 +1,80 @@
-//! Every list of starts of tiny jobs that have a feature in each way.
+//! Every list of starts of tiny jobs that have a feature, or several, in each way.
 
 use conformance::draw::draft::Draft;
-use conformance::features::{has_held, in_hand};
+use conformance::features::{groups, has_held, in_hand, readings, shift_windows, wide, Feature};
 use conformance::run::tiny;
 use conformance::words::{action, formula, initially, law, node};
 
-/// A job up to that moment, without actions, whose procedure counts the moments at which fluent 0 holds.
-fn counting(last: usize) -> Draft {
-    let nodes = [node(1, 0, 0, 0, 0), node(1, 1, 0, 0, 0), node(6, 0, 1, 0, last)];
-    let formulas = vec![formula(0, 0, 0), formula(1, 0, 0)];
-    Draft { fluents: 1, last, formulas, nodes: nodes.map(|node| vec![node]).to_vec(), ..Draft::default() }
+/// Two actions with these durations and laws, on one fluent that is known true, known false or open.
+fn job(last: usize, durations: [usize; 2], laws: [Option<usize>; 2], known: Option<bool>) -> Draft {
+    let actions = (0..2).map(|number| {
+        let laws = laws[number].map(|role| law(role, 0));
+        [action(number, durations[number])].into_iter().chain(laws).collect()
+    });
+    Draft {
+        fluents: 1,
+        last,
+        initially: known.map(|value| initially(0, value)).into_iter().collect(),
+        actions: actions.collect(),
+        formulas: vec![formula(0, 0, 0), formula(1, 0, 0)],
+        nodes: vec![vec![node(0, 0, 0, 0, 0)]],
+        ..Draft::default()
+    }
 }
 
-/// An action that makes fluent 0 true and one that makes it false, of one or two moments each, and each way to know it at 0.
-fn turning(last: usize) -> Vec<Draft> {
-    let one = |number: usize, duration: usize| vec![action(number, duration), law(2 + number, 0)];
-    let known = [vec![], vec![initially(0, true)], vec![initially(0, false)]];
-    let durations = (1..3).flat_map(|first| (1..3).map(move |second| [one(0, first), one(1, second)]));
-    let with = |actions: [Vec<u32>; 2]| {
-        known.clone().map(|initially| Draft { actions: actions.to_vec(), initially, ..counting(last) })
-    };
-    durations.flat_map(with).collect()
+fn bases(last: usize) -> Vec<Draft> {
+    vec![
+        job(last, [1, 1], [None, None], None),
+        job(last, [2, 1], [Some(2), Some(0)], Some(false)),
+        job(last, [1, 2], [Some(3), Some(2)], Some(true)),
+        job(last, [2, 2], [Some(2), Some(2)], None),
+    ]
 }
 
+fn hold(features: &[Feature], last: usize) {
+    let report = tiny(features, &bases(last));
+    assert!(report.calls > 100);
+    report.assert(&[]);
+}
+
+#[test]
+fn shift_windows() {
+    (0..=3).for_each(|last| hold(&[shift_windows::FEATURE], last));
+}
+
+#[test]
+fn groups() {
+    (0..=3).for_each(|last| hold(&[groups::FEATURE], last));
+}
+
+#[test]
+fn readings() {
+    (0..=3).for_each(|last| hold(&[readings::FEATURE], last));
+}
+
+#[test]
+fn several_together() {
+    hold(&[readings::FEATURE, groups::FEATURE, shift_windows::FEATURE, wide::FEATURE], 1);
+    hold(&[readings::FEATURE, groups::FEATURE, wide::FEATURE], 2);
+}
+
+/// A job whose procedure counts the moments at which the fluent holds.
 #[test]
 fn in_hand() {
-    let bases: Vec<Draft> = (0..=3).map(counting).collect();
-    tiny(&[in_hand::FEATURE], &bases).assert(&[]);
+    let nodes = |last: usize| [node(1, 0, 0, 0, 0), node(1, 1, 0, 0, 0), node(6, 0, 1, 0, last)];
+    let job = |last: usize| Draft {
+        nodes: nodes(last).map(|node| vec![node]).to_vec(),
+        ..job(last, [1, 1], [None, None], None)
+    };
+    (0..=3).for_each(|last| tiny(&[in_hand::FEATURE], &[job(last)]).assert(&[]));
 }
 
+/// Jobs with an action that makes the fluent true and one that makes it false.
 #[test]
 fn has_held() {
-    let bases: Vec<Draft> = (1..=3).flat_map(turning).collect();
-    tiny(&[has_held::FEATURE], &bases).assert(&[]);
+    let durations = [[1, 1], [1, 2], [2, 1], [2, 2]];
+    let known = [None, Some(true), Some(false)];
+    let all = durations.iter().flat_map(|durations| known.map(|known| (*durations, known)));
+    let jobs = |last: usize| all.clone().map(move |(durations, known)| job(last, durations, [Some(2), Some(3)], known));
+    (1..=3).for_each(|last| tiny(&[has_held::FEATURE], &jobs(last).collect::<Vec<Draft>>()).assert(&[]));
 }

@@ -7,6 +7,8 @@ pub mod jobs;
 pub mod plans;
 pub mod readings;
 pub mod shift_windows;
+pub mod trials;
+pub mod wide;
 
 use crate::draw::draft::{Draft, Drawn};
 use crate::oracle::call::{Call, Expected};

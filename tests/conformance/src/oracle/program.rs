@@ -18,19 +18,19 @@ pub enum Printed {
     Reading { world: Box<World>, decision: Decision },
 }
 
-/// The output for the two files' bytes; none is a file that can't be read.
-pub fn planread(job: Option<&[u8]>, plan: Option<&[u8]>) -> Printed {
+/// The output for the two files' bytes, of which none is a file that can't be read; none if a task set has more placements than
+/// are tried.
+pub fn planread(job: Option<&[u8]>, plan: Option<&[u8]>) -> Option<Printed> {
     let (Some(job), Some(plan)) = (words_of(job), words_of(plan)) else {
-        return Printed::Line("bad file\n".to_string());
+        return Some(Printed::Line("bad file\n".to_string()));
     };
     // "leading kind 9 words are starts, the rest facts"
     let starts = plan.iter().take_while(|&&word| kind(word) == 9).count();
-    let found = find(&job, &plan[..starts], &plan[starts..], 4_096).expect("few placements");
-    match found {
+    Some(match find(&job, &plan[..starts], &plan[starts..], 4_096)? {
         Outcome::Refused(refusal) => refused(Answer::refused(refusal)),
         Outcome::NoReading { decision, .. } => refused(no_reading(&decision)),
         Outcome::Read { world, decision } => Printed::Reading { world: Box::new(world), decision },
-    }
+    })
 }
 
 /// "`refused 13 at 0 triples 2`: number, position, count."
