@@ -73,3 +73,14 @@ fn has_held() {
 fn in_hand() {
     hold(&[in_hand::FEATURE], 14, 2_000);
 }
+
+#[test]
+fn much_in_hand_stepped_by_hand() {
+    stepped(&[in_hand::FEATURE], 15, 200).assert(&[]);
+}
+
+#[test]
+fn has_held_and_in_hand_with_others() {
+    generated(&[has_held::FEATURE, shift_windows::FEATURE, wide::FEATURE], 16, 500).assert(&[]);
+    generated(&[in_hand::FEATURE, groups::FEATURE, wide::FEATURE], 17, 500).assert(&[]);
+}

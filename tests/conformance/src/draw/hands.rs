@@ -64,23 +64,30 @@ pub fn any(random: &mut Random) -> Drawn {
     drawn(random, &shape)
 }
 
-/// All the 4,032 starts of 64 actions of one moment, n = 63, or nearly all: two actions are then left for damage, of which one
-/// clashes with others and one has a need, and one lasts two moments.
-pub fn largest(random: &mut Random, left_for_damage: bool) -> Drawn {
-    let mut draft = Draft { fluents: 3, last: 63, ..Draft::default() };
+/// All the 4,032 starts of 64 actions of one moment, n = 63.
+pub fn full(random: &mut Random) -> Drawn {
+    let actions = vec![vec![words::action(0, 1), words::law(2, 0)]; 64];
+    always(random, actions, 64)
+}
+
+/// Some 2,000 starts, up to n = 63. Two actions are left for damage: one clashes with others, one has a need.
+pub fn many(random: &mut Random) -> Drawn {
+    let mut actions = vec![vec![words::action(0, 1), words::law(2, 0)]; 32];
+    actions.push(vec![words::action(0, 2), words::law(2, 2)]);
+    actions.push(vec![words::action(0, 1), words::law(3, 0)]);
+    actions.push(vec![words::action(0, 1), words::law(random.below(2), 2)]);
+    always(random, actions, 33)
+}
+
+/// So many of the actions started one after the other, from 0 to n = 63.
+fn always(random: &mut Random, mut actions: Vec<Vec<u32>>, started: usize) -> Drawn {
+    actions.iter_mut().enumerate().for_each(|(number, action)| action[0] |= words::action(number, 0));
+    let mut draft = Draft { fluents: 3, last: 63, actions, ..Draft::default() };
     draft.initially = vec![words::initially(0, true), words::initially(1, random.chance(50))];
-    draft.actions = (0..64).map(|number| vec![words::action(number, 1), words::law(2, 0)]).collect();
-    let mut started = 0..64;
-    if left_for_damage {
-        draft.actions[61] = vec![words::action(61, 2), words::law(2, 2)];
-        draft.actions[62] = vec![words::action(62, 1), words::law(3, 0)];
-        draft.actions[63] = vec![words::action(63, 1), words::law(random.below(2), 2)];
-        started = 0..62;
-    }
     add_procedure(random, &mut draft);
-    let all = (0..63).flat_map(|t| started.clone().map(move |action| (t, action)));
-    let lawful = |&(t, action): &(usize, usize)| t % draft.duration(action) == 0 && t + draft.duration(action) <= 63;
-    let starts = all.filter(lawful).map(|(t, action)| words::start(t, action)).collect();
+    let all = (0..63).flat_map(|t| (0..started).map(move |action| (t, action)));
+    let follows = |&(t, action): &(usize, usize)| t % draft.duration(action) == 0 && t + draft.duration(action) <= 63;
+    let starts = all.filter(follows).map(|(t, action)| words::start(t, action)).collect();
     Drawn { draft, starts }
 }
 

@@ -96,27 +96,21 @@ fn spoil(random: &mut Random, drawn: &mut Drawn) {
     };
 }
 
-/// Each Y up to n + 2 and 63 on a fluent, on its negation, on 'always', on form 5 and on the negation of form 5. The procedure
-/// counts the moments up to each at which the formula holds, and those at which it fails.
+/// Each Y up to n + 2 and 63 on 'always', on a fluent, on its negation, on form 5 and on a negation of form 5. The procedure
+/// counts the moments at which the formula holds, the later ones more often, and those at which it fails.
 fn tiny(draft: &Draft) -> Vec<Draft> {
-    let of_fluent = vec![formula(0, 0, 0), formula(1, 0, 0)];
-    let with = |more: &[u32]| [&of_fluent[..], more].concat();
-    let bases = [
-        vec![formula(0, 0, 0)],
-        with(&[]),
-        with(&[formula(2, 1, 0)]),
-        with(&[formula(5, 1, 1)]),
-        with(&[formula(5, 1, 2), formula(2, 2, 0)]),
-    ];
-    let y = (0..=draft.last + 2).chain([63]);
-    let drafts = y.flat_map(|y| bases.iter().map(move |base| {
-        let held = base.len();
-        let formulas = [&base[..], &[formula(5, held - 1, y), formula(2, held, 0)]].concat();
-        let tests = [0, held, held + 1].map(|number| vec![node(1, number, 0, 0, 0)]);
-        let joined = [vec![node(6, 0, 1, 0, draft.last)], vec![node(3, 3, 2, 0, 0)]];
-        Draft { formulas, nodes: tests.into_iter().chain(joined).collect(), ..draft.clone() }
-    }));
-    drafts.collect()
+    let of_fluent = [formula(0, 0, 0), formula(1, 0, 0), formula(2, 1, 0)];
+    let of_held = [formula(5, 1, 1), formula(5, 2, 2), formula(2, 4, 0)];
+    let tests = [0, 6, 7].map(|number| node(1, number, 0, 0, 0));
+    let joined = [node(6, 0, 1, 0, draft.last), node(3, 3, 2, 0, 0)];
+    let nodes: Vec<Vec<u32>> = tests.into_iter().chain(joined).map(|node| vec![node]).collect();
+    let pairs = (0..=draft.last + 2).chain([63]).flat_map(|y| [0, 1, 2, 3, 5].map(|x| (x, y)));
+    let with = |(x, y)| Draft {
+        formulas: [&of_fluent[..], &of_held, &[formula(5, x, y), formula(2, 6, 0)]].concat(),
+        nodes: nodes.clone(),
+        ..draft.clone()
+    };
+    pairs.map(with).collect()
 }
 
 fn situations(seen: &Seen) -> Vec<&'static str> {
@@ -204,12 +198,7 @@ fn of_forms(job: &Job, depths: &[usize]) -> Vec<&'static str> {
 
 /// Where Y lies beside 0 and n.
 fn of_size(y: usize, last: usize) -> Vec<&'static str> {
-    met(&[
-        ("Y = 0", y == 0),
-        ("Y = n", y == last),
-        ("Y = n + 1", y == last + 1),
-        ("Y = 63 = n", y == 63 && last == 63),
-    ])
+    met(&[("Y = 0", y == 0), ("Y = n", y == last), ("Y = n + 1", y == last + 1), ("Y = 63 = n", y == 63 && last == 63)])
 }
 
 /// What alone keeps a formula of form 5 from holding at t: moments before 0, or one value of X.

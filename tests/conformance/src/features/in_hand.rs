@@ -38,7 +38,7 @@ pub const FEATURE: Feature = Feature {
         ("a need that a start of its moment makes", &[0]),
         ("a clash with what finishes", &[0]),
         ("a value turned", &[0]),
-        ("a new start with ten in hand", &[0, 7, 8, 9, 10]),
+        ("a new start with five in hand", &[0, 7, 8, 9, 10]),
         ("a word behind 1,000", &[6, 7, 8, 9, 10]),
         ("a word behind 4,096", &[6]),
     ],
@@ -46,21 +46,21 @@ pub const FEATURE: Feature = Feature {
 
 fn draw(random: &mut Random) -> Drawn {
     match random.below(400) {
-        0 => hands::largest(random, false),
-        1..=3 => hands::largest(random, true),
+        0 => hands::full(random),
+        1..=6 => hands::many(random),
         _ => hands::any(random),
     }
 }
 
 /// Damages the starts in their last third, for one of rows 6 to 10; or takes all starts that a job can have, and more.
 fn spoil(random: &mut Random, drawn: &mut Drawn) {
-    if drawn.starts.is_empty() || random.chance(if drawn.starts.len() < 1_000 { 1 } else { 30 }) {
+    if drawn.starts.is_empty() || random.chance(if drawn.starts.len() < 1_000 { 1 } else { 25 }) {
         drawn.starts = too_long(random);
         return;
     }
     let list = &mut drawn.starts;
     let place = random.between(list.len() * 2 / 3, list.len() - 1);
-    match random.below(11) {
+    match random.below(15) {
         0 => list[place] ^= 1 << random.between(12, 31),
         1 => list.swap(place, place.saturating_sub(1)),
         2 => list.insert(place, list[place]),
@@ -75,7 +75,8 @@ fn spoil(random: &mut Random, drawn: &mut Drawn) {
 fn one_more(random: &mut Random, draft: &Draft, near: u32, row: usize) -> Option<u32> {
     let (u, action) = (field(near, 11, 6), field(near, 5, 0));
     let has = |action: usize, test: &dyn Fn(u32) -> bool| draft.actions[action][1..].iter().any(|&law| test(law));
-    let contrary = |other: usize| has(action, &|law| field(law, 7, 6) > 1 && draft.actions[other].contains(&(law ^ 64)));
+    let contrary =
+        |other: usize| has(action, &|law| field(law, 7, 6) > 1 && draft.actions[other].contains(&(law ^ 64)));
     let needy = |other: usize| has(other, &|law| field(law, 7, 6) < 2);
     let fits = |&other: &usize| match row {
         7 => true,
@@ -121,13 +122,12 @@ fn tiny(draft: &Draft) -> Vec<Draft> {
 fn situations(seen: &Seen) -> Vec<&'static str> {
     match (seen.call, seen.number) {
         (Call::Fill { job, starts, .. }, 0) => read_plan(job, starts).map_or(vec![], |plan| of_plan(&plan)),
-        (Call::Check { .. }, 6..=10) => met(&[
-            ("a word behind 1,000", seen.position >= 1_000),
-            ("a word behind 4,096", seen.position >= 4_096),
-        ]),
+        (Call::Check { .. }, 6..=10) => {
+            met(&[("a word behind 1,000", seen.position >= 1_000), ("a word behind 4,096", seen.position >= 4_096)])
+        }
         (Call::TrialStart { .. }, _) => {
             let in_hand = |new: Start| seen.starts.iter().filter(|start| start.in_hand(new.moment)).count();
-            met(&[("a new start with ten in hand", seen.new_start().is_some_and(|new| in_hand(new) >= 10))])
+            met(&[("a new start with five in hand", seen.new_start().is_some_and(|new| in_hand(new) >= 5))])
         }
         _ => vec![],
     }
@@ -148,7 +148,8 @@ fn of_plan(plan: &Plan) -> Vec<&'static str> {
 
 /// What begins, finishes and hides at t.
 fn of_moment(plan: &Plan, t: usize) -> Vec<&'static str> {
-    let at = |test: fn(&Start, usize) -> bool| plan.starts.iter().filter(|start| test(start, t)).collect::<Vec<&Start>>();
+    let at =
+        |test: fn(&Start, usize) -> bool| plan.starts.iter().filter(|start| test(start, t)).collect::<Vec<&Start>>();
     let (new, done, hiding) = (at(|start, t| start.moment == t), at(Start::finishes), at(Start::hides));
     let action = |start: &Start| &plan.job.actions[start.action];
     let any = |one: &[&Start], other: &[&Start], test: &dyn Fn(&Start, &Start) -> bool| {
@@ -170,10 +171,16 @@ fn of_moment(plan: &Plan, t: usize) -> Vec<&'static str> {
         ("two finish and make one fluent", any(&done, &done, &shared)),
         ("two finish and make two fluents", any(&done, &done, &others)),
         ("a finish under the hiding of another", any(&done, &hiding, &shared)),
-        ("three durations hide one fluent", fluents.into_iter().any(|fluent| {
-            hiders(fluent).map(|start| start.duration).collect::<HashSet<_>>().len() > 2
-        })),
-        ("a hider begins where the one before finishes", any(&new, &done, &|new, old| new.duration > 1 && shared(new, old))),
+        (
+            "three durations hide one fluent",
+            fluents
+                .into_iter()
+                .any(|fluent| hiders(fluent).map(|start| start.duration).collect::<HashSet<_>>().len() > 2),
+        ),
+        (
+            "a hider begins where the one before finishes",
+            any(&new, &done, &|new, old| new.duration > 1 && shared(new, old)),
+        ),
         ("a hider begins where its fluent is known", new.iter().any(|start| start.duration > 1 && known(start))),
         ("a need given by a finish", any(&new, &done, &needed)),
         ("a need that a start of its moment makes", any(&new, &new, &needed)),
