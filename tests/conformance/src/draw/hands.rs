@@ -1,5 +1,5 @@
-//! Plans with much in hand (request L3): many starts hide one fluent together, finish together, follow each other at once, begin
-//! at one moment or at a few, or leave long gaps.
+//! Plans with much in hand (request L3): many starts hide one fluent together, finish together, follow each other at
+//! once, begin at one moment or at a few, or leave long gaps.
 
 use crate::draw::draft::{Draft, Drawn};
 use crate::draw::plans;
@@ -75,7 +75,7 @@ pub fn many(random: &mut Random) -> Drawn {
     let mut actions = vec![vec![words::action(0, 1), words::law(2, 0)]; 32];
     actions.push(vec![words::action(0, 2), words::law(2, 2)]);
     actions.push(vec![words::action(0, 1), words::law(3, 0)]);
-    actions.push(vec![words::action(0, 1), words::law(random.below(2), 2)]);
+    actions.push(vec![words::action(0, 1), words::law(1, 2)]);
     always(random, actions, 33)
 }
 

@@ -8,8 +8,8 @@ use crate::words;
 /// The longest time for which a drawn fluent is open after it was known. Each length takes an action of its own.
 const LONGEST_OPEN: usize = 6;
 
-/// A lawful plan up to that moment, without formulas and nodes: one to four fluents with drawn histories, and one to three
-/// actions without laws.
+/// A lawful plan up to that moment, without formulas and nodes: one to four fluents with drawn histories, and one to
+/// three actions without laws.
 pub fn plan(random: &mut Random, last: usize) -> Drawn {
     let mut drawn = Drawn { draft: Draft { last, ..Draft::default() }, starts: vec![] };
     for _ in 0..random.between(1, 3) {
@@ -38,7 +38,7 @@ fn add_free_action(random: &mut Random, drawn: &mut Drawn) {
     }
 }
 
-/// The values of a fluent at the moments 0 to n, such as a plan can make: what a start hides is known where it finishes.
+/// The values of a fluent at the moments 0 to n, such as a plan can make: what a start hides is known at its finish.
 fn history(random: &mut Random, last: usize) -> Vec<Value> {
     let mut history = match random.chance(30) {
         true => one_other(random, last),
@@ -81,7 +81,7 @@ fn runs(random: &mut Random, last: usize) -> Vec<Value> {
     history
 }
 
-/// One more fluent with this history: a start finishes wherever the value becomes known, and hides the open moments before.
+/// One more fluent with this history: a start finishes wherever its value becomes known or turns, and hides it before.
 fn add_fluent(drawn: &mut Drawn, history: &[Value]) {
     let fluent = drawn.draft.fluents;
     drawn.draft.fluents += 1;

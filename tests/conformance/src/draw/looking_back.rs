@@ -5,8 +5,8 @@ use crate::draw::jobs;
 use crate::random::Random;
 use crate::words::{condition, formula, member, node};
 
-/// Formula 0 always holds, one or two more are fluents; of the others most are of form 5. In one job of six each is on the one
-/// before.
+/// Formula 0 always holds, one or two more are fluents; of the others most are of form 5. In one job of six each is on
+/// the one before.
 pub fn formulas(random: &mut Random, draft: &Draft) -> Vec<u32> {
     let how_many = *random.pick(&[4, 6, 8, 10, 12, 16, 20, 64]);
     let fluents = draft.fluents.min(random.between(1, 2));

@@ -1,9 +1,8 @@
-//! Request L7, "Has held for a while": "At t its value is 'and' taken over the values of X at t − Y to t, oldest first, counting
-//! moments before 0 as open."
+//! Request L7, "Has held for a while": "At t its value is 'and' taken over the values of X at t − Y to t, oldest first,
+//! counting moments before 0 as open."
 
-use crate::draw::damage;
 use crate::draw::draft::{Draft, Drawn};
-use crate::draw::{histories, lists, looking_back, plans, programs};
+use crate::draw::{damage, histories, lists, looking_back, plans, programs};
 use crate::features::{met, Feature, Seen};
 use crate::oracle::call::Call;
 use crate::oracle::formulas::Value;
@@ -96,7 +95,7 @@ fn spoil(random: &mut Random, drawn: &mut Drawn) {
     };
 }
 
-/// Each Y up to n + 2 and 63 on 'always', on a fluent, on its negation, on form 5 and on a negation of form 5. The procedure
+/// Each Y up to n + 2 and 63 on 'always', on a fluent, on its negation, on form 5 and on a negation of form 5. Find
 /// counts the moments at which the formula holds, the later ones more often, and those at which it fails.
 fn tiny(draft: &Draft) -> Vec<Draft> {
     let of_fluent = [formula(0, 0, 0), formula(1, 0, 0), formula(2, 1, 0)];
@@ -119,19 +118,16 @@ fn situations(seen: &Seen) -> Vec<&'static str> {
         return met(&[("a word of form 5 refused", word.is_some_and(|&word| kind(word) == 5 && form(word) == 5))]);
     };
     let Ok(plan) = read_plan(job, starts) else { return vec![] };
-    let world = World::new(&plan);
-    let depths = depths(&plan.job);
+    let (world, asked, depths) = (World::new(&plan), asked(&plan.job), depths(&plan.job));
     let named = plan.job.nodes.iter().flat_map(uses).filter(|&(_, number)| depths[number] > 0);
     let mut names: Vec<&'static str> = named.map(|(name, _)| name).collect();
-    names.extend(of_forms(&plan.job, &depths));
-    for number in asked(&plan.job) {
+    names.extend(of_forms(&plan.job, &asked, &depths));
+    for number in asked {
         if let Formula::Held { x, moments } = plan.job.formulas[number] {
             names.extend(of_size(moments, world.last()));
             names.extend((0..=world.last()).filter_map(|t| of_moment(&world, (number, x), moments, t)));
         }
     }
-    names.sort();
-    names.dedup();
     names
 }
 
@@ -181,18 +177,18 @@ fn asked(job: &Job) -> Vec<usize> {
     (0..asked.len()).filter(|&number| asked[number]).collect()
 }
 
-/// Which forms formulas of form 5 stand on, and which stand on them.
-fn of_forms(job: &Job, depths: &[usize]) -> Vec<&'static str> {
-    let numbers = || 0..job.formulas.len();
+/// Which forms the asked formulas of form 5 stand on, and which asked formulas stand on them.
+fn of_forms(job: &Job, asked: &[usize], depths: &[usize]) -> Vec<&'static str> {
     let form = |number: usize| discriminant(&job.formulas[number]);
     let is_held = |number: usize| matches!(job.formulas[number], Formula::Held { .. });
-    let names = |number: usize| lower(job.formulas[number]);
-    let below: HashSet<_> = numbers().filter(|&number| is_held(number)).map(|number| form(names(number)[0])).collect();
-    let above: HashSet<_> = numbers().filter(|&number| names(number).into_iter().any(is_held)).map(form).collect();
+    let above = |number: usize| lower(job.formulas[number]).into_iter().any(is_held).then(|| form(number));
+    let below = |number: usize| is_held(number).then(|| form(lower(job.formulas[number])[0]));
+    let forms =
+        |of: &dyn Fn(usize) -> Option<_>| asked.iter().filter_map(|&number| of(number)).collect::<HashSet<_>>().len();
     met(&[
-        ("X of each form", below.len() == 6),
-        ("under not, and, or, form 5", above.len() == 4),
-        ("ten on one another", depths.iter().any(|&depth| depth >= 10)),
+        ("X of each form", forms(&below) == 6),
+        ("under not, and, or, form 5", forms(&above) == 4),
+        ("ten on one another", asked.iter().any(|&number| depths[number] >= 10)),
     ])
 }
 

@@ -1,5 +1,5 @@
-//! Request L3, "Hidden facts carried along": "the set is exactly the starts with u ≤ t < u + d", and what they hide, give and
-//! forbid goes from moment to moment.
+//! Request L3, "Hidden facts carried along": "at each moment t the set is exactly the starts with u ≤ t < u + d". What
+//! they hide, give and forbid goes from moment to moment.
 
 use crate::draw::draft::{Draft, Drawn};
 use crate::draw::{damage, hands, lists};
@@ -47,18 +47,19 @@ pub const FEATURE: Feature = Feature {
 fn draw(random: &mut Random) -> Drawn {
     match random.below(400) {
         0 => hands::full(random),
-        1..=6 => hands::many(random),
+        1..=8 => hands::many(random),
         _ => hands::any(random),
     }
 }
 
 /// Damages the starts in their last third, for one of rows 6 to 10; or takes all starts that a job can have, and more.
+/// A plan without starts gets one.
 fn spoil(random: &mut Random, drawn: &mut Drawn) {
-    if drawn.starts.is_empty() || random.chance(if drawn.starts.len() < 1_000 { 1 } else { 25 }) {
-        drawn.starts = too_long(random);
+    let list = &mut drawn.starts;
+    if list.is_empty() || random.chance(if list.len() < 1_000 { 1 } else { 25 }) {
+        *list = if list.is_empty() { vec![words::start(0, 0)] } else { too_long(random) };
         return;
     }
-    let list = &mut drawn.starts;
     let place = random.between(list.len() * 2 / 3, list.len() - 1);
     match random.below(15) {
         0 => list[place] ^= 1 << random.between(12, 31),
@@ -104,8 +105,8 @@ fn too_long(random: &mut Random) -> Vec<u32> {
     all.chain((1..=more).map(|place| words::start(63, 63) + place * step)).collect()
 }
 
-/// Two actions of 1 to 3 moments of which each makes the one fluent true, false or neither; the second one needs it so or not;
-/// and each way in which it can be known at 0.
+/// Two actions of 1 to 3 moments of which each makes the one fluent true, false or neither. The second one needs it
+/// true, false or not at all. It is known at 0 in each way.
 fn tiny(draft: &Draft) -> Vec<Draft> {
     let law = |role: usize, value: usize| (value < 2).then(|| words::law(role + value, 0));
     let mut drafts = vec![];
@@ -148,8 +149,9 @@ fn of_plan(plan: &Plan) -> Vec<&'static str> {
 
 /// What begins, finishes and hides at t.
 fn of_moment(plan: &Plan, t: usize) -> Vec<&'static str> {
-    let at =
-        |test: fn(&Start, usize) -> bool| plan.starts.iter().filter(|start| test(start, t)).collect::<Vec<&Start>>();
+    let at = |test: fn(&Start, usize) -> bool| -> Vec<&Start> {
+        plan.starts.iter().filter(|start| test(start, t)).collect()
+    };
     let (new, done, hiding) = (at(|start, t| start.moment == t), at(Start::finishes), at(Start::hides));
     let action = |start: &Start| &plan.job.actions[start.action];
     let any = |one: &[&Start], other: &[&Start], test: &dyn Fn(&Start, &Start) -> bool| {
@@ -159,10 +161,13 @@ fn of_moment(plan: &Plan, t: usize) -> Vec<&'static str> {
     let shared = |a: &Start, b: &Start| makes(a, &|made| makes(b, &|other| made.fluent == other.fluent));
     let others = |a: &Start, b: &Start| makes(a, &|made| makes(b, &|other| made.fluent != other.fluent));
     let needed = |a: &Start, b: &Start| action(a).needs.iter().any(|need| makes(b, &|made| made.fluent == need.fluent));
-    let hiders = |fluent: usize| hiding.iter().filter(move |start| makes(start, &|made| made.fluent == fluent));
+    let follows = |new: &Start, old: &Start| new.duration > 1 && shared(new, old);
+    let durations = |fluent: usize| {
+        let hiders = hiding.iter().filter(|start| makes(start, &|made| made.fluent == fluent));
+        hiders.map(|start| start.duration).collect::<HashSet<usize>>()
+    };
     let known = |start: &Start| makes(start, &|made| plan.states[t][made.fluent].is_some());
     let turned = |(now, before): (&Option<bool>, &Option<bool>)| now.is_some() && before.is_some() && now != before;
-    let fluents = 0..plan.job.fluents;
     met(&[
         ("64 starts at one moment", new.len() == 64),
         ("64 in hand and new ones where they finish", done.len() + hiding.len() == 64 && !new.is_empty()),
@@ -171,16 +176,8 @@ fn of_moment(plan: &Plan, t: usize) -> Vec<&'static str> {
         ("two finish and make one fluent", any(&done, &done, &shared)),
         ("two finish and make two fluents", any(&done, &done, &others)),
         ("a finish under the hiding of another", any(&done, &hiding, &shared)),
-        (
-            "three durations hide one fluent",
-            fluents
-                .into_iter()
-                .any(|fluent| hiders(fluent).map(|start| start.duration).collect::<HashSet<_>>().len() > 2),
-        ),
-        (
-            "a hider begins where the one before finishes",
-            any(&new, &done, &|new, old| new.duration > 1 && shared(new, old)),
-        ),
+        ("three durations hide one fluent", (0..plan.job.fluents).any(|fluent| durations(fluent).len() > 2)),
+        ("a hider begins where the one before finishes", any(&new, &done, &follows)),
         ("a hider begins where its fluent is known", new.iter().any(|start| start.duration > 1 && known(start))),
         ("a need given by a finish", any(&new, &done, &needed)),
         ("a need that a start of its moment makes", any(&new, &new, &needed)),
