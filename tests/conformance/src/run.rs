@@ -98,8 +98,7 @@ pub fn tiny(features: &[Feature], bases: &[Draft]) -> Report {
     for feature in features {
         drafts = drafts.iter().flat_map(|draft| (feature.tiny)(draft)).collect();
     }
-    let every = drafts.len() / MOST_TINY + 1;
-    drafts.iter().step_by(every).enumerate().for_each(|(number, draft)| run.every_list(draft, number));
+    drafts.iter().step_by(drafts.len() / MOST_TINY + 1).for_each(|draft| run.every_list(draft));
     run.report
 }
 
@@ -226,8 +225,8 @@ impl Run<'_> {
         }
     }
 
-    /// Asks about every ascending list of starts of a tiny job, the job of this number.
-    fn every_list(&mut self, draft: &Draft, number: usize) {
+    /// Asks about every ascending list of starts of a tiny job.
+    fn every_list(&mut self, draft: &Draft) {
         let job = draft.words();
         let actions = draft.actions.len();
         let latest = |action: usize| (draft.last + 1).saturating_sub(draft.duration(action));
@@ -236,25 +235,28 @@ impl Run<'_> {
         all.sort();
         for chosen in 0..1_usize << all.len() {
             let starts: Vec<u32> = (0..all.len()).filter(|place| chosen >> place & 1 == 1).map(|at| all[at]).collect();
-            self.tiny_plan(&job, &starts, chosen + number);
+            self.tiny_plan(&job, &starts);
         }
     }
 
-    /// Asks check, and by turns fill, find and the trial calls.
-    fn tiny_plan(&mut self, job: &[u32], starts: &[u32], turn: usize) {
+    /// Asks check; fill and find about every lawful plan, and by turns about others; and by turns the trial calls.
+    fn tiny_plan(&mut self, job: &[u32], starts: &[u32]) {
         let facts = plan::facts(job, starts);
         self.ask(Call::check(job, starts, &facts));
-        let room = if is_wide(job) { 16_384 } else { 4_096 };
-        match turn % 4 {
-            0 => drop(self.ask(Call::fill(job, starts, room))),
-            1 | 2 => drop(self.ask(Call::find(job, starts, &facts, 4_096))),
-            _ => {
-                let moment = starts.last().map_or(0, |&word| field(word, 11, 6));
-                let slice = Trial::new(moment, &starts[..starts.len().saturating_sub(1)]).slice();
-                let action = starts.last().map_or(0, |&word| word & 63);
-                self.ask(Call::trial_start(job, &slice, action));
-                self.ask(Call::trial_on(job, &Trial::new(moment, starts).slice()));
-            }
+        let lawful = plan::read_plan(job, starts).is_ok();
+        let turn = self.random.below(4);
+        if lawful || turn == 0 {
+            self.ask(Call::fill(job, starts, if is_wide(job) { 16_384 } else { 4_096 }));
+        }
+        if lawful || turn == 1 {
+            self.ask(Call::find(job, starts, &facts, 4_096));
+        }
+        if turn == 2 {
+            let moment = starts.last().map_or(0, |&word| field(word, 11, 6));
+            let slice = Trial::new(moment, &starts[..starts.len().saturating_sub(1)]).slice();
+            let action = starts.last().map_or(0, |&word| word & 63);
+            self.ask(Call::trial_start(job, &slice, action));
+            self.ask(Call::trial_on(job, &Trial::new(moment, starts).slice()));
         }
     }
 }

@@ -1,7 +1,9 @@
 //! Every list of starts of tiny jobs that have a feature, or several, in each way.
 
 use conformance::draw::draft::Draft;
-use conformance::features::{groups, quiet_pause, readings, shift_windows, task_sets, wide, Feature};
+use conformance::features::{
+    groups, has_held, in_hand, quiet_pause, readings, shift_windows, task_sets, wide, Feature,
+};
 use conformance::run::tiny;
 use conformance::words::{action, formula, initially, law, node};
 
@@ -66,4 +68,25 @@ fn quiet_pause() {
 fn several_together() {
     hold(&[readings::FEATURE, groups::FEATURE, shift_windows::FEATURE, wide::FEATURE], 1);
     hold(&[readings::FEATURE, groups::FEATURE, wide::FEATURE], 2);
+}
+
+/// A job whose procedure counts the moments at which the fluent holds.
+#[test]
+fn in_hand() {
+    let nodes = |last: usize| [node(1, 0, 0, 0, 0), node(1, 1, 0, 0, 0), node(6, 0, 1, 0, last)];
+    let job = |last: usize| Draft {
+        nodes: nodes(last).map(|node| vec![node]).to_vec(),
+        ..job(last, [1, 1], [None, None], None)
+    };
+    (0..=3).for_each(|last| tiny(&[in_hand::FEATURE], &[job(last)]).assert(&[]));
+}
+
+/// Jobs with an action that makes the fluent true and one that makes it false.
+#[test]
+fn has_held() {
+    let durations = [[1, 1], [1, 2], [2, 1], [2, 2]];
+    let known = [None, Some(true), Some(false)];
+    let all = durations.iter().flat_map(|durations| known.map(|known| (*durations, known)));
+    let jobs = |last: usize| all.clone().map(move |(durations, known)| job(last, durations, [Some(2), Some(3)], known));
+    (1..=3).for_each(|last| tiny(&[has_held::FEATURE], &jobs(last).collect::<Vec<Draft>>()).assert(&[]));
 }

@@ -25,7 +25,8 @@ fn one_start(random: &mut Random, list: &[u32], draft: &Draft) -> Vec<u32> {
     }
 }
 
-fn put_in(list: &[u32], word: u32) -> Vec<u32> {
+/// The list with one more word, in its order.
+pub fn put_in(list: &[u32], word: u32) -> Vec<u32> {
     let mut list = list.to_vec();
     let place = list.iter().position(|&other| other >= word).unwrap_or(list.len());
     list.insert(place, word);

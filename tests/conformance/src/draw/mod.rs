@@ -3,9 +3,12 @@
 
 pub mod damage;
 pub mod draft;
+pub mod hands;
+pub mod histories;
 pub mod jobs;
 pub mod limits;
 pub mod lists;
+pub mod looking_back;
 pub mod placements;
 pub mod plans;
 pub mod programs;

@@ -113,8 +113,17 @@ fn action(random: &mut Random, number: usize, last: usize, usual: &[bool]) -> Ve
 
 /// Starts within the rules, so often as the draw says and the rules allow.
 pub fn lawful_starts(random: &mut Random, draft: &Draft) -> Vec<u32> {
-    let job = read_job(&draft.words()).expect("a well-formed job");
     let eagerness = *random.pick(&[0, 10, 30, 60, 100]);
+    lawful_starts_by(random, draft, |random, _, _, _| random.chance(eagerness))
+}
+
+/// Starts within the rules, wherever `wants` says so of the starts so far, a moment and an action.
+pub fn lawful_starts_by(
+    random: &mut Random,
+    draft: &Draft,
+    wants: impl Fn(&mut Random, &[Start], usize, usize) -> bool,
+) -> Vec<u32> {
+    let job = read_job(&draft.words()).expect("a well-formed job");
     let mut starts: Vec<Start> = vec![];
     let mut state = initial_state(&job);
     for t in 0..=job.last {
@@ -122,7 +131,7 @@ pub fn lawful_starts(random: &mut Random, draft: &Draft) -> Vec<u32> {
             state = state_at(&job, &starts, &state, t);
         }
         for action in random.some_of(job.actions.len(), job.actions.len()) {
-            if random.chance(eagerness) && may_start(&job, &starts, &state, t, action) {
+            if wants(random, &starts, t, action) && may_start(&job, &starts, &state, t, action) {
                 starts.push(Start { moment: t, action, duration: job.actions[action].duration });
             }
         }

@@ -1,6 +1,8 @@
 //! One file a feature of the product: how it is drawn, how it is spoiled, and which situations a run must meet.
 
 pub mod groups;
+pub mod has_held;
+pub mod in_hand;
 pub mod jobs;
 pub mod plans;
 pub mod quiet_pause;
