@@ -1,5 +1,5 @@
 # How the fuzzer and the replayer are built; read by the scripts beside it, from the top of the repository.
-sources=$(for name in input guard calls counters generate mutate trial harness; do echo tests/fuzz/$name.c; done)
+sources=$(for name in input guard calls counters mutate trial harness; do echo tests/fuzz/$name.c; done)
 strict='-std=c11 -Wall -Wextra -Wpedantic -Werror -Iinclude -O2 -g'
 
 # Compiles sources to target/fuzz/FOLDER, and prints the objects' names.

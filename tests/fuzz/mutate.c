@@ -1,5 +1,5 @@
 /* The mutator: it changes an input by words, and asks fill what to put right, so that find meets plans that pass. */
-#include "generate.h"
+#include "dice.h"
 #include "harness.h"
 #include <stdlib.h>
 #include <string.h>
@@ -253,7 +253,6 @@ size_t LLVMFuzzerCustomMutator(uint8_t *data, size_t size, size_t most, unsigned
     static struct input in;
     struct dice dice = {seed};
     input_decode(&in, data, size);
-    if (chance(&dice, 20)) generate(&in, &dice, 1 + roll(&dice, 20));
     for (uint32_t times = 1 + roll(&dice, 4); times > 0; times--)
         mutations[roll(&dice, sizeof mutations / sizeof *mutations)](&in, &dice);
     put_right(&in, &dice);

@@ -2,7 +2,7 @@
  * Runs each file as it is, then so many mutations of them, the same for the same seed. Prints how often each call gave
  * each number, and fails if a number that a call has was never given. Writes the input of a violation to FINDING. */
 #include "calls.h"
-#include "generate.h"
+#include "dice.h"
 #include "harness.h"
 #include <sanitizer/common_interface_defs.h>
 #include <stdio.h>

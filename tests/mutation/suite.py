@@ -10,7 +10,8 @@ import sys
 from build import LIBRARY, PROGRAM, ROOT, WORK, run
 
 LISTINGS = sorted(path.relative_to(ROOT) for path in (ROOT / "tests" / "vectors").glob("*.txt"))
-LIMIT = 120  # seconds that a test program has
+LIMIT = 120  # seconds that a test program has on a mutant
+NO_LIMIT = 0  # in the gate no time decides: the chosen mutants end
 NO_LIBRARY = 99  # the status of a test program that calls.c ends
 
 # The test programs of what is built, from quick to slow. The bench is for mutants of speed.
@@ -41,12 +42,12 @@ def executables(words, calls):
     return {one["target"]["name"]: one["executable"] for one in said if one.get("executable")}
 
 
-def failure(name, words, folder):
+def failure(name, words, folder, limit=LIMIT):
     """Runs a test program on what was built in the folder. Returns its name and what fails of it, or None."""
     built = {"MUTANT_LIBRARY": str(folder / "libplanreader.so"), "PLANREAD": str(folder / "planread")}
     env = {**os.environ, "RUST_TEST_THREADS": "1", **built}
     more = {"stdin": subprocess.DEVNULL, "stdout": subprocess.PIPE, "stderr": subprocess.STDOUT, "errors": "replace"}
-    ran = subprocess.run(["timeout", str(LIMIT), *map(str, words)], cwd=ROOT, env=env, **more)
+    ran = subprocess.run(["timeout", str(limit), *map(str, words)], cwd=ROOT, env=env, **more)
     with open(folder / "tests.log", "a") as log:
         log.write(f"== {name}: {ran.returncode}\n{ran.stdout}\n")
     if ran.returncode <= 0:

@@ -41,6 +41,21 @@ pub struct Feature {
     pub needed: &'static [(&'static str, &'static [usize])],
 }
 
+/// Every feature.
+pub const ALL: [Feature; 11] = [
+    jobs::FEATURE,
+    plans::FEATURE,
+    readings::FEATURE,
+    task_sets::FEATURE,
+    trials::FEATURE,
+    quiet_pause::FEATURE,
+    in_hand::FEATURE,
+    shift_windows::FEATURE,
+    groups::FEATURE,
+    wide::FEATURE,
+    has_held::FEATURE,
+];
+
 /// A call that was made, as the situations are told from it.
 pub struct Seen<'a> {
     pub call: &'a Call,
