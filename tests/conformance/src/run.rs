@@ -169,33 +169,19 @@ impl Run<'_> {
         *self.random.pick(lengths)
     }
 
-    /// Asks the four calls about the plan up to one of its moments. One start of that moment, if there is one, is left out and
-    /// tried; the other calls have it.
+    /// Asks the four calls about the plan up to one of its moments, now and then damaged. Start is asked about a start of that
+    /// moment, which the trial then lacks, or about any action.
     fn trial(&mut self, job: &[u32], drawn: &Drawn) {
-        let moments: Vec<usize> = drawn.starts.iter().map(|&word| field(word, 11, 6)).collect();
-        let moment = match moments.is_empty() || self.random.chance(20) {
-            true => self.random.below(drawn.draft.last + 1),
-            false => *self.random.pick(&moments),
-        };
-        let starts: Vec<u32> = drawn.starts.iter().copied().filter(|&word| field(word, 11, 6) <= moment).collect();
-        let mut whole = Trial::new(moment, &starts);
+        let mut trial = trials::lawful(&mut self.random, drawn);
         if self.random.chance(30) {
-            whole = trials::damaged(&mut self.random, drawn, &whole);
+            trial = trials::damaged(&mut self.random, drawn, &trial);
         }
-        let now: Vec<u32> = starts.iter().copied().filter(|&word| field(word, 11, 6) == moment).collect();
-        let actions = drawn.draft.actions.len();
-        let (left_out, action) = match now.is_empty() || self.random.chance(30) {
-            true => (None, trials::action(&mut self.random, actions)),
-            false => Some(*self.random.pick(&now)).map_or((None, 0), |word| (Some(word), word & 63)),
-        };
-        let others: Vec<u32> = whole.starts.iter().copied().filter(|&word| Some(word) != left_out).collect();
-        let number = whole.number.saturating_sub((whole.starts.len() - others.len()) as u32);
-        let tried = Trial { number, starts: others, ..whole.clone() };
+        let (tried, action) = trials::to_try(&mut self.random, &trial, drawn.draft.actions.len());
         self.ask(Call::trial_start(job, &tried.slice(), action));
-        self.ask(Call::trial_on(job, &whole.slice()));
-        self.ask(Call::trial_begin(job, &whole.slice()));
+        self.ask(Call::trial_on(job, &trial.slice()));
+        self.ask(Call::trial_begin(job, &trial.slice()));
         let room = self.room(job);
-        self.ask(Call::trial_show(job, &whole.slice(), room));
+        self.ask(Call::trial_show(job, &trial.slice(), room));
     }
 
     /// Asks about the plan with one word of its job damaged, and with its starts damaged.

@@ -98,17 +98,32 @@ impl Trial {
     }
 }
 
-/// A trial that moves give: the plan up to some moment, often the last one or the one before it.
+/// The plan up to some moment, often that of one of its starts, or the last one or the one before it.
 pub fn lawful(random: &mut Random, plan: &Drawn) -> Trial {
     let last = plan.draft.last;
-    let moment = match random.below(4) {
+    let moment = match random.below(6) {
         0 => last,
         1 => last.saturating_sub(1),
+        2..=4 if !plan.starts.is_empty() => field(*random.pick(&plan.starts), 11, 6),
         _ => random.below(last + 1),
     };
     let mut trial = Trial::new(moment, &up_to(&plan.starts, moment));
     trial.length = length(random);
     trial
+}
+
+/// The trial without one start of its moment, with that start's action, so that it can be tried; or the whole trial with any
+/// action.
+pub fn to_try(random: &mut Random, trial: &Trial, actions: usize) -> (Trial, u32) {
+    let is_now = |place: &usize| field(trial.starts[*place], 11, 6) == trial.moment as usize;
+    let now: Vec<usize> = (0..trial.starts.len()).filter(is_now).collect();
+    if now.is_empty() || random.chance(30) {
+        return (trial.clone(), action(random, actions));
+    }
+    let mut tried = trial.clone();
+    let word = tried.starts.remove(*random.pick(&now));
+    tried.number = tried.number.saturating_sub(1);
+    (tried, word & 63)
 }
 
 fn up_to(starts: &[u32], moment: usize) -> Vec<u32> {
