@@ -1,5 +1,5 @@
-/* The calls of the library that MUTANT_LIBRARY names, if it is set: tests and bench are linked once, and load any mutant
- * or archive. The calls are looked up before the program begins, so that the bench does not count it. */
+/* The calls of the library that MUTANT_LIBRARY names, if it is set: tests and bench are linked once, and load any
+ * mutant or archive. The calls are looked up before the program begins, so that the bench does not count it. */
 #include <dlfcn.h>
 #include <stddef.h>
 #include <stdint.h>

@@ -53,7 +53,7 @@ def checked(kit, crate, folder, more):
 
 
 def first_error(log):
-    """Returns the kind and the place of the first error of the gravest kind. An indented line goes on the one before."""
+    """Returns the kind and the place of the first error of the gravest kind. An indented line goes on the last."""
     pattern = r"^(?:(\S+?:\d+):\d+: error:|note: (\S+?:\d+):\d+: (?=it is not proved)) ?(.*)$"
     errors = re.findall(pattern, log.replace("\n  ", " "), re.MULTILINE)
     for kind, marks in KINDS.items():
