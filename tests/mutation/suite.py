@@ -61,9 +61,7 @@ def failure(name, words, folder):
 
 class Suite:
     def __init__(self, kit, with_bench):
-        self.kit = kit
-        self.words = link_tests(with_bench)
-        self.plain = WORK / "plain"
+        self.kit, self.words, self.plain = kit, link_tests(with_bench), WORK / "plain"
         shutil.rmtree(self.plain, ignore_errors=True)
         for what in TESTS:
             kit.build(what, self.plain)
