@@ -1,5 +1,5 @@
-/* The calls of the library that MUTANT_LIBRARY names: tests and bench are linked once, and load any mutant or archive.
- * The calls are looked up before the program begins, so that the bench does not count it. */
+/* The calls of the library that MUTANT_LIBRARY names, if it is set: tests and bench are linked once, and load any
+ * mutant or archive. The calls are looked up before the program begins, so that the bench does not count it. */
 #include <dlfcn.h>
 #include <stddef.h>
 #include <stdint.h>
@@ -11,7 +11,9 @@ typedef uint32_t *buffer;
 
 static void *function(const char *name)
 {
-    void *library = dlopen(getenv("MUTANT_LIBRARY"), RTLD_NOW | RTLD_LOCAL);
+    const char *path = getenv("MUTANT_LIBRARY");
+    if (!path) return NULL;
+    void *library = dlopen(path, RTLD_NOW | RTLD_LOCAL);
     void *found = library ? dlsym(library, name) : NULL;
     if (!found) {
         fprintf(stderr, "%s\n", dlerror());

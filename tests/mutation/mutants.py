@@ -9,13 +9,10 @@ from build import ROOT
 @dataclass
 class Mutant:
     name: str
+    crate: str
     what: str
     speed: bool = False
     edits: list = field(default_factory=list)  # of file, old text, new text
-
-    @property
-    def crate(self):
-        return self.name.split("/")[0]
 
     def copy_to(self, folder):
         """Makes a copy of the crate with the edits."""
@@ -42,7 +39,8 @@ def read():
         elif line == "speed":
             found[-1].speed = True
         elif line and mark != "# ":
-            found.append(Mutant(*line.split(": ", 1)))
+            name, what = line.split(": ", 1)
+            found.append(Mutant(name, name.split("/")[0], what))
             file = "src/lib.rt"
     return found
 

@@ -46,16 +46,14 @@ def checked(kit, crate, folder, more):
     words = [str(kit.own / "bin" / "rattle"), "check", "--crate-name", crate, str(folder / "src" / "lib.rt")]
     for dep in ["std", *kit.crates[crate]]:
         words += ["--extern", f"{dep}={(TARGET if dep in kit.crates else kit.own) / 'rlib' / dep}.rlib"]
-    words += ["-L", f"dependency={TARGET / 'rlib'}", "-L", f"dependency={kit.own / 'rlib'}"]
-    words += ["--antt-project", str(kit.home / "logic" / "antt-project.json")]
-    words += ["--logic-built", str(kit.own / "logic-built"), *more]
+    words += ["-L", f"dependency={TARGET / 'rlib'}", "-L", f"dependency={kit.own / 'rlib'}", *more]
+    words += ["--antt-project", f"{kit.home}/logic/antt-project.json", "--logic-built", f"{kit.own}/logic-built"]
     ran = subprocess.run(words, stdout=subprocess.PIPE, stderr=subprocess.STDOUT, text=True)
     return ran.returncode, ran.stdout
 
 
 def first_error(log):
-    """Returns the kind and the place of the first error of the gravest kind. A line that begins with blanks goes on
-    with the one before."""
+    """Returns the kind and the place of the first error of the gravest kind. An indented line goes on the last."""
     pattern = r"^(?:(\S+?:\d+):\d+: error:|note: (\S+?:\d+):\d+: (?=it is not proved)) ?(.*)$"
     errors = re.findall(pattern, log.replace("\n  ", " "), re.MULTILINE)
     for kind, marks in KINDS.items():

@@ -1,5 +1,4 @@
-"""The tests' verdict on a mutant: the tests are linked once, with calls that load a library, and run up to the first
-that fails."""
+"""The tests' verdict on a mutant. The tests are linked once, with calls that load a library."""
 import filecmp
 import json
 import os
@@ -44,8 +43,8 @@ def executables(words, calls):
 
 def failure(name, words, folder, limit=LIMIT):
     """Runs a test program on what was built in the folder. Returns its name and what fails of it, or None."""
-    built = {"MUTANT_LIBRARY": str(folder / "libplanreader.so"), "PLANREAD": str(folder / "planread")}
-    env = {**os.environ, "RUST_TEST_THREADS": "1", **built}
+    variable, built = ("PLANREAD", "planread") if name in TESTS[PROGRAM] else ("MUTANT_LIBRARY", "libplanreader.so")
+    env = {**os.environ, "RUST_TEST_THREADS": "1", variable: str(folder / built)}
     more = {"stdin": subprocess.DEVNULL, "stdout": subprocess.PIPE, "stderr": subprocess.STDOUT, "errors": "replace"}
     ran = subprocess.run(["timeout", str(limit), *map(str, words)], cwd=ROOT, env=env, **more)
     with open(folder / "tests.log", "a") as log:
@@ -57,15 +56,13 @@ def failure(name, words, folder, limit=LIMIT):
     if ran.returncode == 124:
         return f"{name}: no end in {LIMIT} s"
     lines = ran.stdout.splitlines()
-    tests = [line.split()[1] for line in lines if line.startswith("test ") and line.endswith("FAILED")]
-    return f"{name}: {(tests or lines or ['no word'])[0][:100]}"
+    first = [*(line for line in lines if line.endswith("FAILED")), *lines, "no word"][0]
+    return f"{name}: {' '.join(first.removeprefix('test ').removesuffix('FAILED').split())[:100].rstrip(' .')}"
 
 
 class Suite:
     def __init__(self, kit, with_bench):
-        self.kit = kit
-        self.words = link_tests(with_bench)
-        self.plain = WORK / "plain"
+        self.kit, self.words, self.plain = kit, link_tests(with_bench), WORK / "plain"
         shutil.rmtree(self.plain, ignore_errors=True)
         for what in TESTS:
             kit.build(what, self.plain)
