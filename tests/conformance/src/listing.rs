@@ -1,5 +1,5 @@
-//! Listings of calls by hand, `tests/vectors/*.txt`: a call, its words, its answer and a line of why. `tests/README.md` has the
-//! format; the C test reads the same files.
+//! Listings of calls by hand, `tests/vectors/*.txt`: a call, its words, its answer and a line of why. `tests/vectors/README.md`
+//! has the format; the C test reads the same files.
 
 use crate::oracle::answer::Answer;
 use crate::oracle::call::{noise, Call};
@@ -17,9 +17,9 @@ pub struct Entry {
     pub written: Vec<Vec<u32>>,
 }
 
-/// The lists and numbers that hold until they are set again.
+/// The lists and numbers that stay until they are set again.
 #[derive(Default)]
-struct Held {
+struct Settings {
     job: Vec<u32>,
     starts: Vec<u32>,
     facts: Vec<u32>,
@@ -42,7 +42,7 @@ pub fn all() -> Vec<Entry> {
 pub fn entries(path: &Path) -> Vec<Entry> {
     let name = path.file_name().expect("a file").to_string_lossy().into_owned();
     let text = fs::read_to_string(path).expect("a listing");
-    let mut held = Held { buffer: 4096, length: 4098, ..Held::default() };
+    let mut settings = Settings { buffer: 4096, length: 4098, ..Settings::default() };
     let mut entries: Vec<Entry> = vec![];
     let mut why = String::new();
     for (number, line) in text.lines().enumerate() {
@@ -52,14 +52,14 @@ pub fn entries(path: &Path) -> Vec<Entry> {
             _ if line.trim().is_empty() || line.starts_with('#') => {}
             "case" => why = rest.to_string(),
             "or" => entries.last_mut().unwrap_or_else(|| panic!("{place}: no call before")).written.push(words(rest)),
-            _ if held.set(key, rest) => {}
-            _ => entries.push(entry(&held, key, rest, place, &why)),
+            _ if settings.set(key, rest) => {}
+            _ => entries.push(entry(&settings, key, rest, place, &why)),
         }
     }
     entries
 }
 
-impl Held {
+impl Settings {
     /// Sets the list or number of that name, if there is one.
     fn set(&mut self, key: &str, rest: &str) -> bool {
         match key {
@@ -77,7 +77,7 @@ impl Held {
 
     /// The trial's words cut or lengthened to the length that is lent.
     fn slice(&self) -> Vec<u32> {
-        let mut slice = noise(self.length);
+        let mut slice = noise(&self.job, self.length);
         let given = self.trial.len().min(self.length);
         slice[..given].copy_from_slice(&self.trial[..given]);
         slice
@@ -98,8 +98,8 @@ impl Held {
 }
 
 /// The line `NAME NUMBER [at POSITION] [count COUNT] [writes WORDS]`.
-fn entry(held: &Held, name: &str, rest: &str, place: String, why: &str) -> Entry {
-    let call = held.call(name).unwrap_or_else(|| panic!("{place}: no such call: {name}"));
+fn entry(settings: &Settings, name: &str, rest: &str, place: String, why: &str) -> Entry {
+    let call = settings.call(name).unwrap_or_else(|| panic!("{place}: no such call: {name}"));
     let (said, list) = rest.split_once(" writes").map_or((rest, None), |(said, list)| (said, Some(list)));
     let said: Vec<&str> = said.split_whitespace().collect();
     let named = |name: &str| said.iter().position(|&word| word == name).map_or(0, |place| number(said[place + 1]));
@@ -126,16 +126,20 @@ fn words(text: &str) -> Vec<u32> {
     text.split_whitespace().flat_map(run).collect()
 }
 
-/// A call's lists as a listing has them, each cut after its first 300 words.
+/// A call's lists as a listing has them, a trial cut after its first 40 words, another list after 300.
 pub fn lists(call: &Call) -> String {
     let mut text = String::new();
     for (name, words) in call.lists() {
-        let few: Vec<String> = words.iter().take(300).map(|word| format!("{word:x}")).collect();
+        let few: Vec<String> =
+            words.iter().take(if name == "trial" { 40 } else { 300 }).map(|word| format!("{word:x}")).collect();
         let list = if name == "buffer" { words.len().to_string() } else { few.join(" ") };
         text.push_str(&format!("{name} {list}\n"));
     }
-    if let Call::TrialStart { action, trial, .. } = call {
-        text.push_str(&format!("length {}\naction {action:x}\n", trial.len()));
+    if call.name().starts_with("trial") {
+        text.push_str(&format!("length {}\n", call.list("trial").len()));
+    }
+    if let Call::TrialStart { action, .. } = call {
+        text.push_str(&format!("action {action:x}\n"));
     }
     text
 }

@@ -3,7 +3,7 @@
 use conformance::features::{
     groups, has_held, in_hand, jobs, plans, quiet_pause, readings, shift_windows, task_sets, trials, wide, Feature,
 };
-use conformance::run::{every_bit, generated, stepped};
+use conformance::run::{every_bit, every_bit_of_trials, generated, stepped};
 
 const SEED: u64 = 0x5e3a_1071;
 
@@ -54,7 +54,7 @@ fn windows_and_groups_together() {
 }
 
 #[test]
-fn wide_jobs() {
+fn wide() {
     hold(&[wide::FEATURE], 2_000);
 }
 
@@ -65,7 +65,17 @@ fn every_bit_of_wide_jobs() {
 
 #[test]
 fn trials() {
-    hold(&[trials::FEATURE], 3_000);
+    generated(&[trials::FEATURE], SEED + 1, 3_000).assert(&[trials::FEATURE]);
+}
+
+#[test]
+fn every_bit_of_some_trials() {
+    every_bit_of_trials(&[trials::FEATURE], SEED, 30).assert(&[]);
+}
+
+#[test]
+fn wide_plans_stepped_by_hand() {
+    stepped(&[plans::FEATURE, wide::FEATURE], SEED, 200).assert(&[]);
 }
 
 #[test]

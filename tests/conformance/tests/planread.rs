@@ -1,6 +1,6 @@
 //! The built program in folders of its own, held against the oracle.
 
-use conformance::built::printed;
+use conformance::built::{printed, printed_after};
 use conformance::draw::{damage, lists, plans};
 use conformance::features::wide;
 use conformance::listing;
@@ -8,6 +8,7 @@ use conformance::oracle::call::Call;
 use conformance::oracle::plan::facts;
 use conformance::oracle::program::{file_of, planread};
 use conformance::random::Random;
+use std::fs;
 
 fn printed_words(job: &[u32], plan: &[u32]) -> String {
     printed(Some(&file_of(job)), Some(&file_of(plan)))
@@ -42,6 +43,17 @@ fn bad_files_print_bad_file() {
     for length in [1, 2, 3, 5, 32 * 1024 - 1, 32 * 1024 + 1, 32 * 1024 + 4] {
         bad(Some(&bytes[..length]), good);
         bad(good, Some(&bytes[..length]));
+    }
+}
+
+#[test]
+fn a_folder_in_the_place_of_a_file_prints_bad_file() {
+    for (folder_name, file_name) in [("job.w32", "plan.w32"), ("plan.w32", "job.w32")] {
+        let text = printed_after(|folder| {
+            fs::create_dir(folder.join(folder_name)).expect("a new folder");
+            fs::write(folder.join(file_name), [0; 8]).expect("a new file");
+        });
+        assert_eq!(text, "bad file\n");
     }
 }
 

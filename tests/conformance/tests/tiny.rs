@@ -7,7 +7,8 @@ use conformance::features::{
 use conformance::run::tiny;
 use conformance::words::{action, formula, initially, law, node};
 
-/// Two actions with these durations and laws, on one fluent that is known true, known false or open.
+/// Two actions with these durations and laws, on one fluent that is known true, known false or open. The procedure counts the
+/// moments at which it holds.
 fn job(last: usize, durations: [usize; 2], laws: [Option<usize>; 2], known: Option<bool>) -> Draft {
     let actions = (0..2).map(|number| {
         let laws = laws[number].map(|role| law(role, 0));
@@ -19,7 +20,7 @@ fn job(last: usize, durations: [usize; 2], laws: [Option<usize>; 2], known: Opti
         initially: known.map(|value| initially(0, value)).into_iter().collect(),
         actions: actions.collect(),
         formulas: vec![formula(0, 0, 0), formula(1, 0, 0)],
-        nodes: vec![vec![node(0, 0, 0, 0, 0)]],
+        nodes: [node(1, 0, 0, 0, 0), node(1, 1, 0, 0, 0), node(6, 0, 1, 0, last)].map(|node| vec![node]).to_vec(),
         ..Draft::default()
     }
 }
@@ -70,15 +71,9 @@ fn several_together() {
     hold(&[readings::FEATURE, groups::FEATURE, wide::FEATURE], 2);
 }
 
-/// A job whose procedure counts the moments at which the fluent holds.
 #[test]
 fn in_hand() {
-    let nodes = |last: usize| [node(1, 0, 0, 0, 0), node(1, 1, 0, 0, 0), node(6, 0, 1, 0, last)];
-    let job = |last: usize| Draft {
-        nodes: nodes(last).map(|node| vec![node]).to_vec(),
-        ..job(last, [1, 1], [None, None], None)
-    };
-    (0..=3).for_each(|last| tiny(&[in_hand::FEATURE], &[job(last)]).assert(&[]));
+    (0..=4).for_each(|last| tiny(&[in_hand::FEATURE], &[job(last, [1, 1], [None, None], None)]).assert(&[]));
 }
 
 /// Jobs with an action that makes the fluent true and one that makes it false.

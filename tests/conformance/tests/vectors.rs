@@ -5,6 +5,7 @@ use conformance::library;
 use conformance::listing::{self, Entry};
 use conformance::oracle::answer::Answer;
 use conformance::oracle::call::{expected, Expected};
+use conformance::oracle::readings::literal::{is_reading, Triple};
 
 /// What the entry says of the lent list after the call, if it says all of it.
 fn lent_after(entry: &Entry, words: &[u32]) -> Vec<Vec<u32>> {
@@ -32,7 +33,7 @@ fn the_calls_answer_as_listed() {
     assert!(entries.len() > 3_000, "the listings are there");
     for entry in &entries {
         let given = library::ask(&entry.call);
-        let told = || format!("{}: {}\n{:?}", entry.place, entry.why, given.answer);
+        let told = || format!("{}: {}\n{:?}, not {:?}", entry.place, entry.why, given.answer, entry.answer);
         assert!(is_as_listed(entry, given.answer, &given.lent), "{}", told());
         let expected = expected(&entry.call).expect("few placements");
         assert_eq!(difference(&entry.call, &expected, &given), None, "{}", told());
@@ -45,8 +46,12 @@ fn the_oracle_answers_as_listed() {
     for entry in listing::all() {
         let right = match expected(&entry.call).expect("few placements") {
             Expected::Exactly { answer, lent } => is_as_listed(&entry, answer, &lent),
-            Expected::Reading { decision, .. } => entry.answer.number == 0 && entry.answer.count == decision.count(),
+            Expected::Reading { world, decision } => {
+                let root = Triple { node: world.root(), begin: 0, end: world.last() };
+                let lawful = entry.written.iter().all(|words| is_reading(&world, words, root));
+                lawful && entry.answer.number == 0 && entry.answer.count == decision.count()
+            }
         };
-        assert!(right, "{}: {}", entry.place, entry.why);
+        assert!(right, "{}: {}: not {:?} by the oracle", entry.place, entry.why, entry.answer);
     }
 }

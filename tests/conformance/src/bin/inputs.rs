@@ -15,11 +15,15 @@ fn input(random: &mut Random, feature: &Feature) -> Vec<u8> {
         (feature.spoil)(random, &mut drawn);
     }
     let job = drawn.draft.words();
+    drawn.starts.truncate(MOST);
     let control = FACTS_BY_FILL | (job.len() as u32) << 8 | (drawn.starts.len() as u32) << 20;
     let words = [&[control], &job[..], &drawn.starts].concat();
     let trial = [random.below(drawn.draft.last + 1) as u8, random.below(drawn.draft.actions.len()) as u8, 0];
     words.iter().flat_map(|word| word.to_le_bytes()).chain(trial).collect()
 }
+
+/// The most job words and start words of an input.
+const MOST: usize = 4_095;
 
 fn main() {
     let given: Vec<String> = env::args().skip(1).collect();

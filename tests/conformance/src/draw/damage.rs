@@ -73,7 +73,7 @@ fn fields(wide: bool, word: u32) -> &'static [(u32, u32)] {
 }
 
 /// One field of one word changed: a number, a reference, a range or a window.
-pub fn one_field(random: &mut Random, job: &[u32]) -> Vec<u32> {
+fn one_field(random: &mut Random, job: &[u32]) -> Vec<u32> {
     let word = random.below(job.len());
     one_field_of(random, job, word)
 }
@@ -124,7 +124,7 @@ pub fn predecessor(random: &mut Random, job: &[u32]) -> Vec<u32> {
 }
 
 /// Another kind, or another form, for some word.
-pub fn kind_or_form(random: &mut Random, job: &[u32]) -> Vec<u32> {
+fn kind_or_form(random: &mut Random, job: &[u32]) -> Vec<u32> {
     let mut job = job.to_vec();
     let word = random.below(job.len());
     let low = *random.pick(&[24, 28]);
@@ -133,7 +133,7 @@ pub fn kind_or_form(random: &mut Random, job: &[u32]) -> Vec<u32> {
 }
 
 /// Wrong counts in the head: each field at and beside its limits, or beside its value.
-pub fn head_counts(random: &mut Random, job: &[u32]) -> Vec<u32> {
+fn head_counts(random: &mut Random, job: &[u32]) -> Vec<u32> {
     let mut job = job.to_vec();
     let low = *random.pick(&[0, 8, 16]);
     let old = field(job[0], low + 7, low);
@@ -143,7 +143,7 @@ pub fn head_counts(random: &mut Random, job: &[u32]) -> Vec<u32> {
 }
 
 /// The job's beginning alone.
-pub fn truncated(random: &mut Random, job: &[u32]) -> Vec<u32> {
+fn truncated(random: &mut Random, job: &[u32]) -> Vec<u32> {
     job[..random.below(job.len() + 1)].to_vec()
 }
 
@@ -161,7 +161,7 @@ pub fn other_child(random: &mut Random, job: &[u32]) -> Vec<u32> {
 }
 
 /// Where the job names children: word and lowest bit of the field.
-pub fn child_fields(job: &[u32]) -> Vec<(usize, u32)> {
+fn child_fields(job: &[u32]) -> Vec<(usize, u32)> {
     let mut places = vec![];
     for (index, &word) in job.iter().enumerate() {
         let lows: &[u32] = match (kind(word), form(word)) {

@@ -25,7 +25,7 @@ pub struct Draft {
 }
 
 /// The wide layout of a draft.
-#[derive(Clone, Debug, PartialEq)]
+#[derive(Clone, Debug, Default, PartialEq)]
 pub struct Wide {
     /// F of the wide job.
     pub fluents: usize,
@@ -47,21 +47,26 @@ pub struct Drawn {
 }
 
 impl Draft {
-    /// The job's words; the head gives the number of actions that are there.
+    /// The job's words, narrow or wide; the head gives the number of actions that are there.
     pub fn words(&self) -> Vec<u32> {
-        match &self.wide {
-            None => self.narrow_words(),
-            Some(wide) => wide.words(self),
+        let (actions, last) = (self.actions.len(), self.last);
+        let head = match &self.wide {
+            Some(wide) => words::wide_head(wide.fluents, actions, last),
+            None => words::head(self.fluents, actions, last),
+        };
+        let more = self.wide.clone().unwrap_or_default();
+        let written = |word: &u32| self.wide.as_ref().map_or(*word, |wide| wide.word(*word));
+        let mut job = [vec![head], more.initially].concat();
+        job.extend(self.initially.iter().map(written));
+        for (number, action) in self.actions.iter().enumerate() {
+            job.extend(action.iter().map(written));
+            job.extend(more.laws.iter().filter(|(of, _)| *of == number).map(|(_, law)| law));
         }
-    }
-
-    fn narrow_words(&self) -> Vec<u32> {
-        let head = vec![words::head(self.fluents, self.actions.len(), self.last)];
-        let nodes = self.nodes.concat();
-        let actions = self.actions.concat();
-        let parts =
-            [&head, &self.initially, &actions, &self.windows, &self.groups, &self.pairs, &self.formulas, &nodes];
-        parts.into_iter().flatten().copied().collect()
+        let others = [&self.windows, &self.groups, &self.pairs, &self.formulas];
+        job.extend(others.into_iter().flatten().map(written));
+        job.extend(&more.formulas);
+        job.extend(self.nodes.iter().flatten());
+        job
     }
 
     /// How long an action lasts.
@@ -71,21 +76,6 @@ impl Draft {
 }
 
 impl Wide {
-    fn words(&self, draft: &Draft) -> Vec<u32> {
-        let mut job = vec![words::wide_head(self.fluents, draft.actions.len(), draft.last)];
-        job.extend(&self.initially);
-        job.extend(draft.initially.iter().map(|&word| self.word(word)));
-        for (number, action) in draft.actions.iter().enumerate() {
-            job.extend(action.iter().map(|&word| self.word(word)));
-            job.extend(self.laws.iter().filter(|(of, _)| *of == number).map(|(_, law)| law));
-        }
-        [&draft.windows, &draft.groups, &draft.pairs].into_iter().for_each(|part| job.extend(part));
-        job.extend(draft.formulas.iter().map(|&word| self.word(word)));
-        job.extend(&self.formulas);
-        job.extend(draft.nodes.concat());
-        job
-    }
-
     /// The wide word of a narrow one.
     fn word(&self, word: u32) -> u32 {
         let wide = |fluent: usize| self.numbers.get(fluent).copied().unwrap_or(MOST_FLUENTS - 1);

@@ -161,7 +161,7 @@ fn task_set(random: &mut Random, draft: &Draft, unnamed: &mut Vec<usize>, member
 }
 
 /// A condition word of any form that the formulas allow.
-pub fn condition_word(random: &mut Random, formulas: usize, members: usize) -> u32 {
+fn condition_word(random: &mut Random, formulas: usize, members: usize) -> u32 {
     let form = if formulas == 0 { random.below(2) } else { random.below(5) };
     condition_of_form(random, form, formulas, members)
 }

@@ -4,7 +4,7 @@ use crate::draw::draft::Draft;
 use crate::random::Random;
 use crate::words::{self, field};
 
-/// Starts damaged once or twice, in any way.
+/// Starts with one or two of these damages: one more start, or one moved, left out, changed, out of order or beyond a limit.
 pub fn starts(random: &mut Random, list: &[u32], draft: &Draft) -> Vec<u32> {
     let mut list = one_start(random, list, draft);
     if random.chance(25) {
@@ -145,18 +145,31 @@ fn beyond_limits(random: &mut Random, list: &[u32], last: usize, actions: usize)
 }
 
 /// A fact list wrong in some way: a word missing, extra, changed, out of order; none; or very many.
-pub fn facts(random: &mut Random, list: &[u32], last: usize, fluents: usize) -> Vec<u32> {
-    match random.below(12) {
+pub fn facts(random: &mut Random, list: &[u32], draft: &Draft) -> Vec<u32> {
+    match random.below(13) {
         0 => vec![],
         1 => without(random, list),
         2 => changed(random, list),
         3 => disordered(random, list),
         4 => other_value(random, list),
-        5 => [list, &[words::fact(last, fluents - 1, random.chance(50))]].concat(),
+        5 => [list, &[any_fact(random, draft)]].concat(),
         6 => [list, &[random.word()]].concat(),
         7 => list[..list.len().saturating_sub(1)].to_vec(),
         8 => random.words(5),
-        _ => put_in(list, words::fact(random.below(last + 1), random.below(fluents), random.chance(50))),
+        9 if random.chance(10) => very_long(random, list, 70_000),
+        _ => {
+            let fact = any_fact(random, draft);
+            put_in(list, fact)
+        }
+    }
+}
+
+/// A fact word of the job's layout, of any of its moments and fluents.
+fn any_fact(random: &mut Random, draft: &Draft) -> u32 {
+    let (moment, value) = (random.below(draft.last + 1), random.chance(50));
+    match &draft.wide {
+        Some(wide) => words::wide_fact(moment, random.below(wide.fluents), value),
+        None => words::fact(moment, random.below(draft.fluents), value),
     }
 }
 
@@ -171,7 +184,7 @@ fn other_value(random: &mut Random, list: &[u32]) -> Vec<u32> {
 }
 
 /// A right list followed by very many words, or very many words alone.
-pub fn very_long(random: &mut Random, list: &[u32], length: usize) -> Vec<u32> {
+fn very_long(random: &mut Random, list: &[u32], length: usize) -> Vec<u32> {
     let mut long = if random.chance(50) { list.to_vec() } else { vec![] };
     let word = long.last().copied().unwrap_or(random.word());
     long.resize(length, word);

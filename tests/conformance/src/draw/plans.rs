@@ -18,6 +18,21 @@ pub fn lawful(random: &mut Random) -> Drawn {
     Drawn { draft, starts }
 }
 
+/// 64 actions without laws, nearly all of which start at one moment or two.
+pub fn crowd(random: &mut Random) -> Drawn {
+    let mut draft = Draft { fluents: 1, last: random.between(4, 6), ..Draft::default() };
+    draft.actions = (0..64).map(|number| vec![words::action(number, random.between(2, 3))]).collect();
+    draft.nodes = vec![vec![words::node(0, 0, 0, 0, 0)]];
+    let missing = *random.pick(&[0, 1, 1, 2]);
+    let left_out = random.some_of(64, missing);
+    let later = random.chance(50);
+    let moment = |action: usize| usize::from(later && action % 3 == 1);
+    let started = (0..64).filter(|action| !left_out.contains(action));
+    let mut starts: Vec<u32> = started.map(|action| words::start(moment(action), action)).collect();
+    starts.sort();
+    Drawn { draft, starts }
+}
+
 /// A lawful plan, mostly with formulas and a procedure that reads from 0 to n.
 pub fn readable(random: &mut Random) -> Drawn {
     let last = *random.pick(&[0, 1, 2, 3, 4, 5, 6, 7, 8, 9, 10, 12, 14, 20, 63]);
@@ -75,7 +90,7 @@ fn stop_once(random: &mut Random, drawn: &mut Drawn, stop: usize) {
 }
 
 /// Fluents and actions for a plan up to that moment; no formulas and no nodes.
-pub fn job_until(random: &mut Random, last: usize) -> Draft {
+fn job_until(random: &mut Random, last: usize) -> Draft {
     let fluents = *random.pick(&[1, 2, 2, 3, 3, 4, 5, 6, 64]);
     let known = random.between(0, fluents);
     let mut draft = Draft { fluents, last, ..Draft::default() };
@@ -112,7 +127,7 @@ fn action(random: &mut Random, number: usize, last: usize, usual: &[bool]) -> Ve
 }
 
 /// Starts within the rules, so often as the draw says and the rules allow.
-pub fn lawful_starts(random: &mut Random, draft: &Draft) -> Vec<u32> {
+fn lawful_starts(random: &mut Random, draft: &Draft) -> Vec<u32> {
     let eagerness = *random.pick(&[0, 10, 30, 60, 100]);
     lawful_starts_by(random, draft, |random, _, _, _| random.chance(eagerness))
 }

@@ -86,7 +86,7 @@ impl Trial {
 
     /// The words so far as the slice has room for them, noise after them.
     pub fn slice(&self) -> Vec<u32> {
-        let mut slice = noise(self.length);
+        let mut slice = noise(&self.starts, self.length);
         let given = [&[self.moment, self.number], &self.starts[..]].concat();
         let fitting = given.len().min(self.length);
         slice[..fitting].copy_from_slice(&given[..fitting]);

@@ -10,7 +10,6 @@ use crate::random::Random;
 use crate::words::{field, group, group_member, kind};
 
 pub const FEATURE: Feature = Feature {
-    name: "groups",
     draw,
     add,
     spoil,
@@ -21,7 +20,7 @@ pub const FEATURE: Feature = Feature {
         ("a group at its limit", &[0]),
         ("over the limit by starts of one moment", &[16]),
         ("over the limit by starts of earlier moments", &[16]),
-        ("over the limit beside a start that finishes", &[0, 16]),
+        ("a start at the finish of another of its group", &[0, 16]),
         ("an action in two groups", &[0, 16]),
         ("a group without a limit left", &[16]),
         ("16 at a later start", &[16]),
@@ -34,26 +33,11 @@ pub const FEATURE: Feature = Feature {
 
 fn draw(random: &mut Random) -> Drawn {
     let mut drawn = match random.chance(5) {
-        true => crowd(random),
+        true => plans::crowd(random),
         false => plans::readable(random),
     };
     add(random, &mut drawn);
     drawn
-}
-
-/// 64 actions without laws, nearly all of which start at one moment or two.
-fn crowd(random: &mut Random) -> Drawn {
-    let mut draft = Draft { fluents: 1, last: random.between(3, 6), ..Draft::default() };
-    draft.actions = (0..64).map(|number| vec![crate::words::action(number, random.between(2, 3))]).collect();
-    draft.nodes = vec![vec![crate::words::node(0, 0, 0, 0, 0)]];
-    let missing = *random.pick(&[0, 1, 1, 2]);
-    let left_out = random.some_of(64, missing);
-    let later = random.chance(50);
-    let moment = |action: usize| usize::from(later && action % 3 == 1);
-    let started = (0..64).filter(|action| !left_out.contains(action));
-    let mut starts: Vec<u32> = started.map(|action| crate::words::start(moment(action), action)).collect();
-    starts.sort();
-    Drawn { draft, starts }
 }
 
 /// Up to eight groups of some actions, each with a limit that the starts keep, mostly just so.
@@ -89,17 +73,24 @@ fn spoil(random: &mut Random, drawn: &mut Drawn) {
         let place = random.below(drawn.draft.groups.len() + 1);
         drawn.draft.groups.insert(place, group(number, 0));
     }
-    let at = random.below(drawn.draft.groups.len());
+    let used = |&at: &usize| most_in_hand(drawn, &members(&drawn.draft, field(drawn.draft.groups[at], 27, 24))) > 0;
+    let used: Vec<usize> = (0..drawn.draft.groups.len()).filter(used).collect();
+    let at = if used.is_empty() { 0 } else { *random.pick(&used) };
     let number = field(drawn.draft.groups[at], 27, 24);
     if random.chance(40) {
         let pairs = (0..drawn.draft.actions.len()).map(|action| group_member(number, action));
         let new: Vec<u32> = pairs.filter(|pair| !drawn.draft.pairs.contains(pair)).collect();
         drawn.draft.pairs.extend(new);
     }
-    let own = drawn.draft.pairs.iter().filter(|&&pair| field(pair, 27, 24) == number);
-    let actions: Vec<usize> = own.map(|&pair| field(pair, 5, 0)).collect();
+    let actions = members(&drawn.draft, number);
     let below = *random.pick(&[0, 1, 1, 1, 1, 2, 3, 63]);
     drawn.draft.groups[at] = group(number, most_in_hand(drawn, &actions).saturating_sub(below).min(63));
+}
+
+/// The actions of a group.
+fn members(draft: &Draft, number: usize) -> Vec<usize> {
+    let own = draft.pairs.iter().filter(|&&pair| field(pair, 27, 24) == number);
+    own.map(|&pair| field(pair, 5, 0)).collect()
 }
 
 /// Each limit up to 2 with each set of the actions, alone and beside a group that all keep.
@@ -118,9 +109,8 @@ fn tiny(draft: &Draft) -> Vec<Draft> {
 }
 
 fn situations(seen: &Seen) -> Vec<&'static str> {
-    if matches!(seen.number, 2..=4) {
-        let word = seen.call.list("job").get(seen.position);
-        return met(&[("a word of kind 13 or 14 refused", word.is_some_and(|&word| matches!(kind(word), 13 | 14)))]);
+    if let Some(word) = seen.refused_word() {
+        return met(&[("a word of kind 13 or 14 refused", matches!(kind(word), 13 | 14))]);
     }
     let Some(job) = seen.job else { return vec![] };
     let new = seen.new_start();
@@ -130,13 +120,13 @@ fn situations(seen: &Seen) -> Vec<&'static str> {
     let grouped = |action: usize| job.groups.iter().filter(|group| group.actions.contains(&action)).count();
     let counts = |group: &Group, t: usize| seen.starts.iter().filter(|at| at.in_hand(t) && is_of(group, at)).count();
     let full = |group: &Group| group.limit > 0 && (0..=job.last).any(|t| counts(group, t) == group.limit);
-    let finishes = |at: &Start| seen.starts.iter().any(|other| other.finishes(at.moment) && grouped(other.action) > 0);
+    let finishes = |at: &Start| {
+        let shared = |other: &Start| job.groups.iter().any(|group| is_of(group, at) && is_of(group, other));
+        seen.starts.iter().any(|other| other.finishes(at.moment) && shared(other))
+    };
     names.extend(met(&[
         ("a group at its limit", job.groups.iter().any(full)),
-        (
-            "over the limit beside a start that finishes",
-            seen.starts.iter().any(|at| grouped(at.action) > 0 && finishes(at)),
-        ),
+        ("a start at the finish of another of its group", seen.starts.iter().any(finishes)),
         ("an action in two groups", seen.starts.iter().any(|at| grouped(at.action) > 1)),
         ("16 at a later start", seen.number == 16 && seen.position > 0),
         ("64 actions in one group", job.groups.iter().any(|group| group.actions.len() == 64)),

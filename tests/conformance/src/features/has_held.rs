@@ -15,7 +15,6 @@ use std::collections::HashSet;
 use std::mem::discriminant;
 
 pub const FEATURE: Feature = Feature {
-    name: "has held",
     draw,
     add,
     spoil,

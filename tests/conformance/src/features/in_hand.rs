@@ -13,7 +13,6 @@ use crate::words::{self, field};
 use std::collections::HashSet;
 
 pub const FEATURE: Feature = Feature {
-    name: "in hand",
     draw,
     add: nothing_to_add,
     spoil,
@@ -46,8 +45,8 @@ pub const FEATURE: Feature = Feature {
 
 fn draw(random: &mut Random) -> Drawn {
     match random.below(400) {
-        0 => hands::full(random),
-        1..=8 => hands::many(random),
+        0..=2 => hands::full(random),
+        3..=18 => hands::many(random),
         _ => hands::any(random),
     }
 }
@@ -56,7 +55,7 @@ fn draw(random: &mut Random) -> Drawn {
 /// A plan without starts gets one.
 fn spoil(random: &mut Random, drawn: &mut Drawn) {
     let list = &mut drawn.starts;
-    if list.is_empty() || random.chance(if list.len() < 1_000 { 1 } else { 25 }) {
+    if list.is_empty() || random.chance(if list.len() < 1_000 { 1 } else { 30 }) {
         *list = if list.is_empty() { vec![words::start(0, 0)] } else { too_long(random) };
         return;
     }
@@ -66,8 +65,13 @@ fn spoil(random: &mut Random, drawn: &mut Drawn) {
         1 => list.swap(place, place.saturating_sub(1)),
         2 => list.insert(place, list[place]),
         row => {
-            let word = one_more(random, &drawn.draft, list[place], 7 + row % 4);
-            drawn.starts = lists::put_in(&drawn.starts, word.unwrap_or(drawn.starts[place]));
+            let near =
+                |random: &mut Random| drawn.starts[random.between(drawn.starts.len() * 2 / 3, drawn.starts.len() - 1)];
+            let tried = (0..20).find_map(|_| {
+                let near = near(random);
+                one_more(random, &drawn.draft, near, 7 + row % 4)
+            });
+            drawn.starts = lists::put_in(&drawn.starts, tried.unwrap_or(drawn.starts[place]));
         }
     }
 }
@@ -81,7 +85,7 @@ fn one_more(random: &mut Random, draft: &Draft, near: u32, row: usize) -> Option
     let needy = |other: usize| has(other, &|law| field(law, 7, 6) < 2);
     let fits = |&other: &usize| match row {
         7 => true,
-        8 => draft.duration(other) > 1,
+        8 => other == action && draft.duration(other) > 1,
         9 => contrary(other),
         _ => needy(other),
     };

@@ -1,16 +1,15 @@
 //! Document 01, "Job words", with the words of L4 to L7: each kind and form, its fields, its place, and the job's end.
 
 use crate::draw::draft::{Draft, Drawn};
-use crate::draw::{damage, jobs, limits, lists};
-use crate::features::{nothing_to_add, Feature, Seen};
+use crate::draw::{damage, jobs, limits};
+use crate::features::{damage_starts, nothing_to_add, Feature, Seen};
 use crate::random::Random;
 use crate::words::{form, kind};
 
 pub const FEATURE: Feature = Feature {
-    name: "jobs",
     draw: |random| Drawn { draft: jobs::well_formed(random), starts: vec![] },
     add: nothing_to_add,
-    spoil,
+    spoil: damage_starts,
     damage: damaged,
     tiny: |draft: &Draft| vec![draft.clone()],
     situations,
@@ -54,11 +53,6 @@ const KINDS: [&str; 16] = [
     "kind 14",
     "another kind",
 ];
-
-/// The starts of the plan are changed; a job without starts stays as it is.
-fn spoil(random: &mut Random, drawn: &mut Drawn) {
-    drawn.starts = lists::starts(random, &drawn.starts, &drawn.draft);
-}
 
 /// The job with one word damaged, or a job at or beyond a limit, or words that no job writer meant.
 fn damaged(random: &mut Random, job: &[u32]) -> Vec<u32> {

@@ -13,6 +13,7 @@ pub mod trials;
 pub mod wide;
 
 use crate::draw::draft::{Draft, Drawn};
+use crate::draw::lists;
 use crate::oracle::call::{Call, Expected};
 use crate::oracle::job::Job;
 use crate::oracle::plan::read_plan;
@@ -24,7 +25,6 @@ use crate::random::Random;
 /// A feature as the runs need it.
 #[derive(Clone, Copy)]
 pub struct Feature {
-    pub name: &'static str,
     /// Draws a lawful plan in which the feature can be met.
     pub draw: fn(&mut Random) -> Drawn,
     /// Puts the feature into a plan that was drawn otherwise. Lawful starts stay lawful.
@@ -68,8 +68,8 @@ pub struct Seen<'a> {
     pub job: Option<&'a Job>,
     /// The starts that the call is handed, or those of its trial, as far as their words name a moment and an action of the job.
     pub starts: &'a [Start],
-    /// The reading that find wrote.
-    pub reading: &'a [u32],
+    /// The words that the call wrote, as many as its answer's length says.
+    pub written: &'a [u32],
 }
 
 impl Seen<'_> {
@@ -80,12 +80,26 @@ impl Seen<'_> {
         Some(Start { moment: *trial.first()? as usize, action: *action as usize, duration })
     }
 
-    /// The start that the row at this position speaks of, for a call that is handed start words.
+    /// Whether the trial's own starts are lawful, so that a refusal of trial_start is one of the new start.
+    pub fn is_own_lawful(&self) -> bool {
+        let trial = self.call.list("trial");
+        let own = trial.get(2..2 + trial.get(1).map_or(0, |&number| number as usize));
+        own.is_some_and(|own| read_plan(self.call.list("job"), own).is_ok())
+    }
+
+    /// The start that is refused by a row from 7 on: that of the position, or the new start of a lawful trial.
     pub fn refused_start(&self) -> Option<Start> {
         match self.call {
+            _ if self.number < 7 => None,
             Call::Check { .. } | Call::Fill { .. } | Call::Find { .. } => self.starts.get(self.position).copied(),
-            _ => self.new_start(),
+            _ => self.new_start().filter(|_| self.is_own_lawful()),
         }
+    }
+
+    /// The word that refuses the job, if a word does.
+    pub fn refused_word(&self) -> Option<u32> {
+        let word = self.call.list("job").get(self.position);
+        word.copied().filter(|_| matches!(self.number, 2..=4))
     }
 
     /// What is told from the triples of a find call that searched, with or without a reading.
@@ -109,3 +123,8 @@ pub fn met(tests: &[(&'static str, bool)]) -> Vec<&'static str> {
 
 /// A feature that adds nothing to a plan of another.
 pub fn nothing_to_add(_: &mut Random, _: &mut Drawn) {}
+
+/// Damages the starts, or puts one in.
+pub fn damage_starts(random: &mut Random, drawn: &mut Drawn) {
+    drawn.starts = lists::starts(random, &drawn.starts, &drawn.draft);
+}

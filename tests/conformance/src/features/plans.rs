@@ -1,18 +1,17 @@
 //! Document 01, "Starts and known facts": lawful starts, and rows 6 to 11.
 
 use crate::draw::draft::{Draft, Drawn};
-use crate::draw::{damage, lists, plans};
-use crate::features::{met, nothing_to_add, Feature, Seen};
+use crate::draw::{damage, plans};
+use crate::features::{damage_starts, met, nothing_to_add, Feature, Seen};
 use crate::oracle::facts::states;
 use crate::oracle::job::Job;
 use crate::oracle::starts::{clash, Start};
 use crate::random::Random;
 
 pub const FEATURE: Feature = Feature {
-    name: "plans",
-    draw: plans::lawful,
+    draw,
     add: nothing_to_add,
-    spoil,
+    spoil: damage_starts,
     damage: damage::any,
     tiny: |draft: &Draft| vec![draft.clone()],
     situations,
@@ -27,12 +26,16 @@ pub const FEATURE: Feature = Feature {
         ("a need that is open", &[10]),
         ("a need that is contrary", &[10]),
         ("other facts", &[11]),
-        ("64 starts in hand or more", &[0]),
+        ("60 starts at one moment", &[0]),
     ],
 };
 
-fn spoil(random: &mut Random, drawn: &mut Drawn) {
-    drawn.starts = lists::starts(random, &drawn.starts, &drawn.draft);
+/// A plan of any size, or now and then one with nearly 64 starts at one moment.
+fn draw(random: &mut Random) -> Drawn {
+    match random.chance(2) {
+        true => plans::crowd(random),
+        false => plans::lawful(random),
+    }
 }
 
 fn situations(seen: &Seen) -> Vec<&'static str> {
@@ -48,10 +51,12 @@ fn situations(seen: &Seen) -> Vec<&'static str> {
         ("a finish on n", starts.iter().any(|start| start.moment + start.duration == job.last)),
         ("an action again at its finish", again(0)),
         ("other facts", seen.number == 11),
-        ("64 starts in hand or more", starts.len() >= 64 && starts[63].in_hand(starts[0].moment)),
+        ("60 starts at one moment", starts.len() >= 60 && starts[59].moment == starts[0].moment),
     ]);
-    if let (6..=10, Some(start)) = (seen.number, seen.refused_start()) {
+    if matches!(seen.number, 6..=10) && seen.call.list("trial").is_empty() {
         names.push(if seen.position == 0 { "the first start" } else { "a later start" });
+    }
+    if let (7..=10, Some(start)) = (seen.number, seen.refused_start()) {
         names.extend(refused(seen, job, &start, again(1)));
     }
     names

@@ -12,7 +12,6 @@ use crate::words::{self, form};
 use std::collections::BTreeSet;
 
 pub const FEATURE: Feature = Feature {
-    name: "quiet pause",
     draw,
     add,
     spoil,
@@ -60,9 +59,12 @@ fn add(random: &mut Random, drawn: &mut Drawn) {
 }
 
 fn spoil(random: &mut Random, drawn: &mut Drawn) {
-    match random.chance(80) {
-        true => disturb(random, drawn),
-        false => (readings::FEATURE.spoil)(random, drawn),
+    let before = drawn.starts.clone();
+    if random.chance(80) {
+        disturb(random, drawn);
+    }
+    if drawn.starts == before {
+        (readings::FEATURE.spoil)(random, drawn);
     }
 }
 

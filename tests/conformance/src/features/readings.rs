@@ -1,4 +1,4 @@
-//! Document 01, "Readings": procedures with a reading by construction, and such that were changed.
+//! Document 01, "Readings": procedures with a reading by construction, and changed ones.
 
 use crate::draw::damage;
 use crate::draw::draft::{Draft, Drawn};
@@ -12,7 +12,6 @@ use crate::random::Random;
 use crate::words::{self, field};
 
 pub const FEATURE: Feature = Feature {
-    name: "readings",
     draw: plans::readable,
     add,
     spoil,
@@ -113,7 +112,7 @@ fn tiny(draft: &Draft) -> Vec<Draft> {
 
 fn situations(seen: &Seen) -> Vec<&'static str> {
     match (seen.expected, seen.job) {
-        (Expected::Reading { world, .. }, _) => of_reading(world, seen.reading),
+        (Expected::Reading { world, .. }, _) => of_reading(world, seen.written),
         (_, Some(job)) if seen.number == 13 => job.nodes.iter().map(|node| NODES[node.form()]).collect(),
         _ => vec![],
     }

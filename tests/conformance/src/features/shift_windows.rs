@@ -10,7 +10,6 @@ use crate::random::Random;
 use crate::words::{field, kind, shift_window};
 
 pub const FEATURE: Feature = Feature {
-    name: "shift windows",
     draw,
     add,
     spoil,
@@ -101,10 +100,10 @@ fn spoil(random: &mut Random, drawn: &mut Drawn) {
     let (u, action) = (field(start, 11, 6), field(start, 5, 0));
     let end = u + drawn.draft.duration(action);
     let holds = |word: u32| field(word, 17, 12) == action && field(word, 11, 6) <= u && end <= field(word, 5, 0);
-    let (held, mut kept): (Vec<u32>, Vec<u32>) = drawn.draft.windows.iter().partition(|&&word| holds(word));
+    let (holding, mut kept): (Vec<u32>, Vec<u32>) = drawn.draft.windows.iter().partition(|&&word| holds(word));
     let way = random.below(7);
-    let held = if held.is_empty() { vec![shift_window(action, u, end)] } else { held };
-    held.iter().for_each(|&window| kept.extend(broken(random, window, (u, end), way)));
+    let holding = if holding.is_empty() { vec![shift_window(action, u, end)] } else { holding };
+    holding.iter().for_each(|&window| kept.extend(broken(random, window, (u, end), way)));
     drawn.draft.windows = kept;
 }
 
@@ -117,7 +116,7 @@ fn broken(random: &mut Random, window: u32, (u, end): (usize, usize), way: usize
         2 | 3 => vec![shift_window(action, from, end - 1)],
         4 if inside < end => vec![shift_window(action, from, inside), shift_window(action, inside, to)],
         4 | 5 => vec![shift_window(action, inside, to), shift_window(action, from, inside - 1)],
-        _ => vec![shift_window(action, u, u), shift_window((action + 1) % 64, from, to)],
+        _ => vec![shift_window(action, u, u), shift_window(0, from, to)],
     }
 }
 
@@ -126,18 +125,17 @@ fn tiny(draft: &Draft) -> Vec<Draft> {
     let spans = (0..=draft.last).flat_map(|from| (from..=draft.last + 1).map(move |to| (from, to)));
     let windows: Vec<u32> = spans.map(|(from, to)| shift_window(0, from, to)).collect();
     let one = windows.iter().map(|&window| vec![window]);
-    let two = windows.iter().flat_map(|&first| windows.iter().map(move |&second| vec![first, second])).step_by(3);
+    let two = windows.iter().flat_map(|&first| windows.iter().map(move |&second| vec![first, second]));
     let with = |windows: Vec<u32>| Draft { windows, ..draft.clone() };
     one.chain(two).map(with).collect()
 }
 
 fn situations(seen: &Seen) -> Vec<&'static str> {
-    if matches!(seen.number, 2 | 3) {
-        let word = seen.call.list("job").get(seen.position);
-        return met(&[("a word of kind 12 refused", word.is_some_and(|&word| kind(word) == 12))]);
+    if let Some(word) = seen.refused_word() {
+        return met(&[("a word of kind 12 refused", kind(word) == 12)]);
     }
     let Some(job) = seen.job else { return vec![] };
-    let new = seen.new_start();
+    let new = seen.new_start().filter(|_| seen.is_own_lawful());
     let looked_at: Vec<&Start> = match seen.number {
         15 => seen.starts.iter().chain(&new).filter(|start| !keeps_windows(job, start)).take(1).collect(),
         0 => seen.starts.iter().chain(&new).collect(),

@@ -15,7 +15,6 @@ use crate::random::Random;
 use crate::words::{self, field, kind};
 
 pub const FEATURE: Feature = Feature {
-    name: "task sets",
     draw: sets::any,
     add,
     spoil,
@@ -138,7 +137,7 @@ fn situations(seen: &Seen) -> Vec<&'static str> {
     }
     let mut names =
         seen.decided(|world, decision| world.job.nodes.iter().flat_map(|node| of_set(world, decision, node)).collect());
-    let (Expected::Reading { world, .. }, reading) = (seen.expected, seen.reading) else { return names };
+    let (Expected::Reading { world, .. }, reading) = (seen.expected, seen.written) else { return names };
     let Node::While { body, .. } = world.node(world.root()) else { return names };
     let passes = reading.iter().filter(|&&word| field(word, 17, 12) == *body);
     let moments: Vec<usize> =

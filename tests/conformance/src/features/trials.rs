@@ -1,19 +1,17 @@
 //! Request L1, "Stepping a plan by hand": trials that moves could give, trials that no moves could give, and new starts.
 
-use crate::draw::draft::{Draft, Drawn};
-use crate::draw::{damage, lists, plans};
-use crate::features::{met, nothing_to_add, Feature, Seen};
+use crate::draw::draft::Draft;
+use crate::draw::{damage, plans};
+use crate::features::{damage_starts, met, nothing_to_add, Feature, Seen};
 use crate::oracle::call::Call;
 use crate::oracle::job::Job;
 use crate::oracle::starts::{clash, Start};
-use crate::random::Random;
-use crate::words::field;
+use crate::words::{field, kind};
 
 pub const FEATURE: Feature = Feature {
-    name: "trials",
     draw: plans::lawful,
     add: nothing_to_add,
-    spoil,
+    spoil: damage_starts,
     damage: damage::any,
     tiny: |draft: &Draft| vec![draft.clone()],
     situations,
@@ -37,26 +35,25 @@ pub const FEATURE: Feature = Feature {
         ("a clash with a lower action of this moment", &[9]),
         ("a clash with an earlier start", &[9]),
         ("a clashing action that finishes now", &[0]),
-        ("a need that is not met", &[10]),
+        ("a new start with a need", &[0, 10]),
         ("the first action that is not there", &[6]),
         ("a show of a buffer of 4,095 words", &[12]),
+        ("a short buffer before a trial that no moves give", &[12]),
+        ("a trial that no moves give, with a wrong word", &[14]),
+        ("a refused trial and no such action", &[6, 7, 8, 9, 10]),
     ],
 };
-
-fn spoil(random: &mut Random, drawn: &mut Drawn) {
-    drawn.starts = lists::starts(random, &drawn.starts, &drawn.draft);
-}
 
 fn situations(seen: &Seen) -> Vec<&'static str> {
     let trial = seen.call.list("trial");
     let short = met(&[
         ("a slice of 4,097 words", trial.len() == 4_097),
-        ("a slice of more than 4,098 words", trial.len() > 4_098),
+        ("a slice of more than 4,098 words", trial.len() > 4_098 && seen.call.name() != "trial_begin"),
         ("a show of a buffer of 4,095 words", seen.call.list("buffer").len() == 4_095 && !trial.is_empty()),
     ]);
     match seen.job {
         Some(job) if trial.len() >= 4_098 && !matches!(seen.call, Call::TrialBegin { .. }) => {
-            let new = seen.new_start().filter(|_| seen.number != 14);
+            let new = seen.new_start().filter(|_| seen.is_own_lawful());
             let of_new = new.map_or(vec![], |start| of_new_start(job, seen.starts, &start));
             [short, of_words(seen, job, trial), of_new].concat()
         }
@@ -80,6 +77,15 @@ fn of_words(seen: &Seen, job: &Job, trial: &[u32]) -> Vec<&'static str> {
         ("a start one moment after the trial's", moment <= job.last && number <= 4_096 && latest == Some(moment + 1)),
         ("a refused start in the trial", moves_on && (6..=10).contains(&seen.number)),
         ("the first action that is not there", action == Some(job.actions.len())),
+        ("a short buffer before a trial that no moves give", seen.number == 12 && moment > job.last),
+        (
+            "a trial that no moves give, with a wrong word",
+            seen.number == 14 && starts.iter().any(|&word| kind(word) != 9),
+        ),
+        (
+            "a refused trial and no such action",
+            action.is_some_and(|of| of > job.actions.len()) && !seen.is_own_lawful(),
+        ),
     ])
 }
 
@@ -101,6 +107,6 @@ fn of_new_start(job: &Job, starts: &[Start], new: &Start) -> Vec<&'static str> {
         ("a clash with a lower action of this moment", clashing(&|old| now(old) && old.action < new.action)),
         ("a clash with an earlier start", clashing(&|old| old.moment < new.moment && old.in_hand(new.moment))),
         ("a clashing action that finishes now", clashing(&|old| finish(old) == new.moment)),
-        ("a need that is not met", !job.actions[new.action].needs.is_empty()),
+        ("a new start with a need", !job.actions[new.action].needs.is_empty()),
     ])
 }

@@ -6,11 +6,11 @@ use crate::features::{met, Feature, Seen};
 use crate::oracle::call::Call;
 use crate::oracle::job::{Formula, Job, Known};
 use crate::oracle::plan::read_plan;
+use crate::oracle::starts::Start;
 use crate::random::Random;
 use crate::words::{self, bits, field, form, is_wide, kind};
 
 pub const FEATURE: Feature = Feature {
-    name: "wide jobs",
     draw,
     add,
     spoil,
@@ -24,8 +24,9 @@ pub const FEATURE: Feature = Feature {
         ("F = 255", &[0]),
         ("F = 256", &[0]),
         ("a fluent above 63 known at 0", &[0]),
-        ("a fluent above 63 needed", &[0, 10]),
-        ("a fluent above 63 made", &[0, 9]),
+        ("a fluent above 63 needed", &[0]),
+        ("a fluent above 63 made", &[0]),
+        ("a need of a fluent above 63 not met", &[10]),
         ("a fluent above 63 in a formula", &[0, 13]),
         ("fluent 255", &[0]),
         ("bits 27..24 of the head above 1", &[2]),
@@ -118,7 +119,7 @@ fn full(random: &mut Random) -> Drawn {
     Drawn { draft, starts }
 }
 
-/// Damages the starts, or makes F so low that the job names a fluent which it does not have.
+/// Damages the starts, and now and then makes F so low that the job names a fluent which it does not have.
 fn spoil(random: &mut Random, drawn: &mut Drawn) {
     drawn.starts = lists::starts(random, &drawn.starts, &drawn.draft);
     if let (Some(wide), true) = (&mut drawn.draft.wide, random.chance(30)) {
@@ -178,11 +179,14 @@ fn situations(seen: &Seen) -> Vec<&'static str> {
         (Some(job), _) if wide => of_job(job),
         _ => vec![],
     };
+    let needs =
+        |start: Start| seen.job.is_some_and(|job| job.actions[start.action].needs.iter().any(|of| of.fluent > 63));
     let room = seen.call.list("buffer").len();
     let writes_facts = matches!(seen.call, Call::Fill { .. } | Call::TrialShow { .. });
     let refused_starts = || seen.job.is_some() && read_plan(words, seen.call.list("starts")).is_err();
-    let facts = seen.number == 0 && writes_facts && seen.reading.len() == 16_384;
+    let facts = seen.number == 0 && writes_facts && seen.written.len() == 16_384;
     names.extend(met(&[
+        ("a need of a fluent above 63 not met", seen.number == 10 && seen.refused_start().is_some_and(needs)),
         ("16,384 facts", facts),
         ("a buffer of 16,383 words", wide && writes_facts && room == 16_383),
         ("a buffer of 4,096 words", wide && writes_facts && room == 4_096),

@@ -1,5 +1,5 @@
-//! The product's calls as values: what each is handed, and what it must return and leave behind. A new argument of a call is
-//! added here and in `library.rs`, and nowhere else.
+//! The product's calls as values: what each is handed, and what it must return and leave behind. If a call gets a new
+//! argument, this file and `library.rs` change; what draws, judges and counts calls goes on as it is.
 
 use crate::oracle::answer::{Answer, Refusal};
 use crate::oracle::plan::{self, Outcome};
@@ -53,12 +53,12 @@ impl Call {
 
     /// Fill with a lent buffer of so many words.
     pub fn fill(job: &[u32], starts: &[u32], room: usize) -> Call {
-        Call::Fill { job: job.to_vec(), starts: starts.to_vec(), buffer: noise(room) }
+        Call::Fill { job: job.to_vec(), starts: starts.to_vec(), buffer: noise(job, room) }
     }
 
     /// Find with a lent buffer of so many words.
     pub fn find(job: &[u32], starts: &[u32], facts: &[u32], room: usize) -> Call {
-        Call::Find { job: job.to_vec(), starts: starts.to_vec(), facts: facts.to_vec(), buffer: noise(room) }
+        Call::Find { job: job.to_vec(), starts: starts.to_vec(), facts: facts.to_vec(), buffer: noise(job, room) }
     }
 
     pub fn trial_begin(job: &[u32], trial: &[u32]) -> Call {
@@ -75,7 +75,7 @@ impl Call {
 
     /// Show with a lent buffer of so many words.
     pub fn trial_show(job: &[u32], trial: &[u32], room: usize) -> Call {
-        Call::TrialShow { job: job.to_vec(), trial: trial.to_vec(), buffer: noise(room) }
+        Call::TrialShow { job: job.to_vec(), trial: trial.to_vec(), buffer: noise(job, room) }
     }
 
     /// The call's name in C.
@@ -123,11 +123,12 @@ impl Call {
     }
 }
 
-/// What a lent list holds before a call: words of any bits, the same in each run.
-pub fn noise(length: usize) -> Vec<u32> {
+/// What a lent list holds before a call: words of any bits, other ones beside other words that the call is handed.
+pub fn noise(beside: &[u32], length: usize) -> Vec<u32> {
     static NOISE: OnceLock<Vec<u32>> = OnceLock::new();
     let words = NOISE.get_or_init(|| Random::new(0x5e3a).words(5_000));
-    words.iter().copied().cycle().take(length).collect()
+    let from = beside.iter().fold(0, |sum: u32, word| sum.wrapping_mul(31).wrapping_add(*word)) as usize % words.len();
+    words.iter().copied().cycle().skip(from).take(length).collect()
 }
 
 /// What the documents say of the call; none if a task set has more placements than the oracle tries.
@@ -138,7 +139,7 @@ pub fn expected(call: &Call) -> Option<Expected> {
         Call::Fill { job, starts, buffer } => exactly(plan::fill(job, starts, buffer.len()), lent, true),
         Call::Find { job, starts, facts, buffer } => match plan::find(job, starts, facts, buffer.len())? {
             Outcome::Refused(refusal) => exactly(Err(refusal), lent, true),
-            Outcome::NoReading { decision, .. } => Expected::Exactly { answer: plan::no_reading(&decision), lent },
+            Outcome::NoReading { decision } => Expected::Exactly { answer: plan::no_reading(&decision), lent },
             Outcome::Read { world, decision } => Expected::Reading { world, decision },
         },
         Call::TrialBegin { job, trial } => exactly(trial::begin(job, trial), lent, false),

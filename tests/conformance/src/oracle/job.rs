@@ -207,7 +207,8 @@ fn wrong(job: &Job, word: u32) -> bool {
         8 => wrong_condition(job, word),
         12 => wrong_shift(job, word),
         13 => field(word, 27, 24) > HIGHEST_GROUP,
-        _ => wrong_pair(job, word),
+        14 => wrong_pair(job, word),
+        _ => unreachable!("row 2 lets no other kind pass"),
     }
 }
 
@@ -398,7 +399,8 @@ impl Job {
             12 => self.take_shift(word),
             13 => self.take_group(word),
             14 => self.take_pair(word),
-            _ => self.take_set_word(word),
+            7 | 8 => self.take_set_word(word),
+            _ => unreachable!("row 2 lets no other kind pass"),
         }
     }
 

@@ -24,12 +24,12 @@ type Read = Result<Rc<Plan>, Refusal>;
 
 thread_local! {
     /// The job and starts that were read last, since several calls are asked about each.
-    static LAST: RefCell<Option<(Vec<u32>, Vec<u32>, Read)>> = const { RefCell::new(None) };
+    static LATEST_READ: RefCell<Option<(Vec<u32>, Vec<u32>, Read)>> = const { RefCell::new(None) };
 }
 
 /// Rows 1 to 10, with 15 and 16 after 9.
 pub fn read_plan(job: &[u32], starts: &[u32]) -> Read {
-    LAST.with_borrow_mut(|last| match last {
+    LATEST_READ.with_borrow_mut(|last| match last {
         Some((of_job, of_starts, read)) if of_job == job && of_starts == starts => read.clone(),
         _ => {
             let read = read_job(job).and_then(|job| plan_of(job, starts)).map(Rc::new);
@@ -85,7 +85,7 @@ pub enum Outcome {
     /// A refusal by a row before 13.
     Refused(Refusal),
     /// 13 with the count of the triples that have a reading.
-    NoReading { world: World, decision: Decision },
+    NoReading { decision: Decision },
     /// Any reading of the root from 0 to n, with that count.
     Read { world: World, decision: Decision },
 }
@@ -102,7 +102,7 @@ pub fn find(job: &[u32], starts: &[u32], facts: &[u32], buffer: usize) -> Option
     let decision = decide(&world)?;
     Some(match decision.has(world.root(), 0, world.last()) {
         true => Outcome::Read { world, decision },
-        false => Outcome::NoReading { world, decision },
+        false => Outcome::NoReading { decision },
     })
 }
 

@@ -28,7 +28,7 @@ pub fn planread(job: Option<&[u8]>, plan: Option<&[u8]>) -> Option<Printed> {
     let starts = plan.iter().take_while(|&&word| kind(word) == 9).count();
     Some(match find(&job, &plan[..starts], &plan[starts..], 4_096)? {
         Outcome::Refused(refusal) => refused(Answer::refused(refusal)),
-        Outcome::NoReading { decision, .. } => refused(no_reading(&decision)),
+        Outcome::NoReading { decision } => refused(no_reading(&decision)),
         Outcome::Read { world, decision } => Printed::Reading { world: Box::new(world), decision },
     })
 }
@@ -73,7 +73,7 @@ fn printed_words(text: &str) -> Vec<u32> {
 }
 
 /// "prints one line, then the reading, one word a line as eight lower-case hexadecimal digits"
-pub fn reading_text(reading: &[u32], count: usize) -> String {
+fn reading_text(reading: &[u32], count: usize) -> String {
     let words: String = reading.iter().map(|word| format!("{word:08x}\n")).collect();
     format!("read {} triples {count}\n{words}", reading.len())
 }
