@@ -14,7 +14,7 @@ NO_LIMIT = 0  # in the gate no time decides: the chosen mutants end
 NO_LIBRARY = 99  # the status of a test program that calls.c ends
 
 # The test programs of what is built, from quick to slow. The bench is for mutants of speed.
-TESTS = {LIBRARY: ["c-vectors", "vectors", "tiny", "generated", "bench"], PROGRAM: ["planread", "examples"]}
+TESTS = {LIBRARY: ["c-vectors", "vectors", "apart", "tiny", "generated", "bench"], PROGRAM: ["planread", "examples"]}
 
 
 def link_tests(with_bench):
