@@ -1,4 +1,5 @@
-//! The product's calls, held against documents 01 and 02 written a second time. `tests/README.md` says how this is laid out.
+//! The product's calls, held against documents 01 and 02 written a second time. `tests/README.md` says how this is laid
+//! out.
 
 pub mod built;
 pub mod draw;

@@ -1,5 +1,5 @@
-//! Listings of calls by hand, `tests/vectors/*.txt`: a call, its words, its answer and a line of why. `tests/vectors/README.md`
-//! has the format; the C test reads the same files.
+//! Listings of calls by hand, `tests/vectors/*.txt`: a call, its words, its answer and a line of why.
+//! `tests/vectors/README.md` has the format; the C test reads the same files.
 
 use crate::oracle::answer::Answer;
 use crate::oracle::call::{noise, Call};

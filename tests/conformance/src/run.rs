@@ -77,8 +77,8 @@ pub fn every_bit(features: &[Feature], seed: u64, jobs: usize) -> Report {
     run.report
 }
 
-/// Draws so many trials, and asks start, on and show about each with each bit of its moment, its number of starts, its first
-/// starts and the word after them turned, one at a time.
+/// Draws so many trials, and asks start, on and show about each with each bit of its moment, its number of starts, its
+/// first starts and the word after them turned, one at a time.
 pub fn every_bit_of_trials(features: &[Feature], seed: u64, plans: usize) -> Report {
     let mut run = Run::new(features, seed);
     for _ in 0..plans {
@@ -207,8 +207,8 @@ impl Run<'_> {
         }
     }
 
-    /// Asks the four calls about the plan up to one of its moments, now and then damaged. Start is asked about a start of that
-    /// moment, which the trial then lacks, or about any action.
+    /// Asks the four calls about the plan up to one of its moments, now and then damaged. Start is asked about a start
+    /// of that moment, which the trial then lacks, or about any action.
     fn trial(&mut self, job: &[u32], drawn: &Drawn) {
         let mut trial = trials::lawful(&mut self.random, drawn);
         if self.random.chance(30) {
@@ -249,7 +249,8 @@ impl Run<'_> {
         }
     }
 
-    /// Asks about every ascending list of starts of a tiny job that finish by n, and now and then about one more that does not.
+    /// Asks about every ascending list of starts of a tiny job that finish by n, and now and then about one more that
+    /// does not.
     fn every_list(&mut self, draft: &Draft) {
         let job = draft.words();
         let actions = draft.actions.len();
@@ -293,8 +294,8 @@ impl Run<'_> {
     }
 }
 
-/// The starts of a call or of its trial, as far as their words name a moment and an action of the job; at most 200. Begin
-/// reads none.
+/// The starts of a call or of its trial, as far as their words name a moment and an action of the job; at most 200.
+/// Begin reads none.
 fn named_starts(job: &Job, call: &Call) -> Vec<Start> {
     let trial = if matches!(call, Call::TrialBegin { .. }) { &[] } else { call.list("trial") };
     let of_trial = trial.get(2..2 + trial.get(1).map_or(0, |&number| number as usize).min(200)).unwrap_or(&[]);

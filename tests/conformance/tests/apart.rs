@@ -131,8 +131,9 @@ fn lists(alphabet: &[u32], length: usize) -> Vec<Vec<u32>> {
     }
 }
 
-/// The oracle says twice what a reading is: a triple has one by the decision exactly if some list of words is one by the judge of
-/// lists. Here every list of up to four words is judged, for procedures of up to three nodes over two moments at most.
+/// The oracle says twice what a reading is: a triple has one by the decision exactly if some list of words is one by
+/// the judge of lists. Here every list of up to four words is judged, for procedures of up to three nodes over two
+/// moments at most.
 #[test]
 fn what_has_a_reading_and_what_is_one_agree() {
     let mut random = Random::new(21);

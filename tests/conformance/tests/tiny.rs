@@ -7,8 +7,8 @@ use conformance::features::{
 use conformance::run::tiny;
 use conformance::words::{action, formula, initially, law, node};
 
-/// Two actions with these durations and laws, on one fluent that is known true, known false or open. The procedure counts the
-/// moments at which it holds.
+/// Two actions with these durations and laws, on one fluent that is known true, known false or open. The procedure
+/// counts the moments at which it holds.
 fn job(last: usize, durations: [usize; 2], laws: [Option<usize>; 2], known: Option<bool>) -> Draft {
     let actions = (0..2).map(|number| {
         let laws = laws[number].map(|role| law(role, 0));

@@ -15,7 +15,8 @@ pub fn any(random: &mut Random, job: &[u32]) -> Vec<u32> {
     }
 }
 
-/// One damage at a word of these kinds, if the job has one: a bit, a field, any bits, or the word doubled or put elsewhere.
+/// One damage at a word of these kinds, if the job has one: a bit, a field, any bits, or the word doubled or put
+/// elsewhere.
 pub fn of_kinds(random: &mut Random, job: &[u32], kinds: &[usize]) -> Vec<u32> {
     let mut job = job.to_vec();
     let places: Vec<usize> = (0..job.len()).filter(|&place| kinds.contains(&kind(job[place]))).collect();
@@ -189,8 +190,8 @@ pub fn window(random: &mut Random, job: &[u32]) -> Vec<u32> {
     job
 }
 
-/// A fluent a second time among the initial words, or in the laws of one action, where roles 0 and 2 may share one; or a
-/// group or a pair a second time.
+/// A fluent a second time among the initial words, or in the laws of one action, where roles 0 and 2 may share one; or
+/// a group or a pair a second time.
 pub fn named_again(random: &mut Random, job: &[u32]) -> Vec<u32> {
     let mut job = job.to_vec();
     let named = |word: u32| matches!(kind(word), 2 | 4 | 13 | 14);

@@ -1,5 +1,5 @@
-//! Jobs at and beyond the limits of document 01 (64 of each, 4 members, 8 conditions, 2,048 words), and words that no job writer
-//! meant.
+//! Jobs at and beyond the limits of document 01 (64 of each, 4 members, 8 conditions, 2,048 words), and words that no
+//! job writer meant.
 
 use crate::draw::draft::Draft;
 use crate::draw::jobs;

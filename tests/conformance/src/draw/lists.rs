@@ -4,7 +4,8 @@ use crate::draw::draft::Draft;
 use crate::random::Random;
 use crate::words::{self, field};
 
-/// Starts with one or two of these damages: one more start, or one moved, left out, changed, out of order or beyond a limit.
+/// Starts with one or two of these damages: one more start, or one moved, left out, changed, out of order or beyond a
+/// limit.
 pub fn starts(random: &mut Random, list: &[u32], draft: &Draft) -> Vec<u32> {
     let mut list = one_start(random, list, draft);
     if random.chance(25) {

@@ -1,5 +1,5 @@
-//! Draws jobs, plans, procedures and trials, and damages them. This knows how words are built and which plans are lawful, and
-//! nothing of what the product answers.
+//! Draws jobs, plans, procedures and trials, and damages them. This knows how words are built and which plans are
+//! lawful, and nothing of what the product answers.
 
 pub mod damage;
 pub mod draft;

@@ -80,7 +80,8 @@ impl Builder<'_> {
         self.add(vec![words::node(form, x, y, m, n)])
     }
 
-    /// A start window or an end window for Y at m after X has ended at k; an end window only where no start disturbs it.
+    /// A start window or an end window for Y at m after X has ended at k; an end window only where no start disturbs
+    /// it.
     fn form_of_wait(&mut self, k: usize, m: usize) -> usize {
         match self.quiet_from(k) < m {
             true => 6,

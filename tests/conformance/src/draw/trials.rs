@@ -112,8 +112,8 @@ pub fn lawful(random: &mut Random, plan: &Drawn) -> Trial {
     trial
 }
 
-/// The trial without one start of its moment, with that start's action, so that it can be tried; or the whole trial with any
-/// action.
+/// The trial without one start of its moment, with that start's action, so that it can be tried; or the whole trial
+/// with any action.
 pub fn to_try(random: &mut Random, trial: &Trial, actions: usize) -> (Trial, u32) {
     let is_now = |place: &usize| field(trial.starts[*place], 11, 6) == trial.moment as usize;
     let now: Vec<usize> = (0..trial.starts.len()).filter(is_now).collect();

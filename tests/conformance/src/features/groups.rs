@@ -1,4 +1,5 @@
-//! Request L5, "Grippers are few": "At each moment the starts in hand whose action is in the group number at most its limit."
+//! Request L5, "Grippers are few": "At each moment the starts in hand whose action is in the group number at most its
+//! limit."
 
 use crate::draw::damage;
 use crate::draw::draft::{Draft, Drawn};

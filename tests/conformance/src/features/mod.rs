@@ -66,7 +66,8 @@ pub struct Seen<'a> {
     pub position: usize,
     /// The call's job, if it is well formed.
     pub job: Option<&'a Job>,
-    /// The starts that the call is handed, or those of its trial, as far as their words name a moment and an action of the job.
+    /// The starts that the call is handed, or those of its trial, as far as their words name a moment and an action of
+    /// the job.
     pub starts: &'a [Start],
     /// The words that the call wrote, as many as its answer's length says.
     pub written: &'a [u32],

@@ -51,7 +51,8 @@ fn add(random: &mut Random, drawn: &mut Drawn) {
     programs::add_readable(random, &mut drawn.draft, &drawn.starts, nodes);
 }
 
-/// Some fields of formulas and nodes, or starts, changed so that the job is well formed and the plan lawful still; or any nodes.
+/// Some fields of formulas and nodes, or starts, changed so that the job is well formed and the plan lawful still; or
+/// any nodes.
 fn spoil(random: &mut Random, drawn: &mut Drawn) {
     if random.chance(20) {
         drawn.draft.nodes.clear();

@@ -1,4 +1,5 @@
-//! Request L4, "Shift windows": "An action with windows may start at u only if one of them has from ≤ u and u + d ≤ to."
+//! Request L4, "Shift windows": "An action with windows may start at u only if one of them has from ≤ u and u + d ≤
+//! to."
 
 use crate::draw::damage;
 use crate::draw::draft::{Draft, Drawn};
@@ -35,7 +36,8 @@ fn draw(random: &mut Random) -> Drawn {
     drawn
 }
 
-/// Windows for three actions of four: some that hold their starts, mostly just so, and others that need not hold anything.
+/// Windows for three actions of four: some that hold their starts, mostly just so, and others that need not hold
+/// anything.
 fn add(random: &mut Random, drawn: &mut Drawn) {
     for action in 0..drawn.draft.actions.len() {
         if random.chance(75) {

@@ -1,4 +1,5 @@
-//! Request L1, "Stepping a plan by hand": trials that moves could give, trials that no moves could give, and new starts.
+//! Request L1, "Stepping a plan by hand": trials that moves could give, trials that no moves could give, and new
+//! starts.
 
 use crate::draw::draft::Draft;
 use crate::draw::{damage, plans};

@@ -1,4 +1,5 @@
-//! Request L6, "Two hundred and fifty-six facts": jobs written wide, with up to 256 fluents, and the filler's 16,384 words.
+//! Request L6, "Two hundred and fifty-six facts": jobs written wide, with up to 256 fluents, and the filler's 16,384
+//! words.
 
 use crate::draw::draft::{Draft, Drawn, Wide, MOST_FLUENTS};
 use crate::draw::{damage, lists, plans};
@@ -50,7 +51,8 @@ fn draw(random: &mut Random) -> Drawn {
     drawn
 }
 
-/// Writes the job wide: its fluents keep their order and go anywhere below 256, and others are known, needed or made beside them.
+/// Writes the job wide: its fluents keep their order and go anywhere below 256, and others are known, needed or made
+/// beside them.
 fn add(random: &mut Random, drawn: &mut Drawn) {
     let own = drawn.draft.fluents;
     let room = *random.pick(&[own, own, own + 1, 65.max(own), 65.max(own), 128.max(own), 255, 256]);
@@ -73,7 +75,8 @@ fn add(random: &mut Random, drawn: &mut Drawn) {
     drawn.draft.wide = Some(wide);
 }
 
-/// More fluents. Lawful starts stay lawful: what is made is made in one way by all, and what is needed is known and made by none.
+/// More fluents. Lawful starts stay lawful: what is made is made in one way by all, and what is needed is known and
+/// made by none.
 fn add_others(random: &mut Random, draft: &Draft, wide: &mut Wide) {
     let mut free: Vec<usize> = (0..wide.fluents).filter(|fluent| !wide.numbers.contains(fluent)).collect();
     random.shuffle(&mut free);

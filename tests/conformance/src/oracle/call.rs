@@ -25,7 +25,8 @@ pub enum Call {
 pub enum Expected {
     /// This answer, and the lent lists as they are after the call.
     Exactly { answer: Answer, lent: Vec<Vec<u32>> },
-    /// Some reading of the root from 0 to n at the beginning of the buffer, with this count, and the other words as they were.
+    /// Some reading of the root from 0 to n at the beginning of the buffer, with this count, and the other words as
+    /// they were.
     Reading { world: World, decision: Decision },
 }
 
@@ -149,8 +150,8 @@ pub fn expected(call: &Call) -> Option<Expected> {
     })
 }
 
-/// A success writes these words to the beginning of the lent list, and says how many if its answer tells a length. "A refusal gives
-/// length 0 and count 0", and changes nothing.
+/// A success writes these words to the beginning of the lent list, and says how many if its answer tells a length. "A
+/// refusal gives length 0 and count 0", and changes nothing.
 fn exactly(written: Result<Vec<u32>, Refusal>, mut lent: Vec<Vec<u32>>, tells_length: bool) -> Expected {
     let answer = match written {
         Ok(words) => {

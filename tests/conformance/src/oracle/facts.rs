@@ -17,8 +17,8 @@ pub fn states(job: &Job, starts: &[Start]) -> Vec<State> {
     states
 }
 
-/// The state of t > 0 by that of t - 1: "At t > 0 a fluent that a hiding start makes true or false is open. Any other fluent
-/// takes the value given by a start finishing at t, or else its value at t − 1."
+/// The state of t > 0 by that of t - 1: "At t > 0 a fluent that a hiding start makes true or false is open. Any other
+/// fluent takes the value given by a start finishing at t, or else its value at t − 1."
 pub fn state_at(job: &Job, starts: &[Start], before: &State, t: usize) -> State {
     let made_by = |test: fn(&Start, usize) -> bool| -> Vec<Known> {
         let looked_at = starts.iter().filter(|start| test(start, t));
@@ -62,8 +62,8 @@ pub fn fact_words(layout: &Layout, states: &[State]) -> Vec<u32> {
     facts
 }
 
-/// "Fact word, kind 10: 12..7 moment, 6..1 fluent, bit 0 (0 true, 1 false)"; L6: "its moment in 14..9, fluent in 8..1, value in
-/// bit 0".
+/// "Fact word, kind 10: 12..7 moment, 6..1 fluent, bit 0 (0 true, 1 false)"; L6: "its moment in 14..9, fluent in 8..1,
+/// value in bit 0".
 fn fact_word(layout: &Layout, moment: usize, fluent: usize, value: bool) -> u32 {
     10 << 28 | (moment as u32) << layout.moment.1 | (fluent as u32) << layout.fact.1 | u32::from(!value)
 }

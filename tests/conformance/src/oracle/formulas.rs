@@ -1,5 +1,5 @@
-//! Document 01: "A formula has three values: holds, fails, open." Document 02, L7, "Has held for a while": a value "depends on
-//! the states up to t and no more on one state".
+//! Document 01: "A formula has three values: holds, fails, open." Document 02, L7, "Has held for a while": a value
+//! "depends on the states up to t and no more on one state".
 
 use crate::oracle::facts::State;
 use crate::oracle::job::{Formula, Job};
@@ -12,8 +12,8 @@ pub enum Value {
     Holds,
 }
 
-/// The values of all the job's formulas at the moments of these states: by moment, then by formula number. Those of a moment go
-/// by its state and by the values of the moments before it.
+/// The values of all the job's formulas at the moments of these states: by moment, then by formula number. Those of a
+/// moment go by its state and by the values of the moments before it.
 pub fn values(job: &Job, states: &[State]) -> Vec<Vec<Value>> {
     let mut past = vec![];
     for state in states {

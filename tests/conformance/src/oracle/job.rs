@@ -1,5 +1,5 @@
-//! Document 01, "Job words", and the rows on the job in "Where each check is made"; document 02, L4, "Shift windows", L5,
-//! "Grippers are few", L6, "Two hundred and fifty-six facts", and L7, "Has held for a while".
+//! Document 01, "Job words", and the rows on the job in "Where each check is made"; document 02, L4, "Shift windows",
+//! L5, "Grippers are few", L6, "Two hundred and fifty-six facts", and L7, "Has held for a while".
 
 use crate::oracle::answer::{refuse, Refusal};
 use crate::oracle::layout::{by_head, mask, part, Layout};
@@ -142,8 +142,9 @@ fn kind_and_form_allowed(word: u32) -> bool {
     }
 }
 
-/// The sentences "Follows ..". Kind 1 is "only and always word 0". Of kind 12: "it follows kinds 3, 4 or 12, and kinds 5
-/// and 6 may follow it". "Kind 13 follows 3, 4, 12 or 13, kind 14 follows 13 or 14, and kinds 5 and 6 may follow either".
+/// The sentences "Follows ..". Kind 1 is "only and always word 0". Of kind 12: "it follows kinds 3, 4 or 12, and kinds
+/// 5 and 6 may follow it". "Kind 13 follows 3, 4, 12 or 13, kind 14 follows 13 or 14, and kinds 5 and 6 may follow
+/// either".
 fn may_follow(before: Option<u32>, word: u32) -> bool {
     let Some(before) = before else {
         return kind(word) == 1;
@@ -164,7 +165,8 @@ fn may_follow(before: Option<u32>, word: u32) -> bool {
     }
 }
 
-/// The bits that a word of this kind and form uses: "A field that its form doesn't use is spare." Those of a head are all used.
+/// The bits that a word of this kind and form uses: "A field that its form doesn't use is spare." Those of a head are
+/// all used.
 fn used_bits(layout: &Layout, word: u32) -> u32 {
     let x_y = bits(23, 18) | bits(17, 12);
     let m_n = bits(11, 6) | bits(5, 0);
@@ -224,7 +226,8 @@ fn wrong_action(job: &Job, word: u32) -> bool {
     field(word, 11, 6) != job.actions.len() || field(word, 5, 0) == 0
 }
 
-/// "In forms 2 to 4 the references are lower formula numbers." Form 5: "X a lower formula, Y from 0 to 63", which any field is.
+/// "In forms 2 to 4 the references are lower formula numbers." Form 5: "X a lower formula, Y from 0 to 63", which any
+/// field is.
 fn wrong_formula(job: &Job, word: u32) -> bool {
     let x = field(word, 11, 6);
     let y = field(word, 5, 0);
@@ -288,8 +291,8 @@ fn wrong_pair(job: &Job, word: u32) -> bool {
     number > HIGHEST_GROUP || job.group(number).is_none() || field(word, 5, 0) >= job.actions.len()
 }
 
-// Row 4: "fluent twice in kind 2; or twice in roles 0, 1, or in 2, 3, of one action"; L5: "a group declared twice or a pair
-// listed twice is 4"
+// Row 4: "fluent twice in kind 2; or twice in roles 0, 1, or in 2, 3, of one action"; L5: "a group declared twice or a
+// pair listed twice is 4"
 
 fn named_twice(job: &Job, word: u32) -> bool {
     let named = |list: &[Known], at| list.iter().any(|known| known.fluent == part(word, at));

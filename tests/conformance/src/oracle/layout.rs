@@ -1,5 +1,5 @@
-//! Request L6, "Two hundred and fifty-six facts": where the fields that have to do with fluents stand, and how many words the
-//! filler needs. The head's bits 27..24 say which layout a job has.
+//! Request L6, "Two hundred and fifty-six facts": where the fields that have to do with fluents stand, and how many
+//! words the filler needs. The head's bits 27..24 say which layout a job has.
 
 use crate::words::{bits, field};
 
@@ -25,8 +25,8 @@ pub struct Layout {
     pub room: usize,
 }
 
-/// Document 01: "fluents F (1 to 64)"; kind 2: "bit 6 (0 true, 1 false), 5..0 fluent"; kind 4: "7..6 role [..], 5..0 fluent"; kind
-/// 5: "11..6 X"; fact word: "12..7 moment, 6..1 fluent, bit 0".
+/// Document 01: "fluents F (1 to 64)"; kind 2: "bit 6 (0 true, 1 false), 5..0 fluent"; kind 4: "7..6 role [..], 5..0
+/// fluent"; kind 5: "11..6 X"; fact word: "12..7 moment, 6..1 fluent, bit 0".
 pub const NARROW: Layout = Layout {
     fluents: |field| (1..=64).contains(&field).then_some(field),
     known_value: (6, 6),
@@ -39,9 +39,9 @@ pub const NARROW: Layout = Layout {
     room: 4_096,
 };
 
-/// "F from 1 to 255, and a field of 0 there says 256. In such a job a law has its role in 9..8 and fluent in 7..0; an initial word
-/// its value in bit 8 and fluent in 7..0; formula form 1 its fluent in 7..0; a fact word its moment in 14..9, fluent in 8..1,
-/// value in bit 0. The filler then needs 16,384 words".
+/// "F from 1 to 255, and a field of 0 there says 256. In such a job a law has its role in 9..8 and fluent in 7..0; an
+/// initial word its value in bit 8 and fluent in 7..0; formula form 1 its fluent in 7..0; a fact word its moment in
+/// 14..9, fluent in 8..1, value in bit 0. The filler then needs 16,384 words".
 pub const WIDE: Layout = Layout {
     fluents: |field| Some(if field == 0 { 256 } else { field }),
     known_value: (8, 8),

@@ -1,5 +1,5 @@
-//! Documents 01 and 02 a second time, in the plainest Rust, apart from the proved code: a file for each heading, and `call`, which
-//! says what any call must return and leave behind.
+//! Documents 01 and 02 a second time, in the plainest Rust, apart from the proved code: a file for each heading, and
+//! `call`, which says what any call must return and leave behind.
 
 pub mod answer;
 pub mod call;

@@ -1,4 +1,5 @@
-//! Document 01, "Where each check is made": the rows of check, fill and find, from the top; with the second 12 of request L6.
+//! Document 01, "Where each check is made": the rows of check, fill and find, from the top; with the second 12 of
+//! request L6.
 
 use crate::oracle::answer::{refuse, Answer, Refusal};
 use crate::oracle::facts::{fact_words, row_10, row_11, states, State};
@@ -60,7 +61,8 @@ pub fn lent_buffer(length: usize) -> Result<(), Refusal> {
     }
 }
 
-/// L6: "The filler then needs 16,384 words; from 4,096 up to that it gives 12, right after the job's checks and before 14."
+/// L6: "The filler then needs 16,384 words; from 4,096 up to that it gives 12, right after the job's checks and before
+/// 14."
 pub fn room_for_facts(job: &Job, length: usize) -> Result<(), Refusal> {
     match length < job.layout.room {
         true => refuse(12, 0),
@@ -90,8 +92,8 @@ pub enum Outcome {
     Read { world: World, decision: Decision },
 }
 
-/// "find runs all": 12, then 1 to 11 with 15 and 16, then 13. It writes no facts, and asks for 4,096 words of any job. None if a
-/// task set has more placements than are tried.
+/// "find runs all": 12, then 1 to 11 with 15 and 16, then 13. It writes no facts, and asks for 4,096 words of any job.
+/// None if a task set has more placements than are tried.
 pub fn find(job: &[u32], starts: &[u32], facts: &[u32], buffer: usize) -> Option<Outcome> {
     let passed = lent_buffer(buffer).and_then(|()| check(job, starts, facts)).and_then(|()| read_plan(job, starts));
     let plan = match passed {

@@ -18,8 +18,8 @@ pub enum Printed {
     Reading { world: Box<World>, decision: Decision },
 }
 
-/// The output for the two files' bytes, of which none is a file that can't be read; none if a task set has more placements than
-/// are tried.
+/// The output for the two files' bytes, of which none is a file that can't be read; none if a task set has more
+/// placements than are tried.
 pub fn planread(job: Option<&[u8]>, plan: Option<&[u8]>) -> Option<Printed> {
     let (Some(job), Some(plan)) = (words_of(job), words_of(plan)) else {
         return Some(Printed::Line("bad file\n".to_string()));

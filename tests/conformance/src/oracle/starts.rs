@@ -1,5 +1,5 @@
-//! Document 01, "Starts and known facts": start words, and rows 6 to 9; then L4's row 15 and L5's row 16. Each row is a pass
-//! over all words.
+//! Document 01, "Starts and known facts": start words, and rows 6 to 9; then L4's row 15 and L5's row 16. Each row is a
+//! pass over all words.
 
 use crate::oracle::answer::{refuse, Refusal};
 use crate::oracle::job::{Action, Group, Job};
@@ -101,16 +101,16 @@ pub fn row_15(job: &Job, starts: &[Start]) -> Result<(), Refusal> {
     }
 }
 
-/// "An action with windows may start at u only if one of them has from ≤ u and u + d ≤ to." "An action without windows is
-/// free."
+/// "An action with windows may start at u only if one of them has from ≤ u and u + d ≤ to." "An action without windows
+/// is free."
 pub fn keeps_windows(job: &Job, start: &Start) -> bool {
     let shifts = &job.actions[start.action].shifts;
     let held = shifts.iter().any(|shift| shift.from <= start.moment && start.moment + start.duration <= shift.to);
     shifts.is_empty() || held
 }
 
-/// "the first start word with which, counted with the words before it alone, a group of its action exceeds its limit at that
-/// word's moment, after 15 and before 10"
+/// "the first start word with which, counted with the words before it alone, a group of its action exceeds its limit at
+/// that word's moment, after 15 and before 10"
 pub fn row_16(job: &Job, starts: &[Start]) -> Result<(), Refusal> {
     match (0..starts.len()).find(|&position| exceeds(job, &starts[..position], &starts[position])) {
         Some(position) => refuse(16, position),

@@ -1,5 +1,6 @@
-//! Request L1, "Stepping a plan by hand", with L4's row 15, L5's row 16 and L6's second 12: the four calls, and what each leaves
-//! in the words lent to it. A trial crosses to C as words: its moment, the number of its starts, then the starts.
+//! Request L1, "Stepping a plan by hand", with L4's row 15, L5's row 16 and L6's second 12: the four calls, and what
+//! each leaves in the words lent to it. A trial crosses to C as words: its moment, the number of its starts, then the
+//! starts.
 
 use crate::oracle::answer::{refuse, Refusal};
 use crate::oracle::facts::fact_words;
@@ -21,7 +22,8 @@ struct Trial {
     plan: Plan,
 }
 
-/// "A trial begins at moment 0 of a job with no starts". Here and in the moves the result is what the trial's words begin with.
+/// "A trial begins at moment 0 of a job with no starts". Here and in the moves the result is what the trial's words
+/// begin with.
 pub fn begin(job: &[u32], trial: &[u32]) -> Result<Vec<u32>, Refusal> {
     read_job(job)?;
     long_enough(trial)?;
@@ -46,8 +48,8 @@ pub fn on(job: &[u32], trial: &[u32]) -> Result<Vec<u32>, Refusal> {
     }
 }
 
-/// "Showing writes the fact words for moments 0 to the present one to a buffer of the filler's least length, refused and
-/// answered like the filler's"; "from 4,096 up to that it gives 12, right after the job's checks and before 14".
+/// "Showing writes the fact words for moments 0 to the present one to a buffer of the filler's least length, refused
+/// and answered like the filler's"; "from 4,096 up to that it gives 12, right after the job's checks and before 14".
 pub fn show(job: &[u32], trial: &[u32], length: usize) -> Result<Vec<u32>, Refusal> {
     lent_buffer(length)?;
     let job = read_job(job)?;
@@ -66,8 +68,8 @@ fn read_trial(job: &[u32], trial: &[u32]) -> Result<Trial, Refusal> {
     trial_of(read_job(job)?, trial)
 }
 
-/// "14, or the number that the check gives its starts"; "a refusal of the job keeps its position, any other refusal here has
-/// position 0".
+/// "14, or the number that the check gives its starts"; "a refusal of the job keeps its position, any other refusal
+/// here has position 0".
 fn trial_of(job: Job, trial: &[u32]) -> Result<Trial, Refusal> {
     let (moment, words) = taken_apart(trial, job.last)?;
     let plan = plan_of(job, &words).map_err(|of_starts| Refusal { position: 0, ..of_starts })?;
@@ -98,8 +100,8 @@ fn long_enough(trial: &[u32]) -> Result<(), Refusal> {
     }
 }
 
-/// "A start is tested for 6 (no such action), 7, 8, 9, 10 in that order"; 15 is "after 9 and before 10", 16 "after 15 and
-/// before 10": "a new start is counted with all in hand, whatever their action numbers".
+/// "A start is tested for 6 (no such action), 7, 8, 9, 10 in that order"; 15 is "after 9 and before 10", 16 "after 15
+/// and before 10": "a new start is counted with all in hand, whatever their action numbers".
 fn new_start(plan: &Plan, moment: usize, action: usize) -> Result<(), Refusal> {
     let job = &plan.job;
     if action >= job.actions.len() {
