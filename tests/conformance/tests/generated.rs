@@ -114,3 +114,12 @@ fn has_held_and_in_hand_with_others() {
     generated(&[has_held::FEATURE, shift_windows::FEATURE, wide::FEATURE], SEED, 500).assert(&[]);
     generated(&[in_hand::FEATURE, groups::FEATURE, wide::FEATURE], SEED, 500).assert(&[]);
 }
+
+#[test]
+fn all_together() {
+    let procedures = [readings::FEATURE, task_sets::FEATURE, quiet_pause::FEATURE, has_held::FEATURE];
+    let limits = [shift_windows::FEATURE, groups::FEATURE, wide::FEATURE];
+    let together: Vec<Feature> = procedures.into_iter().chain(limits).collect();
+    generated(&together, SEED, 300).assert(&[]);
+    stepped(&together, SEED, 50).assert(&[]);
+}
