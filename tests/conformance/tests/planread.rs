@@ -79,7 +79,7 @@ fn empty_files_and_files_of_32_kib_are_good() {
 fn listed_finds_are_printed() {
     let mut printed = 0;
     for entry in listing::all() {
-        let Call::Find { job, starts, facts, buffer } = &entry.call else { continue };
+        let Call::Find { job, starts, facts, buffer, .. } = &entry.call else { continue };
         let plan = [&starts[..], facts].concat();
         if buffer.len() >= 4_096 && job.len() <= 8_192 && plan.len() <= 8_192 {
             agree(job, &plan, &entry.why);
