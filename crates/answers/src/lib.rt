@@ -1,4 +1,6 @@
 // The answer of a call: rows of refusals one after the other, and the 64-bit number by which the host in C gets it.
+#![tactic(auto)]
+
 ghost use Rattle.std.specs.Prelude.{◌≡◌};
 ghost use Rattle.answers.specs.Rows.{refusal, passed, row, first_refusal};
 ghost use Rattle.answers.specs.Packed.{answer_of, packed, fields};

@@ -1,4 +1,6 @@
 // What one new start in a trial is tested for. Planning calls an action applicable in a state where it may start.
+#![tactic(auto)]
+
 ghost use Rattle.std.specs.Prelude.{◌≡◌, ◌<◌, ◌≤◌, length};
 ghost use Rattle.words.specs.Fields.{start_action, start_word};
 ghost use Rattle.words.specs.Scan.{any};

@@ -1,1 +1,2 @@
 // The proved cases: jobs, plans and answers as data, and their law.
+#![tactic(auto)]

@@ -1,4 +1,6 @@
 // The ends of a set whose members' begins are fixed, by the masks of the members' ends, with no search.
+#![tactic(auto)]
+
 ghost use Rattle.std.specs.Prelude.{◌≡◌, true, ◌↔◌, ℕ, ◌<◌, ◌≤◌};
 ghost use Rattle.bitset.specs.Code.Members.{In};
 ghost use Rattle.covering.specs.Code.Cover.{Some, Needed, Coverable, CoverReady, entry_at};

@@ -1,5 +1,7 @@
 // The ends of a set whose members are all placed: ends (those that the conditions leave to each member), and here what a search has found, and
 // what such a set adds to it.
+#![tactic(auto)]
+
 ghost use Rattle.std.specs.Prelude.{List, ℕ, ◌<◌, ◌≤◌};
 ghost use Rattle.bitset.specs.Code.Members.{In};
 ghost use Rattle.covering.specs.Code.Cover.{entry_at};

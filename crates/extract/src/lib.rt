@@ -1,5 +1,7 @@
 // Writing out a reading that the table says there is, into a buffer that the caller lends: search (the moments of two parts), parts (the
 // parts of a node), write (the words, node by node).
+#![tactic(auto)]
+
 ghost use Rattle.std.specs.Prelude.{List, ℕ, length};
 ghost use Rattle.model.specs.Code.Arrays.{procedure_at, trajectory_at};
 ghost use Rattle.extract.specs.Code.Contract.{Emittable, Emitted};

@@ -1,4 +1,6 @@
 // Finding a reading of a job's procedure in a plan.
+#![tactic(auto)]
+
 ghost use Rattle.std.specs.Prelude.{◌≤◌, length};
 ghost use Rattle.answers.specs.Packed.{length_of};
 ghost use Rattle.answers.specs.Code.Packed.{InRange};

@@ -1,4 +1,6 @@
 // The values of all formulas at all moments, as a table, by the history of a plan.
+#![tactic(auto)]
+
 ghost use Rattle.std.specs.Prelude.{List, ◌≡◌, ℕ, ◌+◌, ◌*◌, ◌<◌, ◌≤◌};
 ghost use Rattle.history.specs.Values.{value_at};
 ghost use Rattle.history.specs.Code.Tables.{History};

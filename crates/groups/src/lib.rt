@@ -1,4 +1,6 @@
 // Row 16: groups that exceed their limit.
+#![tactic(auto)]
+
 ghost use Rattle.std.specs.Prelude.{true, not, ◌≡◌, ℕ, ◌<◌, ◌≤◌, eqb, length, get_or, take};
 ghost use Rattle.words.specs.Fields.{kind, group_number};
 ghost use Rattle.words.specs.Scan.{any_below};

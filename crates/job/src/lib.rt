@@ -1,4 +1,6 @@
 // The job format: `check_job` gives the refusal that the document gives, and an index of the words of a job that passes.
+#![tactic(auto)]
+
 ghost use Rattle.std.specs.Prelude.{◌≡◌};
 ghost use Rattle.job.specs.Refusal.{job_refusal};
 ghost use Rattle.job.specs.Code.Index.{checked_of};

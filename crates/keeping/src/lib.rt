@@ -1,4 +1,6 @@
 // The entries of a task set's tables by pairs of members, and what one member keeps where another begins.
+#![tactic(auto)]
+
 ghost use Rattle.std.specs.Prelude.{◌≡◌, ℕ, ◌+◌, ◌*◌, ◌<◌, ◌≤◌, get_or};
 ghost use Rattle.bitset.specs.Code.Members.{In};
 ghost use Rattle.keeping.specs.Code.Tables.{pair_at};

@@ -1,1 +1,2 @@
 // How long a reading can be: definitions and laws.
+#![tactic(auto)]

@@ -1,5 +1,7 @@
 // What passes from the theory to the reading layer: a procedure and a trajectory as arrays, a triple of a node and two moments, and how
 // many words of a task set follow its node's own.
+#![tactic(auto)]
+
 ghost use Rattle.std.specs.Prelude.{◌<◌, length};
 ghost use Rattle.model.specs.Code.Arrays.{SetWords};
 

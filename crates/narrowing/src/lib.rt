@@ -1,5 +1,7 @@
 // Open sets: the begins and ends that each member of a set may still have, and what is left of them as one member is placed; bounds (on begins,
 // by the ends of others).
+#![tactic(auto)]
+
 ghost use Rattle.std.specs.Prelude.{◌≡◌, ◌↔◌, ◌⊎◌, not, ◌&&◌, List, ℕ, ◌<◌, ◌≤◌, eqb};
 ghost use Rattle.bitset.specs.Code.Members.{has, In, IsSetOf};
 ghost use Rattle.narrowing.specs.Code.Tables.{InTables, BoundsHave};

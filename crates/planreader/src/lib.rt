@@ -1,4 +1,6 @@
 // The calls of the host in C. Each answers one 64-bit number: refusal number, position, length and count.
+#![tactic(auto)]
+
 ghost use Rattle.std.specs.Prelude.{◌≡◌, length};
 ghost use Rattle.answers.specs.Packed.{packed, Unpacked};
 ghost use Rattle.facts.specs.Facts.{facts_of};

@@ -1,4 +1,6 @@
 // Row 15: starts outside the shift windows of their action.
+#![tactic(auto)]
+
 ghost use Rattle.std.specs.Prelude.{not, ◌||◌, ◌≡◌, ◌<◌, length, get_or};
 ghost use Rattle.answers.specs.Rows.{first_of};
 ghost use Rattle.bitset.specs.Code.Members.{has, IsSetOf};

@@ -1,5 +1,7 @@
 // The rows on starts, 6 to 10, of a well_formed job; the crates `shifts` and `groups` have the code of rows 15 and 16. Each row's function
 // returns its number at the first word that it fits.
+#![tactic(auto)]
+
 ghost use Rattle.std.specs.Prelude.{◌≡◌, length};
 ghost use Rattle.starts.specs.Rows.{rows_refusal};
 ghost use Rattle.starts.specs.Code.Given.{time_rows, Tabled};

@@ -1,4 +1,6 @@
 // The theory layer's calls, on any lists of words: check and fill.
+#![tactic(auto)]
+
 ghost use Rattle.std.specs.Prelude.{List, ◌≡◌, ℕ, ◌≤◌, length, drop};
 ghost use Rattle.answers.specs.Rows.{first_refusal};
 ghost use Rattle.job.specs.Parts.{head_word};

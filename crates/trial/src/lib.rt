@@ -1,4 +1,6 @@
 // A trial by value: a plan stepped by hand. A move takes the trial and hands it back, with its refusal beside it.
+#![tactic(auto)]
+
 ghost use Rattle.std.specs.Prelude.{◌≡◌, ◌<◌, ltb, length, take};
 ghost use Rattle.words.specs.Fields.{start_moment};
 ghost use Rattle.words.specs.Lists.{Pairs};

@@ -1,4 +1,6 @@
 // The fields of the words, each read here alone, by the definitions of specs/Fields.antt; the kinds and the values by name.
+#![tactic(auto)]
+
 ghost use Rattle.std.specs.Prelude.{cond, ◌≡◌, ◌<◌, ◌≤◌, length, drop};
 ghost use Rattle.words.specs.Fields.{kind, of_kind, form, spare, head_shape, wide, most_fluents, fact_room, action_number, action_spare, is_set, member_spare, start_spare, fluents_of, actions_of, last_of, fluent_of, known_spare, law_spare, known_value, duration_of, role_of, makes, made_value, formula_x, formula_y, atom_fluent, atom_spare, node_x, node_y, node_m, node_n, member_node, condition_formula, condition_i, condition_j, condition_m, condition_n, start_moment, start_action, start_word, fact_word, reading_word, shift_window_spare, shift_window_action, shift_window_from, shift_window_to, group_spare, group_number, group_limit, group_action};
 ghost use Rattle.words.specs.Scan.{take_while};
