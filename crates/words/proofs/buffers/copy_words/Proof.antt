@@ -15,30 +15,28 @@ record Copied (list : List ℕ) (at : ℕ) (old : List ℕ) (i : ℕ) (buffer : 
   pub held : buffer ≡ sets old at (take i list)
   pub size : length buffer ≡ length old
 
-abbrev invariant-loop : tie.invariant-loop
+abbrev invariant-loop : tie.invariant-loop-i
 invariant-loop list at buffer₀ i₀ buffer i = Copied list at buffer₀ i buffer
 
-abbrev decreases-loop : tie.decreases-loop
+abbrev decreases-loop : tie.decreases-loop-i
 decreases-loop list at buffer₀ i₀ buffer i = length list - i
 
-loop-again : tie.Need-loop-preserved invariant-loop decreases-loop
+loop-again : tie.Need-loop-i-preserved invariant-loop decreases-loop
 loop-again c =
     let turn = c.before.before in
     let a = turn.before.args in
     record {
       inside = omega arith;
-      held = rw turn.loop.invariant.held (sets_more a.buffer.now a.list.now a.at turn.loop.i (omega arith));
-      size = simp length-set turn.loop.invariant.size;
+      held = rw turn.loop-i.invariant.held (sets_more a.buffer.now a.list.now a.at turn.loop-i.i (omega arith));
+      size = simp length-set turn.loop-i.invariant.size;
     }
 
 returns : tie.Need-returns invariant-loop decreases-loop
 returns c =
-    let e : c.before.loop.i ≡ length c.before.before.args.list.now = omega (arith, c.before.loop.invariant.inside) in
-    c.before.loop.invariant.held ∙ rw (e, take-length)
+    let e : c.before.loop-i.i ≡ length c.before.before.args.list.now = omega (arith, c.before.loop-i.invariant.inside) in
+    c.before.loop-i.invariant.held ∙ rw (e, take-length)
 
-pub copy-words-spec : {M : Type 1} → statement M
-copy-words-spec =
+pub copy_words_spec : {M : Type 1} → statement M
+copy_words_spec =
     tie.close
-    (tie.spec invariant-loop decreases-loop (λ c. record { inside = omega arith; held = refl; size = refl }) (λ c. search rules) (λ c. search rules)
-    (λ c. search rules) (λ c. search rules) (λ c. search rules) (λ c. search rules) (λ c. search rules) loop-again
-    (λ c. c.before.loop.invariant.size) returns)
+    (tie.spec invariant-loop decreases-loop (λ c. record { inside = omega arith; held = refl; size = refl }) (λ c. search rules) (λ c. search rules) (λ c. search rules) (λ c. search rules) (λ c. search rules) (λ c. search rules) (λ c. search rules) loop-again (λ c. c.before.loop-i.invariant.size) returns)

@@ -21,10 +21,10 @@ record Above (list : List ℕ) (w i : ℕ) : Type 0 where
   inside : i ≤ length list
   above : (k : ℕ) → i ≤ k → k < length list → w < get_or list k 0
 
-abbrev invariant-loop : tie.invariant-loop
+abbrev invariant-loop : tie.invariant-loop-i
 invariant-loop list w i₀ i = Above list w i
 
-abbrev decreases-loop : tie.decreases-loop
+abbrev decreases-loop : tie.decreases-loop-i
 decreases-loop list w i₀ i = i
 
 -- the words before a position whose last one is not above w are not either
@@ -37,31 +37,30 @@ placed {list} {w} {i} ascends a last =
         by_cases (dec_lt k (i - 1)) (λ m. omega (arith, pairs-at ascends (i - 1) k m (omega (arith, a.inside)), last (omega arith)))
         (λ m. let same : k ≡ i - 1 = omega arith in rw same (last (omega arith)))
 
-returns : tie.Need-returns invariant-loop decreases-loop
+returns : tie.Need-returns-then-list-i invariant-loop decreases-loop
 returns c =
     let head = c.before.before.before in
-    (placed head.before.requires head.loop.invariant (λ l. c.if1.true), head.loop.invariant.inside)
+    (placed head.before.requires head.loop-i.invariant (λ l. c.if-list-i.true), head.loop-i.invariant.inside)
 
-loop-again : tie.Need-loop-preserved invariant-loop decreases-loop
+loop-again : tie.Need-loop-i-preserved invariant-loop decreases-loop
 loop-again c =
     let head = c.before.before.before in
-    let old = head.loop.invariant in
+    let old = head.loop-i.invariant in
     let list = head.before.args.list.now in
     let w = head.before.args.w in
-    let i = head.loop.i in
-    let next : w < get_or list (i - 1) 0 = omega (arith, c.if1.false) in
+    let i = head.loop-i.i in
+    let next : w < get_or list (i - 1) 0 = omega (arith, c.if-list-i.false) in
     record {
       inside = omega (arith, old.inside);
       above = λ k l m. by_cases (dec_lt k i) (λ n. let same : k ≡ i - 1 = omega arith in rw same next) (λ n. old.above k (omega arith) m);
     }
 
-returns-2 : tie.Need-returns-2 invariant-loop decreases-loop
+returns-2 : tie.Need-returns invariant-loop decreases-loop
 returns-2 c =
     let head = c.before in
-    (placed head.before.requires head.loop.invariant (λ l. absurd (omega arith)), head.loop.invariant.inside)
+    (placed head.before.requires head.loop-i.invariant (λ l. absurd (omega arith)), head.loop-i.invariant.inside)
 
-pub place-of-spec : {M : Type 1} → statement M
-place-of-spec =
+pub place_of_spec : {M : Type 1} → statement M
+place_of_spec =
     tie.close
-    (tie.spec invariant-loop decreases-loop (λ c. record { inside = omega arith; above = λ k l m. absurd (omega arith) }) (λ c. search rules) (λ c. omega (arith, c.before.loop.invariant.inside, c.before.before.well-formed))
-    (λ c. omega (arith, c.before.before.loop.invariant.inside)) returns (λ c. search rules) (λ c. search rules) loop-again returns-2)
+    (tie.spec invariant-loop decreases-loop (λ c. record { inside = omega arith; above = λ k l m. absurd (omega arith) }) (λ c. search rules) (λ c. omega (arith, c.before.loop-i.invariant.inside, c.before.before.well_formed)) (λ c. omega (arith, c.before.before.loop-i.invariant.inside)) returns (λ c. search rules) (λ c. search rules) loop-again returns-2)
