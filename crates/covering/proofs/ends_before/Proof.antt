@@ -10,24 +10,23 @@ use borrow.Author.Rules.{rules}
 use Rattle.covering.proofs.ends_before.Statement.{statement}
 use Rattle.covering.proofs.ends_before.Tie as tie
 
-abbrev invariant-loop : tie.invariant-loop
+abbrev invariant-loop : tie.invariant-loop-i
 invariant-loop count x begins ends r₀ i₀ r i =
     (i ≤ count) × ((e : ℕ) → In r e ↔ Some i (λ j. (entry_at begins j < x) × (In (entry_at ends j) e)))
 
-abbrev decreases-loop : tie.decreases-loop
+abbrev decreases-loop : tie.decreases-loop-i
 decreases-loop count x begins ends r₀ i₀ r i = count - i
 
-loop-again : tie.Need-loop-preserved invariant-loop decreases-loop
-loop-again c = (omega arith, in_more (λ e. ⊎_elim (λ w. rw w.2 (gain_yes w.0.taken (in_union w.1.ensures e))) (λ w. rw w.1 (gain_no (λ l. let z = w.0.left in omega arith))) c.if1.branch) (λ e. some_more _) c.before.before.loop.invariant.1)
+loop-again : tie.Need-loop-i-preserved invariant-loop decreases-loop
+loop-again c = (omega arith, in_more (λ e. ⊎_elim (λ w. rw w.2 (gain_yes w.0.taken (in_union w.1.ensures e))) (λ w. rw w.1 (gain_no (λ l. let z = w.0.left in omega arith))) c.if-begins-i.branch) (λ e. some_more _) c.before.before.loop-i.invariant.1)
 
 returns : tie.Need-returns invariant-loop decreases-loop
-returns c = let l = c.before.loop in λ e. (
+returns c = let l = c.before.loop-i in λ e. (
   λ t. let s = (l.invariant.1 e).0 t in record { at = s.at; below = omega (arith, s.below); is = s.is },
   λ s. (l.invariant.1 e).1 (record { at = s.at; below = omega (arith, s.below); is = s.is }),
 )
 
-pub ends-before-spec : {M : Type 1} → statement M
-ends-before-spec =
+pub ends_before_spec : {M : Type 1} → statement M
+ends_before_spec =
     tie.close
-    (tie.spec invariant-loop decreases-loop (λ c. (omega arith, in_none (λ e. some_none))) (λ c. search rules) (λ c. search rules) (λ c. search rules)
-    (λ c. search rules) (λ c κs. search rules) (λ c. search rules) (λ c. search rules) loop-again returns)
+    (tie.spec invariant-loop decreases-loop (λ c. (omega arith, in_none (λ e. some_none))) (λ c. search rules) (λ c. search rules) (λ c. search rules) (λ c. search rules) (λ c κs. search rules) (λ c. search rules) (λ c. search rules) loop-again returns)
