@@ -9,10 +9,10 @@ use borrow.Author.Rules.{rules}
 use Rattle.bitset.proofs.from_lowest.Statement.{statement}
 use Rattle.bitset.proofs.from_lowest.Tie as tie
 
-returns : tie.Need-returns
-returns c = in_none (λ k h. in_zero c.if1.true h.in_x)
+returns : tie.Need-returns-then-x-eq0
+returns c = in_none (λ k h. in_zero c.if-x-eq0.true h.in_x)
 
-returns-2 : tie.Need-returns-2
+returns-2 : tie.Need-returns
 returns-2 c k =
     let l = c.before.lowest in
     let w = in_from c.from.ensures k in (
@@ -20,5 +20,5 @@ returns-2 c k =
       λ h. let g = lowest_le l.ensures h.in_x.yes in w.1 (omega (arith, h.from), h.below),
     )
 
-pub from-lowest-spec : {M : Type 1} → statement M
-from-lowest-spec = tie.close (tie.spec returns (λ c κs. search rules) (λ c κs. search rules) returns-2)
+pub from_lowest_spec : {M : Type 1} → statement M
+from_lowest_spec = tie.close (tie.spec returns (λ c κs. search rules) (λ c κs. search rules) returns-2)

@@ -3,5 +3,5 @@ use Rattle.bitset.proofs.Digits.{has-minus}
 use Rattle.bitset.proofs.minus.Statement.{statement}
 use Rattle.bitset.proofs.minus.Tie as tie
 
-pub minus-spec : {M : Type 1} → statement M
-minus-spec = tie.close (tie.spec (λ c. has-minus c.args.x c.args.y))
+pub minus_spec : {M : Type 1} → statement M
+minus_spec = tie.close (tie.spec (λ c. has-minus c.args.x c.args.y))

@@ -10,16 +10,15 @@ use Rattle.model.proofs.set_counts.Statement.{statement}
 use Rattle.model.proofs.set_counts.Tie as tie
 
 -- the members are there
-members-inside : (c : tie.After-run-length) → c.before.before.args.place + 1 + c.run_length.result ≤ length c.before.before.args.words.now
-members-inside c = let s = c.before.before in run_inside (of_kind 7) s.args.words.now (s.args.place + 1) c.run_length.result c.run_length.ensures (omega (arith, s.requires))
+members-inside : (c : tie.After-run_length-members) → c.before.before.args.place + 1 + c.run_length-members.result ≤ length c.before.before.args.words.now
+members-inside c = let s = c.before.before in run_inside (of_kind 7) s.args.words.now (s.args.place + 1) c.run_length-members.result c.run_length-members.ensures (omega (arith, s.requires))
 
 returns : tie.Need-returns
 returns c =
     let s = c.before.before.before in
-    set_words s.args.words.now s.args.place c.before.run_length.result c.run-length2.result s.requires c.before.run_length.ensures c.run-length2.ensures
+    set_words s.args.words.now s.args.place c.before.run_length-members.result c.run_length-conditions.result s.requires c.before.run_length-members.ensures c.run_length-conditions.ensures
 
-pub set-counts-spec : {M : Type 1} → statement M
-set-counts-spec =
+pub set_counts_spec : {M : Type 1} → statement M
+set_counts_spec =
     tie.close
-    (tie.spec (λ c. search rules) (λ c κs. search rules) (λ c. omega (arith, members-inside c, c.before.before.well-formed)) (λ c κs. members-inside c)
-    returns)
+    (tie.spec (λ c. search rules) (λ c κs. search rules) (λ c. omega (arith, members-inside c, c.before.before.well_formed)) (λ c κs. members-inside c) returns)
