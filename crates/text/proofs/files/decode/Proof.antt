@@ -15,16 +15,16 @@ record Copied (bytes old out : List ℕ) (n i : ℕ) : Type 0 where
   pub same : length out ≡ length old
   pub front : out ≡ over old i (words_of bytes)
 
-abbrev invariant-loop : tie.invariant-loop
+abbrev invariant-loop : tie.invariant-loop-i
 invariant-loop bytes out₀ n i₀ out i = Copied bytes out₀ out n i
 
-abbrev decreases-loop : tie.decreases-loop
+abbrev decreases-loop : tie.decreases-loop-i
 decreases-loop bytes out₀ n i₀ out i = n - i
 
-abbrev entry : tie.At-loop invariant-loop decreases-loop → tie.Start invariant-loop decreases-loop
+abbrev entry : tie.At-loop-i invariant-loop decreases-loop → tie.Start invariant-loop decreases-loop
 entry c = c.before.before.before
 
-loop-again : tie.Need-loop-preserved invariant-loop decreases-loop
+loop-again : tie.Need-loop-i-preserved invariant-loop decreases-loop
 loop-again c =
     let turn = c.before.before in
     let bytes = (entry turn).args.bytes.now in
@@ -32,17 +32,16 @@ loop-again c =
       count = refl;
       most = omega arith;
       same = simp length-set (omega arith);
-      front = over_more _ _ _ _ _ turn.loop.invariant.front (c.word_at.ensures ∙ sym (word_at bytes turn.loop.i (omega arith))) (omega arith) (omega (arith, length-words bytes));
+      front = over_more _ _ _ _ _ turn.loop-i.invariant.front (c.word_at.ensures ∙ sym (word_at bytes turn.loop-i.i (omega arith))) (omega arith) (omega (arith, length-words bytes));
     }
 
 returns : tie.Need-returns invariant-loop decreases-loop
 returns c =
-    let inv = c.before.loop.invariant in
+    let inv = c.before.loop-i.invariant in
     let start = entry c.before in
-    decoded start.args.bytes.now _ _ c.before.loop.i inv.front (omega arith) inv.same start.pre
+    decoded start.args.bytes.now _ _ c.before.loop-i.i inv.front (omega arith) inv.same start.requires
 
-pub decode-spec : {M : Type 1} → statement M
-decode-spec =
+pub decode_spec : {M : Type 1} → statement M
+decode_spec =
     tie.close
-    (tie.spec invariant-loop decreases-loop (λ c. record { count = refl; most = omega arith; same = refl; front = refl }) (λ c. omega arith) (λ c κs. omega arith)
-    (λ c. omega arith) (λ c. omega arith) (λ c. omega arith) (λ c. omega arith) loop-again (λ c. c.before.loop.invariant.same) returns)
+    (tie.spec invariant-loop decreases-loop (λ c. record { count = refl; most = omega arith; same = refl; front = refl }) (λ c. omega arith) (λ c κs. omega arith) (λ c. omega arith) (λ c. omega arith) (λ c. omega arith) (λ c. omega arith) loop-again (λ c. c.before.loop-i.invariant.same) returns)

@@ -14,24 +14,21 @@ record Copied (old : List ℕ) (start : ℕ) (text out : List ℕ) (i : ℕ) : T
   pub same : length out ≡ length old
   pub front : out ≡ paste old start text i
 
-abbrev invariant-loop : tie.invariant-loop
+abbrev invariant-loop : tie.invariant-loop-i
 invariant-loop out₀ at text i₀ out i = Copied out₀ at text out i
 
-abbrev decreases-loop : tie.decreases-loop
+abbrev decreases-loop : tie.decreases-loop-i
 decreases-loop out₀ at text i₀ out i = length text - i
 
-loop-again : tie.Need-loop-preserved invariant-loop decreases-loop
+loop-again : tie.Need-loop-i-preserved invariant-loop decreases-loop
 loop-again c =
     record {
       most = omega arith;
       same = simp length-set (omega arith);
-      front = paste_more _ _ _ _ _ c.before.before.loop.invariant.front (omega arith) (omega arith);
+      front = paste_more _ _ _ _ _ c.before.before.loop-i.invariant.front (omega arith) (omega arith);
     }
 
-pub append-spec : {M : Type 1} → statement M
-append-spec =
+pub append_spec : {M : Type 1} → statement M
+append_spec =
     tie.close
-    (tie.spec invariant-loop decreases-loop
-    (λ c. record { most = omega arith; same = refl; front = paste-zero c.args.out.now c.args.at c.args.text.now }) (λ c. omega arith)
-    (λ c. omega arith) (λ c. omega arith) (λ c. omega arith) (λ c. omega arith) loop-again (λ c. omega arith) (λ c. c.before.loop.invariant.same)
-    (λ c. pasted _ _ _ _ c.before.loop.i c.before.before.requires (omega arith) c.before.loop.invariant.front))
+    (tie.spec invariant-loop decreases-loop (λ c. record { most = omega arith; same = refl; front = paste-zero c.args.out.now c.args.at c.args.text.now }) (λ c. omega arith) (λ c. omega arith) (λ c. omega arith) (λ c. omega arith) (λ c. omega arith) loop-again (λ c. omega arith) (λ c. c.before.loop-i.invariant.same) (λ c. pasted _ _ _ _ c.before.loop-i.i c.before.before.requires (omega arith) c.before.loop-i.invariant.front))
