@@ -47,13 +47,13 @@ const POSITION_UNIT: u64 = 1 << 40;
 const LENGTH_UNIT: u64 = 1 << 24;
 
 // A refusal's number and position; 0 and 0 for none.
-#[derive(Drop)]
+#[derive(Clone, Copy)]
 pub struct Refusal {
     pub number: u32,
     pub position: usize,
 }
 
-#[derive(Drop)]
+#[derive(Clone, Copy)]
 pub enum Answer {
     // `length` words were written to the lent buffer.
     Accepted {

@@ -1,5 +1,5 @@
 -- Laws of the two sets of nodes that are named: one name more, and which nodes are named exactly once. Assumes nothing.
-use mathlib.Core.Bool.{Bool, true, false, not, cond, ◌&&◌, ◌||◌, or-true, or_false, and-false}
+use mathlib.Core.Bool.{Bool, true, false, not, cond, ◌&&◌, ◌||◌, or-true, or-false, and-false}
 use mathlib.Core.List.{List}
 use mathlib.Core.Path.{◌≡◌, refl, ap, ◌∙◌}
 use Prim.Native.Nat.{ℕ, zero, suc, ◌+◌}
@@ -19,11 +19,11 @@ named-same h e = record { named = λ v. h.named v ∙ ap (leb 1) (e v); again = 
 
 -- one name more, if t
 pub named_more : (n : ℕ) (t : Bool) → (leb 1 n || t) ≡ leb 1 (n + indicator t)
-named_more n false = let e : n + 0 ≡ n = omega arith in rw (e, or_false (leb 1 n))
+named_more n false = let e : n + 0 ≡ n = omega arith in rw (e, or-false (leb 1 n))
 named_more n true = rw (or-true (leb 1 n), le-leb 1 (n + 1) (omega arith))
 
 pub again_more : (n : ℕ) (t : Bool) → (leb 2 n || (leb 1 n && t)) ≡ leb 2 (n + indicator t)
-again_more n false = let e : n + 0 ≡ n = omega arith in rw (e, and-false (leb 1 n), or_false (leb 2 n))
+again_more n false = let e : n + 0 ≡ n = omega arith in rw (e, and-false (leb 1 n), or-false (leb 2 n))
 again_more zero true = refl
 again_more (suc zero) true = refl
 again_more (suc (suc n)) true = rw (le-leb 2 (suc (suc n)) (omega arith), le-leb 2 (suc (suc n) + 1) (omega arith))

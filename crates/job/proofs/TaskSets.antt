@@ -1,6 +1,6 @@
 -- The task sets of a job that is not refused: members and conditions stand after their set, as many and such as the rules allow.
 -- Assumes nothing.
-use mathlib.Core.Bool.{Bool, true, false, ◌&&◌, ◌||◌, true≢false, or_false}
+use mathlib.Core.Bool.{Bool, true, false, ◌&&◌, ◌||◌, true≢false, or-false}
 use mathlib.Core.List.{List}
 use mathlib.Core.Logic.{by_cases}
 use mathlib.Core.Path.{◌≡◌, refl, sym, ◌∙◌}
@@ -72,7 +72,7 @@ second w n s r some = cases (leb (form w) 1) (eqb (form w) 4) refl refl
     cases true b e f = ltb-true (condition_j w) n (rw e at r)
     cases false true e f = ltb-true (condition_j w) n (rw (e, f) at r)
     cases false false e f =
-        let z = eqb-true (condition_j w) 0 (both_true (within 2 3 (form w)) (spare w 14 12) (sym (or_false (within 2 3 (form w) && spare w 14 12)) ∙ rw (e, f) at s)).1 in
+        let z = eqb-true (condition_j w) 0 (both_true (within 2 3 (form w)) (spare w 14 12) (sym (or-false (within 2 3 (form w) && spare w 14 12)) ∙ rw (e, f) at s)).1 in
         omega arith
 
 module _ (job : List ℕ) (ok : (job_refusal job).number ≡ 0) {p at : ℕ} (node : IsWord job 6 p at) (set : form (get_or job at 0) ≡ 8) where

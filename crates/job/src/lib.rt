@@ -33,20 +33,20 @@ pub const LAST_MOMENT: usize = MOMENTS - 1;
 pub const MAX_PLACES: usize = 64;
 
 // How many words of one kind there are, and where each stands.
-#[derive(Drop)]
+#[derive(Clone, Copy)]
 pub struct Places {
     pub total: usize,
     pub position: [usize; MAX_PLACES],
 }
 
-#[derive(Drop)]
+#[derive(Clone, Copy)]
 pub struct Index {
     pub actions: Places,
     pub formulas: Places,
     pub nodes: Places,
 }
 
-#[derive(Drop)]
+#[derive(Clone, Copy)]
 pub struct Checked {
     pub refusal: Refusal,
     pub index: Index,
@@ -54,7 +54,7 @@ pub struct Checked {
 
 // What the scan keeps of the words before the position that it stands at: how many actions, formulas and nodes they declare, how many
 // members and conditions follow the last node, that node's word, the set of the declared groups, and the nodes named as children.
-#[derive(Drop)]
+#[derive(Clone, Copy)]
 pub struct State {
     pub actions: usize,
     pub formulas: usize,
@@ -66,7 +66,7 @@ pub struct State {
     pub names: Names,
 }
 
-#[derive(Drop)]
+#[derive(Clone, Copy)]
 pub struct Scanned {
     pub refusal: Refusal,
     pub state: State,

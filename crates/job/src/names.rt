@@ -9,7 +9,7 @@ use words::forms::{CHOICE, END_WINDOW, IF, SEQUENCE, START_WINDOW, WHILE};
 use words::{MEMBER, NODE};
 
 // The nodes that are named, and those that are named more than once.
-#[derive(Drop)]
+#[derive(Clone, Copy)]
 pub struct Names {
     pub named: u64,
     pub again: u64,

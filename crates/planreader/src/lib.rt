@@ -1,4 +1,4 @@
-// The calls of the host in C. Each answers one 64-bit number: refusal number, position, length and count.
+// The calls of the library, which crate planreader_c hands to C. Each answers one 64-bit number: refusal number, position, length and count.
 #![tactic(auto)]
 
 ghost use Rattle.std.specs.Prelude.{◌≡◌, length};
@@ -13,16 +13,14 @@ use answers::pack;
 use finder::find_reading;
 use theory::{check_plan, fill_plan};
 
-#[unsafe(no_mangle)]
-pub extern "C" fn check(job: &[u32], starts: &[u32], facts: &[u32]) -> u64
+pub fn check(job: &[u32], starts: &[u32], facts: &[u32]) -> u64
     ensures answer { result ≡ packed (check_answer job.now starts.now facts.now) }
     ensures fields { Unpacked result (check_answer job.now starts.now facts.now) }
 {
     pack(check_plan(job, starts, facts))
 }
 
-#[unsafe(no_mangle)]
-pub extern "C" fn fill(job: &[u32], starts: &[u32], buffer: &mut [u32]) -> u64
+pub fn fill(job: &[u32], starts: &[u32], buffer: &mut [u32]) -> u64
     ensures answer { result ≡ packed (fill_answer (length buffer.old) job.now starts.now) }
     ensures fields { Unpacked result (fill_answer (length buffer.old) job.now starts.now) }
     ensures words { buffer.new ≡ written (fill_answer (length buffer.old) job.now starts.now) (facts_of job.now starts.now) buffer.old }
@@ -30,8 +28,7 @@ pub extern "C" fn fill(job: &[u32], starts: &[u32], buffer: &mut [u32]) -> u64
     pack(fill_plan(job, starts, buffer))
 }
 
-#[unsafe(no_mangle)]
-pub extern "C" fn find(job: &[u32], starts: &[u32], facts: &[u32], buffer: &mut [u32]) -> u64
+pub fn find(job: &[u32], starts: &[u32], facts: &[u32], buffer: &mut [u32]) -> u64
     ensures { Promised job.now starts.now facts.now buffer.old result buffer.new }
 {
     pack(find_reading(job, starts, facts, buffer))

@@ -3,21 +3,21 @@ use Rattle.job.specs.Rules.{word_refusal_of}
 use Rattle.job.proofs.rules.word_refusal_of.Statement.{statement}
 use Rattle.job.proofs.rules.word_refusal_of.Tie as tie
 
-returns : tie.Need-returns
+returns : tie.Need-returns-then-fresh
 unfolding word_refusal_of
-returns c = rw (c.before.before.if1.true, c.before.if2.true, c.if3.true)
+returns c = rw (c.before.before.if-shape.true, c.before.if-range.true, c.if-fresh.true)
 
-returns-2 : tie.Need-returns-2
+returns-2 : tie.Need-returns-else-fresh
 unfolding word_refusal_of
-returns-2 c = rw (c.before.before.if1.true, c.before.if2.true, c.if3.false)
+returns-2 c = rw (c.before.before.if-shape.true, c.before.if-range.true, c.if-fresh.false)
 
-returns-3 : tie.Need-returns-3
+returns-3 : tie.Need-returns-else-range
 unfolding word_refusal_of
-returns-3 c = rw (c.before.if1.true, c.if2.false)
+returns-3 c = rw (c.before.if-shape.true, c.if-range.false)
 
-returns-4 : tie.Need-returns-4
+returns-4 : tie.Need-returns-else-shape
 unfolding word_refusal_of
-returns-4 c = rw c.if1.false
+returns-4 c = rw c.if-shape.false
 
-pub word-refusal-of-spec : {M : Type 1} → statement M
-word-refusal-of-spec = tie.close (tie.spec returns returns-2 returns-3 returns-4)
+pub word_refusal_of_spec : {M : Type 1} → statement M
+word_refusal_of_spec = tie.close (tie.spec returns returns-2 returns-3 returns-4)

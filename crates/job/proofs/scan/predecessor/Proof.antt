@@ -8,21 +8,20 @@ use Rattle.job.proofs.Before.{before-less}
 use Rattle.job.proofs.scan.predecessor.Statement.{statement}
 use Rattle.job.proofs.scan.predecessor.Tie as tie
 
-abbrev entry : tie.After-pick-word → tie.Start
+abbrev entry : tie.After-pick_word → tie.Start
 entry c = c.before.before.before.before.before.before
 
-returns : tie.Need-returns
+returns : tie.Need-returns-then-i-eq0
 unfolding before predecessor
-returns c = rw c.if1.true
+returns c = rw c.if-i-eq0.true
 
-returns-2 : tie.Need-returns-2
+returns-2 : tie.Need-returns
 unfolding predecessor
 returns-2 c =
     let h : 0 < (entry c).args.i = omega arith in
-    rw (before-less, ← c.before.before.is-set.ensures, ← c.before.kind-of.ensures.0) c.pick_word.ensures
+    rw (before-less, ← c.before.before.is_set.ensures, ← c.before.kind_of.ensures.0) c.pick_word.ensures
 
-pub predecessor-spec : {M : Type 1} → statement M
-predecessor-spec =
+pub predecessor_spec : {M : Type 1} → statement M
+predecessor_spec =
     tie.close
-    (tie.spec returns (λ c. search rules) (λ c. search rules) (λ c. search rules) (λ c κs. search rules) (λ c κs. search rules)
-    (λ c κs. search rules) returns-2)
+    (tie.spec returns (λ c. search rules) (λ c. search rules) (λ c. search rules) (λ c κs. search rules) (λ c κs. search rules) (λ c κs. search rules) returns-2)

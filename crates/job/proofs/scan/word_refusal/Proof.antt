@@ -20,14 +20,14 @@ use Rattle.job.proofs.scan.word_refusal.Statement.{statement}
 use Rattle.job.proofs.scan.word_refusal.Tie as tie
 
 -- the function's entry, from the test of the word before and from past it
-abbrev asked : tie.After-may-follow → tie.Start
+abbrev asked : tie.After-may_follow → tie.Start
 asked c = c.before.before.before.before.before.before
 
-abbrev entry : tie.Else1 → tie.Start
+abbrev entry : tie.Else-not-may_follow → tie.Start
 entry c = asked c.before
 
 -- past the test of the word before, a word of kind k may follow it, and its refusal is its rule's
-module _ (c : tie.Else1) (k : ℕ) (h : c.before.before.before.kind-of.result ≡ k) where
+module _ (c : tie.Else-not-may_follow) (k : ℕ) (h : c.before.before.before.kind_of-k.result ≡ k) where
   abbrev job : List ℕ
   job = (entry c).args.job.now
 
@@ -35,10 +35,10 @@ module _ (c : tie.Else1) (k : ℕ) (h : c.before.before.before.kind-of.result �
   i = (entry c).args.i
 
   kind-is : kind (get_or job i 0) ≡ k
-  kind-is = sym c.before.before.before.kind-of.ensures.0 ∙ h
+  kind-is = sym c.before.before.before.kind_of-k.ensures.0 ∙ h
 
   follows : may_follow k (predecessor (before job i)) ≡ true
-  follows = rw (← c.before.before.predecessor.ensures, ← h) (sym c.before.may-follow.ensures ∙ not-false _ c.if1.false)
+  follows = rw (← c.before.before.predecessor.ensures, ← h) (sym c.before.may_follow.ensures ∙ not-false _ c.if-not-may_follow.false)
 
   passed : refusal_of job i ≡ ruled job i k
   passed = may job i k kind-is follows
@@ -50,16 +50,16 @@ module _ (c : tie.Else1) (k : ℕ) (h : c.before.before.before.kind-of.result �
       ap (λ (m : ℕ). any (same_entry (get_or job 0 0) (get_or job i 0)) (since (m - 1) (before job i))) (sym kind-is)
       ∙ sym ((entry c).requires.2.entry (get_or job i 0) (rw kind-is l) (rw kind-is follows))
 
-returns : tie.Need-returns
+returns : tie.Need-returns-then-not-may_follow
 returns c =
     let s = asked c.before in
     sym
-    (may_not s.args.job.now s.args.i _ (sym c.before.before.before.kind-of.ensures.0)
-    (rw (← c.before.before.predecessor.ensures) (sym c.before.may-follow.ensures ∙ not-true _ c.if1.true)))
+    (may_not s.args.job.now s.args.i _ (sym c.before.before.before.kind_of-k.ensures.0)
+    (rw (← c.before.before.predecessor.ensures) (sym c.before.may_follow.ensures ∙ not-true _ c.if-not-may_follow.true)))
 
-returns-13 : tie.Need-returns-13
+returns-13 : tie.Need-returns-in_default
 returns-13 c =
-    let (((((((((((rest, not-1), not-2), not-3), not-4), not-5), not-6), not-7), not-8), not-12), not-13), not-14) = c.match.rest in
+    let (((((((((((rest, not-1), not-2), not-3), not-4), not-5), not-6), not-7), not-8), not-12), not-13), not-14) = c.in_default.rest in
     sym
     (passed c.before _ refl
     ∙ rw (
@@ -76,22 +76,7 @@ returns-13 c =
       ne_eqb _ 14 not-14,
     ))
 
-pub word-refusal-spec : {M : Type 1} → statement M
-word-refusal-spec =
+pub word_refusal_spec : {M : Type 1} → statement M
+word_refusal_spec =
     tie.close
-    (tie.spec (λ c. search rules) (λ c. search rules) (λ c. omega arith) (λ c κs. search rules) (λ c κs. omega arith) (λ c κs. search rules) returns
-    (λ c κs. search rules) (λ c κs. search rules) (λ c κs. search rules) (λ c κs. search rules) (λ c κs. search rules) (λ c κs. search rules)
-    (λ c κs. search rules) (λ c κs. search rules) (λ c κs. search rules) (λ c κs. search rules) (λ c κs. search rules) (λ c κs. search rules)
-    (λ c κs. search rules) (λ c κs. search rules)
-    (λ c. rw (passed c.before.before 1 c.before.match.keys1) c.head.ensures)
-    (λ c. let k = c.before.before.match.keys2 in let past = c.before.before.before in rw (passed past 2 k, fluent_entry _ _ _ (kind-is past 2 k) (λ z. omega arith), listed past 2 k refl, ← c.before.is-listed.ensures) c.known.ensures)
-    (λ c. rw (passed c.before.before 3 c.before.match.keys3, ← (entry c.before.before).requires.1.actions) c.action.ensures)
-    (λ c. let k = c.before.before.match.keys4 in let past = c.before.before.before in rw (passed past 4 k, fluent_entry _ _ _ (kind-is past 4 k) (λ z. omega arith), listed past 4 k refl, ← c.before.is-listed2.ensures) c.law.ensures)
-    (λ c. rw (passed c.before.before 5 c.before.match.keys5, ← (entry c.before.before).requires.1.formulas) c.formula.ensures)
-    (λ c. rw (passed c.before.before 6 c.before.match.keys6, ← (entry c.before.before).requires.1.actions, ← (entry c.before.before).requires.1.formulas, ← (entry c.before.before).requires.1.nodes) c.node.ensures)
-    (λ c. rw (passed c.before.before 7 c.before.match.keys7, ← (entry c.before.before).requires.1.nodes, ← (entry c.before.before).requires.1.members) c.member.ensures)
-    (λ c. rw (passed c.before.before 8 c.before.match.keys8, ← (entry c.before.before).requires.1.formulas, ← (entry c.before.before).requires.1.members, ← (entry c.before.before).requires.1.conditions) c.condition.ensures)
-    (λ c. rw (passed c.before.before 12 c.before.match.keys9, ← (entry c.before.before).requires.1.actions) c.shift-window.ensures)
-    (λ c. rw (passed c.before.before 13 c.before.match.keys10, ← ((entry c.before.before).requires.1.groups (group_number (get_or (entry c.before.before).args.job.now (entry c.before.before).args.i 0)))) c.group.ensures)
-    (λ c. let k = c.before.before.match.keys11 in let past = c.before.before.before in rw (passed past 14 k, ← (entry past).requires.1.actions, ← ((entry past).requires.1.groups (group_number (get_or (entry past).args.job.now (entry past).args.i 0))), pair_entry (get_or (entry past).args.job.now 0 0) _ _ (kind-is past 14 k), listed past 14 k refl, ← c.before.is-listed3.ensures) c.group_member.ensures)
-    returns-13)
+    (tie.spec (λ c. search rules) (λ c. search rules) (λ c. omega arith) (λ c κs. search rules) (λ c κs. omega arith) (λ c κs. search rules) returns (λ c κs. search rules) (λ c κs. search rules) (λ c κs. search rules) (λ c κs. search rules) (λ c κs. search rules) (λ c κs. search rules) (λ c κs. search rules) (λ c κs. search rules) (λ c κs. search rules) (λ c κs. search rules) (λ c κs. search rules) (λ c κs. search rules) (λ c κs. search rules) (λ c κs. search rules) (λ c. rw (passed c.before.before 1 c.before.in_default.keys1) c.head.ensures) (λ c. let k = c.before.before.in_default.keys2 in let past = c.before.before.before in rw (passed past 2 k, fluent_entry _ _ _ (kind-is past 2 k) (λ z. omega arith), listed past 2 k refl, ← c.before.is_listed.ensures) c.known.ensures) (λ c. rw (passed c.before.before 3 c.before.in_default.keys3, ← (entry c.before.before).requires.1.actions) c.action.ensures) (λ c. let k = c.before.before.in_default.keys4 in let past = c.before.before.before in rw (passed past 4 k, fluent_entry _ _ _ (kind-is past 4 k) (λ z. omega arith), listed past 4 k refl, ← c.before.is_listed-in-4.ensures) c.law.ensures) (λ c. rw (passed c.before.before 5 c.before.in_default.keys5, ← (entry c.before.before).requires.1.formulas) c.formula.ensures) (λ c. rw (passed c.before.before 6 c.before.in_default.keys6, ← (entry c.before.before).requires.1.actions, ← (entry c.before.before).requires.1.formulas, ← (entry c.before.before).requires.1.nodes) c.node.ensures) (λ c. rw (passed c.before.before 7 c.before.in_default.keys7, ← (entry c.before.before).requires.1.nodes, ← (entry c.before.before).requires.1.members) c.member.ensures) (λ c. rw (passed c.before.before 8 c.before.in_default.keys8, ← (entry c.before.before).requires.1.formulas, ← (entry c.before.before).requires.1.members, ← (entry c.before.before).requires.1.conditions) c.condition.ensures) (λ c. rw (passed c.before.before 12 c.before.in_default.keys9, ← (entry c.before.before).requires.1.actions) c.shift_window.ensures) (λ c. rw (passed c.before.before 13 c.before.in_default.keys10, ← ((entry c.before.before).requires.1.groups (group_number (get_or (entry c.before.before).args.job.now (entry c.before.before).args.i 0)))) c.group.ensures) (λ c. let k = c.before.before.in_default.keys11 in let past = c.before.before.before in rw (passed past 14 k, ← (entry past).requires.1.actions, ← ((entry past).requires.1.groups (group_number (get_or (entry past).args.job.now (entry past).args.i 0))), pair_entry (get_or (entry past).args.job.now 0 0) _ _ (kind-is past 14 k), listed past 14 k refl, ← c.before.is_listed-in-14.ensures) c.group_member.ensures) returns-13)
