@@ -21,9 +21,9 @@ returns-then-not-has c p h =
 
 pub loop-v-preserved : goal.loop-v-preserved
 loop-v-preserved c = (
-      omega arith,
-      λ p once. first_more _ _ (c.loop-v.invariant.1 p once) (name_told p _ once _ (sym c.has.ensures ∙ c.if-not-has.false)),
-    )
+  omega arith,
+  λ p once. first_more _ _ (c.loop-v.invariant.1 p once) (name_told p _ once _ (sym c.has.ensures ∙ c.if-not-has.false)),
+)
 
 pub returns : goal.returns
 returns c p h =

@@ -1,6 +1,6 @@
 -- `job::names::with_node` meets its contract: each arm names the children of its forms. Assumes nothing.
 use mathlib.Core.Bool.{and-false}
-use mathlib.Core.Path.{◌≡◌, sym, ◌∙◌}
+use mathlib.Core.Path.{sym, ◌∙◌}
 use native.Mathlib.Omega.{arith}
 use borrow.Author.Tests.{lt-leb}
 use Rattle.words.specs.Fields.{form}
