@@ -3,13 +3,11 @@
 use Prim.Native.Nat.{ℕ, ◌+◌, ◌≤◌, ◌<◌}
 use mathlib.Core.List.{List}
 use lib.ListN.{length, get_or}
-use borrow.Author.Rules.{rules}
 use native.Mathlib.Omega.{arith}
 use Rattle.job.specs.Parts.{actions}
 use Rattle.history.specs.Code.Tables.{Ruled}
 use Rattle.history.proofs.LawsAt.{laws_from, laws_fit, laws_part}
-use Rattle.history.proofs.tables.laws_of.Statement.{statement}
-use Rattle.history.proofs.tables.laws_of.Tie as tie
+use Rattle.history.proofs.tables.laws_of.Goals as goal
 
 -- the part starts in the job, ends after its start and in the job
 module _ {job places ends : List ℕ} {a : ℕ} (given : Ruled job places ends × (a < actions job)) where
@@ -24,14 +22,22 @@ module _ {job places ends : List ℕ} {a : ℕ} (given : Ruled job places ends �
         rules.laws.entry a given.1,
       )
 
-returns : tie.Need-returns
-returns c =
-    let given = c.before.before.before.requires in
-    rw (given.0.laws.entry _ given.1) (laws_part given.0.formed given.0.indexed given.1)
+pub overflow_add-from : goal.overflow_add-from
+overflow_add-from c = omega (arith, low c.requires)
 
-pub laws-of-spec : {M : Type 1} → statement M
-laws-of-spec =
-    tie.close
-    (tie.spec (λ c. search rules) (λ c. search rules) (λ c. omega (arith, low c.before.requires)) (λ c. search rules) (λ c. search rules)
-    (λ c. omega (arith, low c.before.before.requires)) (λ c. omega (arith, low c.before.before.requires))
-    (λ c. omega (arith, low c.before.before.requires)) (λ c. omega (arith, low c.before.before.requires)) returns)
+pub offset_bounds-job-from : goal.offset_bounds-job-from
+offset_bounds-job-from c = omega (arith, low c.requires)
+
+pub slice_bounds-result-count : goal.slice_bounds-result-count
+slice_bounds-result-count c = omega (arith, low c.requires)
+
+pub slice_bounds-result-start : goal.slice_bounds-result-start
+slice_bounds-result-start c = omega (arith, low c.requires)
+
+pub slice_bounds-result-end : goal.slice_bounds-result-end
+slice_bounds-result-end c = omega (arith, low c.requires)
+
+pub returns : goal.returns
+returns c =
+    let given = c.requires in
+    rw (given.0.laws.entry _ given.1) (laws_part given.0.formed given.0.indexed given.1)
