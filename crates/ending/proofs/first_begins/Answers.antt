@@ -1,8 +1,8 @@
 -- `ending::first_begins` meets its contract. The invariant: all begins are in a..z, and those before i are members where there are such.
 -- Assumes nothing.
-use Prim.Native.Nat.{ℕ, ◌+◌, ◌-◌, ◌≤◌, ◌<◌}
-use mathlib.Core.Path.{◌≡◌, refl}
-use mathlib.Core.Logic.{◌↔◌, ⊎_elim}
+use Prim.Native.Nat.{ℕ, ◌+◌, ◌≤◌, ◌<◌}
+use mathlib.Core.Path.{refl}
+use mathlib.Core.Logic.{◌↔◌}
 use mathlib.Core.List.{List}
 use native.Mathlib.Omega.{arith}
 use borrow.Author.Count.{below_more}
@@ -11,25 +11,9 @@ use Rattle.bitset.specs.Code.Members.{In}
 use Rattle.bitset.proofs.In.{in_both, in_between, in_zero}
 use Rattle.covering.specs.Code.Cover.{entry_at}
 use Rattle.words.proofs.Entries.{entries_set, entries_more, entries_alike}
-use borrow.Author.Rules.{rules}
-use Rattle.ending.proofs.first_begins.Statement.{statement}
-use Rattle.ending.proofs.first_begins.Tie as tie
-
--- the begins r of all members, of which those before i are first begins
-record Firsts (masks : List ℕ) (a z i : ℕ) (r : List ℕ) : Type 0 where
-  four : length r ≡ 4
-  after : (j : ℕ) → j < 4 → a ≤ entry_at r j
-  upto : (j : ℕ) → entry_at r j ≤ z
-  members : (j : ℕ) → j < i → (x : ℕ) → In (entry_at masks j) x → a ≤ x → x ≤ z → In (entry_at masks j) (entry_at r j)
-
-abbrev invariant-loop : tie.invariant-loop
-invariant-loop count a z begins window r₀ i₀ r i = (i ≤ count) × Firsts begins a z i r
-
-abbrev decreases-loop : tie.decreases-loop
-decreases-loop count a z begins window r₀ i₀ r i = count - i
-
-abbrev head : tie.After-lowest invariant-loop decreases-loop → tie.At-loop invariant-loop decreases-loop
-head c = c.before.before.before.before
+use Rattle.ending.proofs.first_begins.Invariants.{Firsts}
+use Rattle.ending.proofs.first_begins.Goals as goal
+use Rattle.ending.proofs.first_begins.Goals.{else-mask-ne0, then-mask-ne0}
 
 module _ (masks : List ℕ) (a z : ℕ) where
   none : a ≤ z → Firsts masks a z 0 (replicate 4 a)
@@ -69,33 +53,30 @@ masked h k x = (
   λ t. (h x).1 (t.0, (k x).1 (t.1, t.2)),
 )
 
-loop-again : tie.Need-loop-preserved invariant-loop decreases-loop
-loop-again c =
-    let n = c.before.inter in
-    let l = c.before.before.before in
-    let s = l.before.before in
-    let k = l.loop in
-    let m = masked (in_both n.ensures) (in_between l.before.between.ensures) in
-    let t = c.before.before.loop-test.true in (
+pub loop-i-init : goal.loop-i-init
+loop-i-init c = (omega arith, none _ _ _ c.requires.1)
+
+pub bounds-r-i : goal.bounds-r-i
+bounds-r-i c = omega (arith, c.loop-i.invariant.1.four)
+
+pub loop-i-preserved : goal.loop-i-preserved
+loop-i-preserved c =
+    let n = c.inter-mask in
+    let k = c.loop-i in
+    let m = masked (in_both n.ensures) (in_between c.between-window.ensures) in
+    let t = c.loop-i-test.true in (
       omega arith,
-      ⊎_elim
-          (λ y. rw y.2 (turn s.args.t1 s.args.a s.args.z k.r k.i y.1.result (omega (arith, s.requires.0))
-          ((m y.1.result).0 (record { yes = y.1.ensures.member })) k.invariant.1))
-          (λ y. rw y.1 (skip s.args.t1 s.args.a s.args.z k.r k.i
-          (λ x v g h. in_zero y.0.left ((m x).1 (v, g, h))) k.invariant.1))
-          c.if1.branch,
+      elim c.if-mask-ne0.branch [
+        | then-mask-ne0 y ↦ rw y.r-is (turn c.args.begins c.args.a c.args.z k.r k.i y.lowest.result (omega (arith, c.requires.0))
+            ((m y.lowest.result).0 (record { yes = y.lowest.ensures.member })) k.invariant.1)
+        | else-mask-ne0 y ↦ rw y.r-is (skip c.args.begins c.args.a c.args.z k.r k.i
+            (λ x v g h. in_zero y.if-mask-ne0.false ((m x).1 (v, g, h))) k.invariant.1)
+      ],
     )
 
-returns : tie.Need-returns invariant-loop decreases-loop
-returns c = let f = c.before.loop.invariant.1 in let s = c.before.before.before in (
+pub returns : goal.returns
+returns c = let f = c.loop-i.invariant.1 in (
   λ i l. (f.after i (omega arith), f.upto i),
-  λ i. omega (arith, f.upto i, s.requires.2),
+  λ i. omega (arith, f.upto i, c.requires.2),
   λ i x l t g h. f.members i (omega arith) x t g h,
 )
-
-pub first-begins-spec : {M : Type 1} → statement M
-first-begins-spec =
-    tie.close
-    (tie.spec invariant-loop decreases-loop (λ c κs. search rules) (λ c. (omega arith, none _ _ _ c.before.requires.1)) (λ c. search rules) (λ c. search rules)
-    (λ c κs. search rules) (λ c κs. search rules) (λ c. search rules)
-    (λ c. omega (arith, (head c).loop.invariant.1.four)) (λ c. search rules) (λ c. search rules) loop-again returns)
