@@ -17,7 +17,7 @@ use history::keep_unfinished;
 use words::*;
 
 // The limit of each group, and the set of its actions.
-#[derive(Drop)]
+#[derive(Clone, Copy)]
 pub struct Groups {
     pub limits: [usize; GROUPS],
     pub members: [u64; GROUPS],

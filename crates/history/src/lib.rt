@@ -1,4 +1,4 @@
-// The history of a plan: tables of the actions of a well_formed job, and the values of the fluents at every moment.
+// The history of a plan: tables of the actions of a well-formed job, and the values of the fluents at every moment.
 #![tactic(auto)]
 
 mod carry;

@@ -1,7 +1,7 @@
 -- Open sets: their arrays are of four words; a store in such an array; what fits still fits where begins and ends are left out. Assumes nothing.
 use Prim.Native.Nat.{ℕ, zero, suc, ◌^◌, ◌<◌}
-use mathlib.Core.Path.{◌≡◌, subst}
-use mathlib.Core.List.{List, [], ◌∷◌, map, map-id}
+use mathlib.Core.Path.{◌≡◌}
+use mathlib.Core.List.{List, [], ◌∷◌}
 use native.Mathlib.Omega.{arith}
 use lib.ListN.{length, set}
 use mir.Syntax.{w64}
@@ -30,8 +30,8 @@ word (x ∷ xs) [] h i = absurd h
 word (x ∷ xs) (u ∷ us) h zero = h.0.1
 word (x ∷ xs) (u ∷ us) h (suc i) = word xs us h.1 i
 
-words : (xs : List ℕ) (vs : List Val) → Is (Array (UInt w64) 4) (map (λ x. x) xs) vs → Words xs
-words xs vs h = subst Words (map-id xs) (record { four = h.1.0.1; small = λ i e t. in_below (word (map (λ x. x) xs) h.0 h.1.1 i) t })
+words : (xs : List ℕ) (vs : List Val) → Is (Array (UInt w64) 4) xs vs → Words xs
+words xs vs h = record { four = h.1.0.1; small = λ i e t. in_below (word xs h.0 h.1.1 i) t }
 
 -- the arrays of an open set, by what its owner knows: for a parameter, `.good`
 pub open_begins : (o : Open) (vs : List Val) → Is the_row o vs → Words o.begins

@@ -14,7 +14,7 @@ use keeping::{PAIRS, ROWS};
 use words::{MEMBERS, MOMENTS};
 
 // A set from moment `from`: the begins and ends that each member may still have. Those in `left` are not placed; `last` ends last.
-#[derive(Drop)]
+#[derive(Clone, Copy)]
 pub struct Open {
     pub from: u32,
     pub last: usize,

@@ -14,7 +14,7 @@ use bitset::{between, has, single, union};
 use words::*;
 
 // As sets: the actions that have shift windows, and for each action the moments at which it may start in one of them.
-#[derive(Drop)]
+#[derive(Clone, Copy)]
 pub struct Shifts {
     pub windowed: u64,
     pub inside: [u64; ACTIONS],

@@ -66,7 +66,7 @@ rows_none (row ∷ rest) {n} p e =
     let h = or_none (first_of (numbered row.0 row.1) n) (rows_refusal rest n) e in
     and_row (row-clear row.0 row.1 n (ltb-true 0 row.0 q.0) h.0) (rows_none rest q.1 h.1)
 
-pub none_rows : {rows : List (ℕ × (ℕ → Bool))} {n : ℕ} → NoneFits n rows → (rows_refusal rows n).number ≡ 0
+pub none_rows : {n : ℕ} {rows : List (ℕ × (ℕ → Bool))} → NoneFits n rows → (rows_refusal rows n).number ≡ 0
 unfolding rows_refusal
 none_rows no_row = refl
 none_rows (and_row {row} h rest) = rw (clear_row row.0 row.1 _ h) (none_rows rest)

@@ -24,7 +24,7 @@ MaskOf f value n k M N a z x r = (y : ℕ) → In r y ↔ ((a ≤ y) × (y ≤ z
 
 -- the mask r of a condition of form 2 or 3, which asks nothing of member j, where the formula fails at `fails`
 pub record OwnMask (form n M N a z fails r : ℕ) : Type 0 where
-  pub holds-before : form ≡ 2 → (value : ℕ → ℕ → ℕ) (k x : ℕ) → Failing HoldsBefore value n k N a z fails → MaskOf HoldsBefore value n k M N a z x r
+  pub holds_before : form ≡ 2 → (value : ℕ → ℕ → ℕ) (k x : ℕ) → Failing HoldsBefore value n k N a z fails → MaskOf HoldsBefore value n k M N a z x r
   pub holds_after : form ≡ 3 → (value : ℕ → ℕ → ℕ) (k x : ℕ) → Failing HoldsAfter value n k N a z fails → MaskOf HoldsAfter value n k M N a z x r
 
 -- the mask at c * 64 + x has the moments y of lo..hi at which member i may begin or end for condition c, where its partner begins at x; so

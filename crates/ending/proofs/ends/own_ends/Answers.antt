@@ -1,0 +1,35 @@
+-- `ending::ends::own_ends` meets its contract. The invariant: the masks before i are those of the own rows. Assumes nothing.
+use Prim.Native.Nat.{ℕ, ◌<◌}
+use mathlib.Core.Path.{◌≡◌, refl}
+use native.Mathlib.Omega.{arith}
+use lib.ListN.{length-set}
+use Rattle.bitset.specs.Code.Members.{In}
+use Rattle.bitset.proofs.In.{in_zero, in_below, empty_entry}
+use Rattle.covering.specs.Code.Cover.{entry_at}
+use Rattle.keeping.specs.Code.Tables.{pair_at}
+use Rattle.words.proofs.Entries.{entries_set, entries_more}
+use Rattle.ending.proofs.ends.own_ends.Goals as goal
+
+pub loop-i-init : goal.loop-i-init
+loop-i-init c = record { upto = omega arith; four = refl; rows = λ j l. absurd (omega arith); small = λ j e t. in_zero (empty_entry 4 j) t }
+
+pub bounds-begins-i : goal.bounds-begins-i
+bounds-begins-i c = omega arith
+
+pub pair_at-requires : goal.pair_at-requires
+pair_at-requires c = (omega arith, omega arith, c.requires.1 c.loop-i.i)
+
+pub bounds-r-i : goal.bounds-r-i
+bounds-r-i c = omega arith
+
+pub loop-i-preserved : goal.loop-i-preserved
+loop-i-preserved c = let l = c.loop-i in
+    record {
+      upto = omega arith;
+      four = simp length-set l.invariant.four;
+      rows = entries_more (λ j. j) (λ j w. w ≡ pair_at c.args.ends.now j j (entry_at c.args.begins j)) l.r l.i c.pair_at.result (omega arith) (λ j g q. omega arith) l.invariant.rows c.pair_at.ensures;
+      small = entries_set (λ j w. (e : ℕ) → In w e → e < 64) l.r l.i c.pair_at.result (omega arith) (λ e. in_below c.pair_at.type_inv) l.invariant.small;
+    }
+
+pub returns : goal.returns
+returns c = let l = c.loop-i in (λ i g. l.invariant.rows i (omega arith), l.invariant.small)

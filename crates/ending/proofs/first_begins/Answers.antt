@@ -1,0 +1,82 @@
+-- `ending::first_begins` meets its contract. The invariant: all begins are in a..z, and those before i are members where there are such.
+-- Assumes nothing.
+use Prim.Native.Nat.{ℕ, ◌+◌, ◌≤◌, ◌<◌}
+use mathlib.Core.Path.{refl}
+use mathlib.Core.Logic.{◌↔◌}
+use mathlib.Core.List.{List}
+use native.Mathlib.Omega.{arith}
+use borrow.Author.Count.{below_more}
+use lib.ListN.{length, set, length-set, replicate, get_or-replicate}
+use Rattle.bitset.specs.Code.Members.{In}
+use Rattle.bitset.proofs.In.{in_both, in_between, in_zero}
+use Rattle.covering.specs.Code.Cover.{entry_at}
+use Rattle.words.proofs.Entries.{entries_set, entries_more, entries_alike}
+use Rattle.ending.proofs.first_begins.Invariants.{Firsts}
+use Rattle.ending.proofs.first_begins.Goals as goal
+use Rattle.ending.proofs.first_begins.Goals.{else-mask-ne0, then-mask-ne0}
+
+module _ (masks : List ℕ) (a z : ℕ) where
+  none : a ≤ z → Firsts masks a z 0 (replicate 4 a)
+  none l =
+      record {
+        four = refl;
+        after = λ j g. rw (get_or-replicate 4 j a 0 g) (omega arith);
+        upto = entries_alike (λ x. x ≤ z) 4 a l (omega arith);
+        members = λ j g. absurd (omega arith);
+      }
+
+  turn : (r : List ℕ) (i v : ℕ) → i < 4 → (In (entry_at masks i) v × (a ≤ v) × (v ≤ z)) → Firsts masks a z i r → Firsts masks a z (i + 1) (set r i v)
+  turn r i v l new old = record {
+    four = simp length-set old.four;
+    after = entries_set (λ j x. j < 4 → a ≤ x) r i v room (λ g. new.1) old.after;
+    upto = entries_set (λ j x. x ≤ z) r i v room new.2 old.upto;
+    members = entries_more (λ j. j) (λ j w. (x : ℕ) → In (entry_at masks j) x → a ≤ x → x ≤ z → In (entry_at masks j) w) r i v room (λ j g q. omega arith)
+        old.members (λ x t g h. new.0);
+  }
+    where
+      room : i < length r
+      room = omega (arith, old.four)
+
+  skip : (r : List ℕ) (i : ℕ) → ((x : ℕ) → In (entry_at masks i) x → a ≤ x → x ≤ z → ⊥) → Firsts masks a z i r → Firsts masks a z (i + 1) r
+  skip r i empty old = record {
+    four = old.four;
+    after = old.after;
+    upto = old.upto;
+    members = below_more (λ j. (x : ℕ) → In (entry_at masks j) x → a ≤ x → x ≤ z → In (entry_at masks j) (entry_at r j)) i
+        old.members (λ x t g h. absurd (empty x t g h));
+  }
+
+masked : {m b w a z : ℕ} → ((x : ℕ) → In m x ↔ (In b x × In w x)) → ((x : ℕ) → In w x ↔ ((a ≤ x) × (x ≤ z)))
+    → (x : ℕ) → In m x ↔ (In b x × (a ≤ x) × (x ≤ z))
+masked h k x = (
+  λ t. let u = (h x).0 t in let v = (k x).0 u.1 in (u.0, v.0, v.1),
+  λ t. (h x).1 (t.0, (k x).1 (t.1, t.2)),
+)
+
+pub loop-i-init : goal.loop-i-init
+loop-i-init c = (omega arith, none _ _ _ c.requires.1)
+
+pub bounds-r-i : goal.bounds-r-i
+bounds-r-i c = omega (arith, c.loop-i.invariant.1.four)
+
+pub loop-i-preserved : goal.loop-i-preserved
+loop-i-preserved c =
+    let n = c.inter-mask in
+    let k = c.loop-i in
+    let m = masked (in_both n.ensures) (in_between c.between-window.ensures) in
+    let t = c.loop-i-test.true in (
+      omega arith,
+      elim c.if-mask-ne0.branch [
+        | then-mask-ne0 y ↦ rw y.r-is (turn c.args.begins c.args.a c.args.z k.r k.i y.lowest.result (omega (arith, c.requires.0))
+            ((m y.lowest.result).0 (record { yes = y.lowest.ensures.member })) k.invariant.1)
+        | else-mask-ne0 y ↦ rw y.r-is (skip c.args.begins c.args.a c.args.z k.r k.i
+            (λ x v g h. in_zero y.if-mask-ne0.false ((m x).1 (v, g, h))) k.invariant.1)
+      ],
+    )
+
+pub returns : goal.returns
+returns c = let f = c.loop-i.invariant.1 in (
+  λ i l. (f.after i (omega arith), f.upto i),
+  λ i. omega (arith, f.upto i, c.requires.2),
+  λ i x l t g h. f.members i (omega arith) x t g h,
+)

@@ -1,0 +1,22 @@
+-- `sets::firsts::from_each` meets its contract. The invariant: the placements are found in which a member before `last` ends last. Assumes nothing.
+use Prim.Native.Nat.{ℕ, ◌-◌, ◌≤◌, ◌<◌}
+use mathlib.Core.Path.{◌≡◌, refl, sym, ◌∙◌, subst}
+use mathlib.Core.Logic.{by_cases}
+use native.Mathlib.Decide.{dec_lt}
+use native.Mathlib.Omega.{arith}
+use Rattle.bitset.specs.Code.Members.{In}
+use Rattle.bitset.proofs.In.{in_zero}
+use Rattle.keeping.specs.Code.Tables.{pair_at}
+use Rattle.narrowing.specs.Code.Tables.{InTables, BoundsHave}
+use Rattle.ending.specs.Code.Search.{Masked, Grown}
+use Rattle.searching.proofs.Growth.{grown_none, grown_more, ready_as}
+use Rattle.sets.proofs.firsts.from_each.Given as goal
+
+abbrev pub invariant-loop-last : goal.invariant-loop-last
+invariant-loop-last l =
+    (l.last ≤ l.count) × Grown l.conds l.allow l.ends l.count l.a l.initial.r l.r
+    × ((m : ℕ) → m < l.last → (e : ℕ) (bs es : ℕ → ℕ) → Masked l.conds l.allow l.ends l.count l.a e bs es → InTables l.ends l.goes l.later l.count l.a bs es
+    → BoundsHave l.count l.bounds bs es → e ≤ l.r.upto → bs l.first ≡ l.a → es m ≡ e → In l.goal e → In l.r.ends e)
+
+abbrev pub decreases-loop-last : goal.decreases-loop-last
+decreases-loop-last l = l.count - l.last

@@ -1,0 +1,41 @@
+-- `sets::tables::cut_pair` meets its contract. The invariant: the tables have what they had of each placement, and no end more. Assumes nothing.
+use Prim.Native.Nat.{ℕ, ◌+◌, ◌-◌, ◌*◌, ◌≤◌, ◌<◌}
+use mathlib.Core.Path.{subst}
+use mathlib.Core.Logic.{◌↔◌}
+use mathlib.Core.List.{List}
+use native.Mathlib.Omega.{arith}
+use lib.ListN.{get_or}
+use Rattle.bitset.specs.Code.Members.{In}
+use Rattle.bitset.proofs.In.{in_both}
+use Rattle.sets.specs.Code.Tables.{LeftOut}
+use Rattle.sets.proofs.Pairs.{pair_more, fewer_more, left_none}
+use Rattle.sets.proofs.tables.cut_pair.Invariants.{PairsCut}
+use Rattle.sets.proofs.tables.cut_pair.Goals as goal
+
+pub loop-x-init : goal.loop-x-init
+loop-x-init c = record { from = omega arith; upto = omega arith; left = λ count first second few. left_none }
+
+pub loop-x-preserved : goal.loop-x-preserved
+loop-x-preserved c =
+    let l = c.loop-x in
+    let i = c.args.i in
+    let j = c.args.j in
+    let r = c.partners-begins in
+    let k = (i * 4 + i) * 64 + l.x in
+    let Goes-at = c.pair_index.ensures.0 in
+    let ends_at = c.pair_index-p.ensures.0 in
+    let both : (e : ℕ) → In c.inter.result e ↔ (In (get_or l.ends k 0) e × In c.some_ends.result e)
+    = λ e. subst (λ (q : ℕ). In c.inter.result e ↔ (In (get_or l.ends q 0) e × In c.some_ends.result e)) ends_at (in_both c.inter.ensures e) in
+    record {
+      from = omega arith;
+      upto = omega arith;
+      left = λ count first second few. let h = l.invariant.left count first second few in record {
+        fewer = rw ends_at (fewer_more c.args.ends.now l.ends k c.inter.result both h.fewer);
+        kept = λ bs es within have. rw (Goes-at, ends_at) (pair_more i j l.x c.args.a c.args.z r.result
+            c.some_ends.result c.inter.result few c.requires.3
+            c.loop-x-test.true first second within r.ensures c.some_ends.ensures both (h.kept bs es within have));
+      };
+    }
+
+pub returns : goal.returns
+returns c = c.loop-x.invariant.left

@@ -1,0 +1,21 @@
+-- `sets::tables::partners` meets its contract. The invariant: a begin with which both may end is one of r's, or one that is left. Assumes
+-- nothing.
+use Prim.Native.Nat.{ℕ}
+use mathlib.Core.Path.{◌≡◌, subst}
+use mathlib.Core.Logic.{◌⊎◌, inl, inr, by_cases, ⊎_elim}
+use mathlib.Core.List.{List}
+use native.Mathlib.Decide.{ℕ_discrete}
+use native.Mathlib.Omega.{arith}
+use Rattle.bitset.specs.Code.Members.{In, pop_count}
+use Rattle.bitset.proofs.Bools.{not_both}
+use Rattle.bitset.proofs.In.{in_union, in_single, in_without, in_zero}
+use Rattle.keeping.specs.Code.Tables.{pair_at}
+use Rattle.sets.proofs.tables.partners.Given as goal
+
+abbrev pub invariant-loop-rest : goal.invariant-loop-rest
+invariant-loop-rest l =
+    (y d e : ℕ) → In (pair_at l.goes l.i l.j l.x) y → In (pair_at l.ends l.i l.i l.x) d → In (pair_at l.ends l.i l.j y) d → In (pair_at l.ends l.j l.j y) e
+    → In (pair_at l.ends l.j l.i l.x) e → In (pair_at l.goes l.j l.i y) l.x → In l.r y ⊎ In l.rest y
+
+abbrev pub decreases-loop-rest : goal.decreases-loop-rest
+decreases-loop-rest l = pop_count l.rest
