@@ -1,4 +1,4 @@
-// The rows on starts, 6 to 10, of a well_formed job; the crates `shifts` and `groups` have the code of rows 15 and 16. Each row's function
+// The rows on starts, 6 to 10, of a well-formed job; the crates `shifts` and `groups` have the code of rows 15 and 16. Each row's function
 // returns its number at the first word that it fits.
 #![tactic(auto)]
 

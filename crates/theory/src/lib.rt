@@ -30,7 +30,7 @@ pub use arrays::arrays_of;
 
 // The refusal of the rows that were run; for a plan that passes them also the index of the job's words, the durations of its actions, where
 // their laws end, their effects and shift windows, its groups, and its history.
-#[derive(Drop)]
+#[derive(Clone, Copy)]
 pub struct Plan {
     pub refusal: Refusal,
     pub index: Index,

@@ -8,14 +8,14 @@ returns : tie.Need-returns
 unfolding checked_of
 returns c =
     rw (
-      c.first-refusal.ensures,
-      c.before.row_of.ensures,
-      c.before.before.fact-room.ensures,
+      c.first_refusal-refusal.ensures,
+      c.before.row_of-short.ensures,
+      c.before.before.fact_room.ensures,
       c.before.before.before.head_of.ensures,
-      c.before.before.before.before.before.check-job.ensures,
+      c.before.before.before.before.before.check_job-checked.ensures,
     )
 
-pub check-job-and-room-spec : {M : Type 1} → statement M
-check-job-and-room-spec =
+pub check_job_and_room_spec : {M : Type 1} → statement M
+check_job_and_room_spec =
     tie.close
     (tie.spec (λ c κs. search rules) (λ c κs. search rules) (λ c κs. search rules) (λ c κs. search rules) (λ c κs. search rules) returns)
