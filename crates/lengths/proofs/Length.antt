@@ -2,7 +2,7 @@
 -- A node below a loop weighs n, for the loop's passes share out its moments; any other node is read once at most. A reading of any other node
 -- has at most 4,032 words too. Assumes nothing.
 use mathlib.Core.Path.{◌≡◌, refl, ap, ap₂, ◌∙◌}
-use mathlib.Core.Bool.{Bool, true, false, ◌||◌, or-true}
+use mathlib.Core.Bool.{true, false, ◌||◌, or-true}
 use mathlib.Core.List.{List, [], ◌∷◌}
 use Prim.Native.Nat.{ℕ, zero, suc, ◌+◌, ◌-◌, ◌*◌, ◌≤◌, ◌<◌, max}
 use native.Mathlib.Nat.{le_refl, le_trans, mul-le-mul, mul-le-mul_left}

@@ -1,7 +1,7 @@
 -- Which nodes a loop is above: where each node is named once, a child is below a loop just where its parent is one or is below one.
 -- Assumes nothing.
 use mathlib.Core.Path.{◌≡◌, refl, sym, ap, ap₂, ◌∙◌}
-use mathlib.Core.Bool.{Bool, true, false, ◌&&◌, ◌||◌, or_false}
+use mathlib.Core.Bool.{Bool, false, ◌&&◌, ◌||◌, or-false}
 use mathlib.Core.Logic.{by_cases}
 use Prim.Native.Nat.{ℕ, zero, suc, ◌+◌, ◌≤◌, ◌<◌}
 use native.Mathlib.Decide.{ℕ_discrete, dec_lt}
@@ -25,7 +25,7 @@ any_below-one zero i l h = absurd (omega arith)
 any_below-one {f} (suc n) i l h =
     by_cases (ℕ_discrete n i)
     (λ e. ap₂ ◌||◌ (some_none f n (λ j k. h j (omega arith) (λ d. omega arith))) (ap f e))
-    (λ ne. ap₂ ◌||◌ (any_below-one n i (omega arith) (λ j k. h j (omega arith))) (h n (omega arith) ne) ∙ or_false (f i))
+    (λ ne. ap₂ ◌||◌ (any_below-one n i (omega arith) (λ j k. h j (omega arith))) (h n (omega arith) ne) ∙ or-false (f i))
 
 -- ---- loops above a node
 

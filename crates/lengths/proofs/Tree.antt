@@ -1,7 +1,7 @@
 -- What a node and all nodes below it weigh, by any weights w; where each node is named once, that is at most the sum over the nodes up to it,
 -- and at the root the sum over all nodes.
 -- Assumes nothing.
-use mathlib.Core.Path.{◌≡◌, refl, sym, ap, ap₂, ◌∙◌}
+use mathlib.Core.Path.{◌≡◌, sym, ap, ap₂, ◌∙◌}
 use Prim.Native.Nat.{ℕ, zero, suc, ◌+◌, ◌*◌, ◌≤◌, ◌<◌}
 use native.Mathlib.Nat.{le_refl, le_trans, le_of_eq, one-mul, zero-mul, add-mul, mul-le-mul_right}
 use native.Mathlib.Omega.{arith}

@@ -16,7 +16,7 @@ use Rattle.model.specs.declared.Triple.{Triple}
 use Rattle.model.proofs.Forms.{same_form, same_children}
 use Rattle.reading.specs.Code.Forms.{NodeReadable}
 use Rattle.reading.specs.Reading.{HasReading}
-use Rattle.reading.specs.Code.Table.{Found, Tabulated}
+use Rattle.reading.specs.Code.Table.{Found}
 use Rattle.reading.specs.Count.{Read, Counted}
 use Rattle.reading.proofs.Transfer.{Extends, ends_transfer}
 

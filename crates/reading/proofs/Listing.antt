@@ -41,7 +41,7 @@ module _ {A : Type 0} where
     gathered : {x : A} (k : ℕ) → Memᴰ x (gather f k) → (i : ℕ) × (i < k) × Memᴰ x (f i)
     unfolding gather
     gathered zero m = absurd (Memᴰ.not-nil m)
-    gathered (suc k) m = ⊎_elim (λ a. let r = gathered k a in (r.0, omega (arith, r.1), r.2)) (λ a. (k, omega arith, a)) (Memᴰ.append_cases (gather f k) m)
+    gathered {x} (suc k) m = ⊎_elim (λ a. let r : (i : ℕ) × (i < k) × Memᴰ x (f i) = gathered {x = x} k a in (r.0, omega (arith, r.1), r.2)) (λ a. (k, omega arith, a)) (Memᴰ.append_cases (gather f k) m)
 
     gathers : {x : A} (k i : ℕ) → i < k → Memᴰ x (f i) → Memᴰ x (gather f k)
     unfolding gather

@@ -1,8 +1,8 @@
 -- The pause of an end window: the moments at which some action starts, and up to when it is quiet. Assumes nothing.
 use Prim.Native.Nat.{ℕ, ◌+◌, ◌^◌, ◌≤◌, ◌<◌}
 use mathlib.Core.Path.{◌≡◌, refl}
-use mathlib.Core.Bool.{true, false, ◌&&◌, ◌||◌}
-use mathlib.Core.Logic.{◌↔◌, ◌⊎◌, inl, inr, ⊎_elim, by_cases}
+use mathlib.Core.Bool.{true, ◌&&◌, ◌||◌}
+use mathlib.Core.Logic.{◌↔◌, inl, inr, ⊎_elim, by_cases}
 use mathlib.Core.List.{List}
 use native.Mathlib.Decide.{dec_lt}
 use native.Mathlib.Omega.{arith}

@@ -10,8 +10,6 @@ use lib.ListN.{length, get_or, set, length-set, replicate, length-replicate}
 use lib.Seq.{get_or-set_same, get_or-set_other}
 use Rattle.model.specs.Code.Table.{InTable, row_at}
 use Rattle.bitset.specs.Code.Members.{In}
-use Rattle.bitset.proofs.Bools.{not_both}
-use Rattle.bitset.proofs.Digits.{has-zero}
 use Rattle.bitset.proofs.In.{in_zero, empty_entry}
 use Rattle.model.specs.Trajectory.{Trajectory}
 use Rattle.model.specs.Procedure.{Procedure}
