@@ -37,7 +37,7 @@ def verdict(kit, mutant, sources, folder):
         adapted = any(file.startswith("proofs/") for file, _, _ in mutant.edits)
         return "lets it through" + (", its proof adapted" if adapted else "")
     if status == 1 and "logic=not-proved" in log:
-        return "refuses: " + first_error(log.replace(f"{sources}/", ""))
+        return "refuses: " + first_error(log.replace(f"{sources}/", "").replace("./proofs/", "proofs/"))
     return "NOT A MUTANT: does not reach the prover"
 
 
