@@ -24,7 +24,7 @@ use words::{MOST_STARTS, insert_word, last_of, start_moment, start_word};
 pub mod calls;
 
 // The moment, the number of starts, and the starts, ascending; the words after them say nothing.
-#[derive(Drop)]
+#[derive(Clone, Copy)]
 pub struct Trial {
     pub moment: usize,
     pub length: usize,
@@ -32,7 +32,7 @@ pub struct Trial {
 }
 
 // What a move hands back.
-#[derive(Drop)]
+#[derive(Clone, Copy)]
 pub struct Moved {
     pub refusal: Refusal,
     pub trial: Trial,

@@ -3,12 +3,9 @@ use Prim.Native.Nat.{ℕ, ◌+◌}
 use mathlib.Core.Path.{◌≡◌}
 use mathlib.Core.List.{List}
 use native.Mathlib.Omega.{arith}
-use lib.ListN.{length, get_or}
-use Rattle.bitset.specs.Code.Members.{pop_count}
+use lib.ListN.{get_or}
 use Rattle.bitset.proofs.In.{in_zero}
-use Rattle.narrowing.specs.Code.Tables.{EndsHave, BoundsHave}
-use Rattle.sets.specs.Code.Tables.{InSpan}
-use Rattle.sets.proofs.bounds.fill.Invariants.{Filling}
+use Rattle.narrowing.specs.Code.Tables.{BoundsHave}
 use Rattle.sets.proofs.bounds.fill.Goals as goal
 
 -- bounds that are not filled leave nothing out

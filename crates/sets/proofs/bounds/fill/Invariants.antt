@@ -1,11 +1,9 @@
 -- `sets::bounds::fill` meets its contract. The invariant: the bounds have each placement that the table of ends has. Assumes nothing.
-use Prim.Native.Nat.{ℕ, ◌+◌}
+use Prim.Native.Nat.{ℕ}
 use mathlib.Core.Path.{◌≡◌}
 use mathlib.Core.List.{List}
-use native.Mathlib.Omega.{arith}
-use lib.ListN.{length, get_or}
+use lib.ListN.{length}
 use Rattle.bitset.specs.Code.Members.{pop_count}
-use Rattle.bitset.proofs.In.{in_zero}
 use Rattle.narrowing.specs.Code.Tables.{EndsHave, BoundsHave}
 use Rattle.sets.specs.Code.Tables.{InSpan}
 use Rattle.sets.proofs.bounds.fill.Given as goal

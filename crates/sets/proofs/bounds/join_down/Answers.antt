@@ -1,14 +1,11 @@
 -- `sets::bounds::join_down` meets its contract. The invariant: the entries from e on have what those after them have. Assumes nothing.
 use Prim.Native.Nat.{ℕ, ◌+◌, ◌-◌, ◌≤◌, ◌<◌}
 use mathlib.Core.Path.{◌≡◌, subst}
-use mathlib.Core.List.{List}
 use native.Mathlib.Omega.{arith}
 use lib.ListN.{get_or}
 use Rattle.bitset.specs.Code.Members.{In}
 use Rattle.bitset.proofs.In.{in_union}
-use Rattle.sets.specs.Code.Bounds.{Grows}
 use Rattle.sets.proofs.Late.{grows_none, joined_more}
-use Rattle.sets.proofs.bounds.join_down.Invariants.{JoinedTo}
 use Rattle.sets.proofs.bounds.join_down.Goals as goal
 
 pub loop-e-init : goal.loop-e-init

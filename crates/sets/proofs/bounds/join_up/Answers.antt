@@ -1,14 +1,11 @@
 -- `sets::bounds::join_up` meets its contract. The invariant: the entries up to e have what those before them have. Assumes nothing.
-use Prim.Native.Nat.{ℕ, ◌+◌, ◌-◌, ◌≤◌, ◌<◌}
+use Prim.Native.Nat.{ℕ, ◌+◌, ◌≤◌, ◌<◌}
 use mathlib.Core.Path.{◌≡◌, subst}
-use mathlib.Core.List.{List}
 use native.Mathlib.Omega.{arith}
 use lib.ListN.{get_or}
 use Rattle.bitset.specs.Code.Members.{In}
 use Rattle.bitset.proofs.In.{in_union}
-use Rattle.sets.specs.Code.Bounds.{Grows}
 use Rattle.sets.proofs.Late.{grows_none, joined_more}
-use Rattle.sets.proofs.bounds.join_up.Invariants.{JoinedTo}
 use Rattle.sets.proofs.bounds.join_up.Goals as goal
 
 pub loop-e-init : goal.loop-e-init

@@ -1,15 +1,9 @@
 -- `sets::bounds::mark_pair` meets its contract. The invariant: the begins before y are marked. Assumes nothing.
 use Prim.Native.Nat.{ℕ, ◌+◌, ◌-◌, ◌*◌, ◌≤◌, ◌<◌}
-use mathlib.Core.Path.{subst}
-use mathlib.Core.Logic.{by_cases}
 use mathlib.Core.List.{List}
-use native.Mathlib.Decide.{ℕ_discrete}
-use native.Mathlib.Omega.{arith}
 use lib.ListN.{get_or}
 use Rattle.bitset.specs.Code.Members.{In}
-use Rattle.bitset.proofs.In.{in_both, in_between}
 use Rattle.sets.specs.Code.Bounds.{Grows, EndMarked}
-use Rattle.sets.proofs.Late.{grows_none, grows_more, marked_more, marked_same}
 use Rattle.sets.proofs.bounds.mark_pair.Given as goal
 
 -- the begins before y are marked

@@ -1,15 +1,10 @@
 -- `sets::conditions::failing` meets its contract. The invariant: the mask has the moments before t at which the formula does not hold.
 -- Assumes nothing.
-use Prim.Native.Nat.{ℕ, ◌+◌, ◌-◌, ◌≤◌}
-use mathlib.Core.Path.{◌≡◌, sym, subst}
-use mathlib.Core.Logic.{⊎_elim}
-use mathlib.Core.List.{List}
+use Prim.Native.Nat.{◌+◌}
+use mathlib.Core.Path.{sym, subst}
 use native.Mathlib.Omega.{arith}
-use Rattle.words.specs.Fields.{holds}
-use Rattle.model.specs.Code.Arrays.{value_in}
 use Rattle.bitset.proofs.In.{in_none}
 use Rattle.sets.proofs.Masks.{Before, turn_yes, turn_no}
-use Rattle.sets.proofs.conditions.failing.Invariants.{Failed}
 use Rattle.sets.proofs.conditions.failing.Goals as goal
 use Rattle.sets.proofs.conditions.failing.Goals.{else-values-k-ne-HOLDS, then-values-k-ne-HOLDS}
 

@@ -1,14 +1,11 @@
 -- `sets::conditions::failing` meets its contract. The invariant: the mask has the moments before t at which the formula does not hold.
 -- Assumes nothing.
 use Prim.Native.Nat.{ℕ, ◌+◌, ◌-◌, ◌≤◌}
-use mathlib.Core.Path.{◌≡◌, sym, subst}
-use mathlib.Core.Logic.{⊎_elim}
+use mathlib.Core.Path.{◌≡◌}
 use mathlib.Core.List.{List}
-use native.Mathlib.Omega.{arith}
 use Rattle.words.specs.Fields.{holds}
 use Rattle.model.specs.Code.Arrays.{value_in}
-use Rattle.bitset.proofs.In.{in_none}
-use Rattle.sets.proofs.Masks.{Before, turn_yes, turn_no}
+use Rattle.sets.proofs.Masks.{Before}
 use Rattle.sets.proofs.conditions.failing.Given as goal
 
 -- the moments before t at which formula k does not hold

@@ -1,4 +1,5 @@
 -- `sets::conditions::failing_for` meets its contract: in each arm the moments at which the form asks for the formula. Assumes nothing.
+use native.Mathlib.Omega.{arith}
 use Rattle.sets.proofs.Masks.{unseen}
 use Rattle.sets.proofs.conditions.failing_for.Goals as goal
 
@@ -12,5 +13,5 @@ pub returns-in-4 : goal.returns-in-4
 returns-in-4 c = rw c.in-4.is (λ t s. c.failing-in-4.ensures t s.0 s.1)
 
 pub returns-in_default : goal.returns-in_default
-returns-in_default c = let a = c.args in let m = c.in_default.rest in λ t s.
-    absurd (unseen a.form a.n a.last a.a a.z t m.0.0.1 m.0.1 m.1 s)
+returns-in_default c = let a = c.args in λ t s.
+    absurd (unseen a.form a.n a.last a.a a.z t (λ q. omega arith) (λ q. omega arith) (λ q. omega arith) s)

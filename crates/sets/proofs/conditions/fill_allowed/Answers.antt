@@ -1,13 +1,6 @@
 -- `sets::conditions::fill_allowed` meets its contract. The invariant: the masks of the conditions before c are right. Assumes nothing.
-use Prim.Native.Nat.{ℕ, ◌-◌, ◌≤◌}
-use mathlib.Core.Path.{◌≡◌}
-use mathlib.Core.List.{List}
 use native.Mathlib.Omega.{arith}
-use lib.ListN.{length}
-use Rattle.model.specs.Code.Arrays.{value_in}
-use Rattle.sets.specs.Code.Masks.{Allowed}
 use Rattle.sets.proofs.Masks.{allowed_more}
-use Rattle.sets.proofs.conditions.fill_allowed.Invariants.{AllowedTo}
 use Rattle.sets.proofs.conditions.fill_allowed.Goals as goal
 
 pub loop-c-init : goal.loop-c-init

@@ -2,11 +2,9 @@
 use Prim.Native.Nat.{ℕ, ◌-◌, ◌≤◌}
 use mathlib.Core.Path.{◌≡◌}
 use mathlib.Core.List.{List}
-use native.Mathlib.Omega.{arith}
 use lib.ListN.{length}
 use Rattle.model.specs.Code.Arrays.{value_in}
 use Rattle.sets.specs.Code.Masks.{Allowed}
-use Rattle.sets.proofs.Masks.{allowed_more}
 use Rattle.sets.proofs.conditions.fill_allowed.Given as goal
 
 -- the masks of the first c conditions

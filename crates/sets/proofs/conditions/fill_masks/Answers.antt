@@ -1,10 +1,9 @@
 -- `sets::conditions::fill_masks` meets its contract. The invariant: the masks for the begins before x are right. Assumes nothing.
-use Prim.Native.Nat.{ℕ, ◌+◌, ◌-◌, ◌*◌, ◌≤◌, ◌<◌}
+use Prim.Native.Nat.{ℕ, ◌+◌, ◌*◌, ◌≤◌}
 use mathlib.Core.Path.{◌≡◌, refl, subst, ◌∙◌}
 use mathlib.Core.Logic.{◌↔◌}
-use mathlib.Core.List.{List}
 use native.Mathlib.Omega.{arith}
-use lib.ListN.{length, get_or, length-set}
+use lib.ListN.{length-set}
 use lib.Seq.{get_or-set_other}
 use Rattle.bitset.specs.Code.Members.{In}
 use Rattle.model.specs.Forms.{condition_number}
@@ -13,7 +12,6 @@ use Rattle.words.proofs.Entries.{entries_more}
 use Rattle.sets.specs.Set.{MetAt}
 use Rattle.sets.specs.Code.Masks.{Failing}
 use Rattle.sets.proofs.Masks.{mask_met}
-use Rattle.sets.proofs.conditions.fill_masks.Invariants.{MasksTo}
 use Rattle.sets.proofs.conditions.fill_masks.Goals as goal
 use Rattle.sets.proofs.conditions.fill_masks.Goals.{After-mask_at}
 
@@ -37,12 +35,12 @@ new c =
 
 pub loop-x-init : goal.loop-x-init
 loop-x-init c = record {
-      from = omega arith;
-      upto = omega arith;
-      long = c.requires.4;
-      masks = λ u y g h. absurd (omega arith);
-      others = λ p g. refl;
-    }
+  from = omega arith;
+  upto = omega arith;
+  long = c.requires.4;
+  masks = λ u y g h. absurd (omega arith);
+  others = λ p g. refl;
+}
 
 pub loop-x-preserved : goal.loop-x-preserved
 loop-x-preserved c =

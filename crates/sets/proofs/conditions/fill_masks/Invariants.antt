@@ -1,18 +1,12 @@
 -- `sets::conditions::fill_masks` meets its contract. The invariant: the masks for the begins before x are right. Assumes nothing.
 use Prim.Native.Nat.{ℕ, ◌+◌, ◌-◌, ◌*◌, ◌≤◌, ◌<◌}
-use mathlib.Core.Path.{◌≡◌, refl, subst, ◌∙◌}
+use mathlib.Core.Path.{◌≡◌}
 use mathlib.Core.Logic.{◌↔◌}
 use mathlib.Core.List.{List}
-use native.Mathlib.Omega.{arith}
-use lib.ListN.{length, get_or, length-set}
-use lib.Seq.{get_or-set_other}
+use lib.ListN.{length, get_or}
 use Rattle.bitset.specs.Code.Members.{In}
-use Rattle.model.specs.Forms.{condition_number}
 use Rattle.model.specs.Code.Arrays.{value_in}
-use Rattle.words.proofs.Entries.{entries_more}
 use Rattle.sets.specs.Set.{MetAt}
-use Rattle.sets.specs.Code.Masks.{Failing}
-use Rattle.sets.proofs.Masks.{mask_met}
 use Rattle.sets.proofs.conditions.fill_masks.Given as goal
 
 -- the masks of condition c for the begins before x

@@ -1,17 +1,11 @@
 -- `sets::conditions::own_moments` meets its contract. The invariant: the mask has the moments before y at which the condition is met.
 -- Assumes nothing.
 use Prim.Native.Nat.{ℕ, ◌+◌, ◌-◌, ◌≤◌}
-use mathlib.Core.Path.{◌≡◌, sym, subst, ◌∙◌}
-use mathlib.Core.Bool.{Bool, true}
-use mathlib.Core.Logic.{◌↔◌, ⊎_elim}
-use native.Mathlib.Omega.{arith}
-use Rattle.bitset.specs.Code.Members.{In}
-use Rattle.bitset.proofs.Bools.{not_both}
-use Rattle.bitset.proofs.In.{in_none}
+use mathlib.Core.Path.{◌≡◌}
 use Rattle.model.specs.Forms.{HoldsBefore, HoldsAfter}
 use Rattle.sets.specs.Set.{MetAs}
 use Rattle.sets.specs.Code.Masks.{Failing}
-use Rattle.sets.proofs.Masks.{Before, turn_yes, turn_no}
+use Rattle.sets.proofs.Masks.{Before}
 use Rattle.sets.proofs.conditions.own_moments.Given as goal
 
 -- the moments before y at which a condition of the form is met

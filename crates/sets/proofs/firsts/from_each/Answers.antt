@@ -1,5 +1,5 @@
 -- `sets::firsts::from_each` meets its contract. The invariant: the placements are found in which a member before `last` ends last. Assumes nothing.
-use Prim.Native.Nat.{ℕ, ◌-◌, ◌≤◌, ◌<◌}
+use Prim.Native.Nat.{ℕ, ◌<◌}
 use mathlib.Core.Path.{◌≡◌, refl, sym, ◌∙◌, subst}
 use mathlib.Core.Logic.{by_cases}
 use native.Mathlib.Decide.{dec_lt}
@@ -7,8 +7,6 @@ use native.Mathlib.Omega.{arith}
 use Rattle.bitset.specs.Code.Members.{In}
 use Rattle.bitset.proofs.In.{in_zero}
 use Rattle.keeping.specs.Code.Tables.{pair_at}
-use Rattle.narrowing.specs.Code.Tables.{InTables, BoundsHave}
-use Rattle.ending.specs.Code.Search.{Masked, Grown}
 use Rattle.searching.proofs.Growth.{grown_none, grown_more, ready_as}
 use Rattle.sets.proofs.firsts.from_each.Goals as goal
 

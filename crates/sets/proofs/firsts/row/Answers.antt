@@ -1,12 +1,9 @@
 -- `sets::firsts::row` meets its contract. The invariant: the placements are found in which a member before `first` begins first. Assumes nothing.
-use Prim.Native.Nat.{ℕ, ◌-◌, ◌≤◌, ◌<◌}
+use Prim.Native.Nat.{ℕ}
 use mathlib.Core.Path.{◌≡◌, refl, sym, subst}
 use mathlib.Core.Logic.{by_cases}
 use native.Mathlib.Decide.{dec_lt}
 use native.Mathlib.Omega.{arith}
-use Rattle.bitset.specs.Code.Members.{In}
-use Rattle.ending.specs.Code.Search.{Masked, Grown}
-use Rattle.narrowing.specs.Code.Tables.{InTables, BoundsHave}
 use Rattle.searching.proofs.Growth.{grown_none, grown_more, ready_as}
 use Rattle.sets.proofs.firsts.row.Goals as goal
 

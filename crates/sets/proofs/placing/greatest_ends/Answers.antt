@@ -1,13 +1,10 @@
 -- `sets::placing::greatest_ends` meets its contract. Assumes nothing.
-use Prim.Native.Nat.{ℕ, ◌-◌, ◌≤◌, ◌<◌}
-use mathlib.Core.Path.{◌≡◌, refl}
-use mathlib.Core.List.{List}
+use mathlib.Core.Path.{refl}
 use native.Mathlib.Omega.{arith}
-use lib.ListN.{length, length-set}
+use lib.ListN.{length-set}
 use Rattle.words.proofs.Entries.{entries_more}
 use Rattle.bitset.specs.Code.Members.{Highest}
 use Rattle.covering.specs.Code.Cover.{entry_at}
-use Rattle.sets.proofs.placing.greatest_ends.Invariants.{Taken}
 use Rattle.sets.proofs.placing.greatest_ends.Goals as goal
 
 pub loop-i-init : goal.loop-i-init

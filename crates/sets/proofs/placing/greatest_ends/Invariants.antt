@@ -1,10 +1,8 @@
 -- `sets::placing::greatest_ends` meets its contract. Assumes nothing.
 use Prim.Native.Nat.{ℕ, ◌-◌, ◌≤◌, ◌<◌}
-use mathlib.Core.Path.{◌≡◌, refl}
+use mathlib.Core.Path.{◌≡◌}
 use mathlib.Core.List.{List}
-use native.Mathlib.Omega.{arith}
-use lib.ListN.{length, length-set}
-use Rattle.words.proofs.Entries.{entries_more}
+use lib.ListN.{length}
 use Rattle.bitset.specs.Code.Members.{Highest}
 use Rattle.covering.specs.Code.Cover.{entry_at}
 use Rattle.sets.proofs.placing.greatest_ends.Given as goal

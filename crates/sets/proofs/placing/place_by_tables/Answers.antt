@@ -4,7 +4,6 @@ use Prim.Native.Nat.{ℕ, ◌≤◌, ◌<◌}
 use mathlib.Core.Path.{refl, sym, subst}
 use native.Mathlib.Nat.{le_refl}
 use native.Mathlib.Omega.{arith}
-use mathlib.Core.List.{List}
 use lib.ListN.{length, length-map}
 use Rattle.words.specs.Fields.{member_node}
 use Rattle.bitset.specs.Code.Members.{In}
@@ -16,16 +15,6 @@ use Rattle.sets.proofs.Stored.{row-found, every-unpruned, no_begins}
 use Rattle.sets.proofs.placing.place_by_tables.Goals as goal
 use Rattle.sets.proofs.placing.place_by_tables.Goals.{After-fill, After-fill-2, After-row-found, Start}
 
--- the arrays as they are filled
-abbrev allow : After-fill → List ℕ
-allow t = t.fill.new.1.1.1.1.1.1.1.0
-
-abbrev ends : After-fill → List ℕ
-ends t = t.fill.new.1.1.1.1.1.1.1.1.0
-
-abbrev bounds : After-fill-2 → List ℕ
-bounds c = c.fill-2.new.1.1.1.1.1.0
-
 -- the sizes of the set
 few : (s : Start) → length s.args.members.now ≤ 4
 few s = omega (arith, s.requires.formed.few, length-map s.args.members.now member_node)
@@ -33,21 +22,21 @@ few s = omega (arith, s.requires.formed.few, length-map s.args.members.now membe
 moments : (s : Start) → (s.args.b ≤ s.args.e) × (s.args.e ≤ s.args.n) × (s.args.n < 64)
 moments s = let p = s.requires.rule.placing in (p.onward, p.within, s.requires.formed.moments)
 
-ready : (t : After-fill) → let a = (entry t).args in SearchReady a.conds.now (ends t) (length a.members.now) a.b a.e
-ready t = let a = (entry t).args in
-    subst (λ (k : ℕ). SearchReady a.conds.now (ends t) k a.b a.e) (length-map a.members.now member_node) t.fill.ensures.ready
+ready : (t : After-fill) → let a = t.args in SearchReady a.conds.now t.fill.new.ends (length a.members.now) a.b a.e
+ready t = let a = t.args in
+    subst (λ (k : ℕ). SearchReady a.conds.now t.fill.new.ends k a.b a.e) (length-map a.members.now member_node) t.fill.ensures.ready
 
 -- begins with which the set reads b to e
 begins : (c : After-row-found) → let a = c.args in
-    ReadsWith a.conds.now (allow c) (ends c) (length a.members.now) a.b a.e (entry_at c.row-found.result.begins-1)
+    ReadsWith a.conds.now c.fill.new.allow c.fill.new.ends (length a.members.now) a.b a.e (entry_at c.row-found.result.begins)
 begins c =
     let a = c.args in
     let g = c.row-found.ensures.0 in
-    let f = row-found (bounds c) _ c.row-found.result _ _ (length-map a.members.now member_node) c.fill.ensures (le_refl a.b) refl refl
+    let f = row-found c.fill-2.new.bounds _ c.row-found.result _ _ (length-map a.members.now member_node) c.fill.ensures (le_refl a.b) refl refl
     c.fill-2.ensures g c.row-found.ensures.1 in
     let found = f.finds a.e (le_refl a.e) ((in_single c.single-goal.ensures a.e).1 refl) c.requires.rule in
-    subst (λ (x : ℕ). ReadsWith a.conds.now (allow c) (ends c) (length a.members.now) a.b x (entry_at c.row-found.result.begins-1))
-    g.upto (g.begins-1 (λ z. in_zero refl z) (subst (λ (x : ℕ). In c.row-found.result.ends-1 x) (sym g.upto) found))
+    subst (λ (x : ℕ). ReadsWith a.conds.now c.fill.new.allow c.fill.new.ends (length a.members.now) a.b x (entry_at c.row-found.result.begins))
+    g.upto (g.begins (λ z. in_zero refl z) (subst (λ (x : ℕ). In c.row-found.result.ends x) (sym g.upto) found))
 
 pub fill-requires : goal.fill-requires
 fill-requires c =
@@ -84,8 +73,8 @@ greatest_ends-last-requires c =
 pub returns : goal.returns
 returns c =
     let a = c.args in
-    let bs = entry_at c.row-found.result.begins-1 in
+    let bs = entry_at c.row-found.result.begins in
     let es = entry_at c.greatest_ends-last.result in
     let top = top_ends (ready (goal.at.returns c).After-fill) c.ends_at-masks.ensures (begins (goal.at.returns c).After-row-found).masked c.greatest_ends-last.ensures in
     c.fill.ensures.reads a.b a.e bs es (le_refl a.b) (le_refl a.e)
-    (subst (λ (x : ℕ). Masked a.conds.now (allow (goal.at.returns c).After-fill) (ends (goal.at.returns c).After-fill) x a.b a.e bs es) (sym (length-map a.members.now member_node)) top)
+    (subst (λ (x : ℕ). Masked a.conds.now c.fill.new.allow c.fill.new.ends x a.b a.e bs es) (sym (length-map a.members.now member_node)) top)

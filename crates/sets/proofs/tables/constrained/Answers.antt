@@ -1,8 +1,7 @@
 -- `sets::tables::constrained` meets its contract. Assumes nothing.
-use Prim.Native.Nat.{ℕ, ◌-◌, ◌≤◌, ◌<◌}
+use Prim.Native.Nat.{ℕ, ◌<◌}
 use mathlib.Core.Path.{sym, subst}
 use native.Mathlib.Omega.{arith}
-use lib.ListN.{length}
 use Rattle.model.specs.Forms.{condition_number}
 use Rattle.ending.proofs.Conditions.{partner-less}
 use Rattle.sets.proofs.tables.constrained.Goals as goal

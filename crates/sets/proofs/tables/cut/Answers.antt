@@ -1,13 +1,11 @@
 -- `sets::tables::cut` meets its contract. The invariant: the masks before y are cut, and none is cut more. Assumes nothing.
-use Prim.Native.Nat.{ℕ, ◌+◌, ◌-◌, ◌*◌, ◌≤◌}
-use mathlib.Core.Path.{◌≡◌, subst}
-use mathlib.Core.List.{List}
+use Prim.Native.Nat.{ℕ, ◌+◌, ◌*◌}
+use mathlib.Core.Path.{subst}
 use native.Mathlib.Omega.{arith}
 use lib.ListN.{get_or}
 use Rattle.bitset.specs.Code.Members.{In}
 use Rattle.bitset.proofs.In.{in_both}
 use Rattle.sets.proofs.Pairs.{in_kept}
-use Rattle.sets.proofs.tables.cut.Invariants.{CutTo}
 use Rattle.sets.proofs.tables.cut.Goals as goal
 
 pub loop-y-init : goal.loop-y-init

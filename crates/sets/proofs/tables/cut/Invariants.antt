@@ -1,12 +1,9 @@
 -- `sets::tables::cut` meets its contract. The invariant: the masks before y are cut, and none is cut more. Assumes nothing.
 use Prim.Native.Nat.{ℕ, ◌+◌, ◌-◌, ◌*◌, ◌≤◌}
-use mathlib.Core.Path.{◌≡◌, subst}
+use mathlib.Core.Path.{◌≡◌}
 use mathlib.Core.List.{List}
-use native.Mathlib.Omega.{arith}
 use lib.ListN.{get_or}
 use Rattle.bitset.specs.Code.Members.{In}
-use Rattle.bitset.proofs.In.{in_both}
-use Rattle.sets.proofs.Pairs.{in_kept}
 use Rattle.sets.proofs.tables.cut.Given as goal
 
 -- the row is cut from a to before y

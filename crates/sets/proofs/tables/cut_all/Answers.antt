@@ -1,10 +1,5 @@
 -- `sets::tables::cut_all` meets its contract. The invariant: what the conditions before c leave is in the tables. Assumes nothing.
-use Prim.Native.Nat.{ℕ, ◌-◌, ◌≤◌, ◌<◌}
 use native.Mathlib.Omega.{arith}
-use lib.ListN.{length, get_or}
-use Rattle.words.specs.Fields.{condition_i, condition_j}
-use Rattle.ending.specs.Code.Ends.{MetByMask}
-use Rattle.sets.specs.Code.Tables.{Have, InSpan}
 use Rattle.sets.proofs.tables.cut_all.Goals as goal
 
 pub loop-c-init : goal.loop-c-init

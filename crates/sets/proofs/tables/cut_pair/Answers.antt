@@ -1,15 +1,12 @@
 -- `sets::tables::cut_pair` meets its contract. The invariant: the tables have what they had of each placement, and no end more. Assumes nothing.
-use Prim.Native.Nat.{ℕ, ◌+◌, ◌-◌, ◌*◌, ◌≤◌, ◌<◌}
+use Prim.Native.Nat.{ℕ, ◌+◌, ◌*◌}
 use mathlib.Core.Path.{subst}
 use mathlib.Core.Logic.{◌↔◌}
-use mathlib.Core.List.{List}
 use native.Mathlib.Omega.{arith}
 use lib.ListN.{get_or}
 use Rattle.bitset.specs.Code.Members.{In}
 use Rattle.bitset.proofs.In.{in_both}
-use Rattle.sets.specs.Code.Tables.{LeftOut}
 use Rattle.sets.proofs.Pairs.{pair_more, fewer_more, left_none}
-use Rattle.sets.proofs.tables.cut_pair.Invariants.{PairsCut}
 use Rattle.sets.proofs.tables.cut_pair.Goals as goal
 
 pub loop-x-init : goal.loop-x-init

@@ -1,9 +1,7 @@
 -- `sets::tables::cut_pairs` meets its contract. The invariant: the tables have what they had of each placement, and no end more. Assumes
 -- nothing.
-use native.Mathlib.Omega.{arith}
 use Rattle.bitset.specs.Code.Members.{pop_count}
 use Rattle.sets.specs.Code.Tables.{LeftOut}
-use Rattle.sets.proofs.Pairs.{left_none}
 use Rattle.sets.proofs.tables.cut_pairs.Given as goal
 
 abbrev pub invariant-loop-rest : goal.invariant-loop-rest

@@ -1,14 +1,12 @@
 -- `sets::tables::fill_later` meets its contract. The invariant: the masks of the members before i are right. Assumes nothing.
-use Prim.Native.Nat.{ℕ, ◌+◌, ◌-◌, ◌*◌, ◌≤◌, ◌<◌}
+use Prim.Native.Nat.{ℕ, ◌+◌, ◌*◌}
 use mathlib.Core.Path.{◌≡◌, sym, subst}
 use mathlib.Core.Logic.{by_cases}
-use mathlib.Core.List.{List}
 use native.Mathlib.Decide.{dec_lt}
 use native.Mathlib.Omega.{arith}
-use lib.ListN.{length, get_or}
+use lib.ListN.{get_or}
 use Rattle.bitset.specs.Code.Members.{In}
 use Rattle.keeping.specs.Code.Tables.{pair_at}
-use Rattle.sets.proofs.tables.fill_later.Invariants.{LaterTo}
 use Rattle.sets.proofs.tables.fill_later.Goals as goal
 
 pub loop-i-init : goal.loop-i-init

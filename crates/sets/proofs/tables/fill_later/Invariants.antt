@@ -1,10 +1,7 @@
 -- `sets::tables::fill_later` meets its contract. The invariant: the masks of the members before i are right. Assumes nothing.
 use Prim.Native.Nat.{ℕ, ◌+◌, ◌-◌, ◌*◌, ◌≤◌, ◌<◌}
-use mathlib.Core.Path.{◌≡◌, sym, subst}
-use mathlib.Core.Logic.{by_cases}
+use mathlib.Core.Path.{◌≡◌}
 use mathlib.Core.List.{List}
-use native.Mathlib.Decide.{dec_lt}
-use native.Mathlib.Omega.{arith}
 use lib.ListN.{length, get_or}
 use Rattle.bitset.specs.Code.Members.{In}
 use Rattle.keeping.specs.Code.Tables.{pair_at}

@@ -1,18 +1,16 @@
 -- `sets::tables::fill_later_row` meets its contract. The invariant: `all` and the masks from x on have the ends begun from there on. Assumes
 -- nothing.
-use Prim.Native.Nat.{ℕ, ◌+◌, ◌-◌, ◌*◌, ◌≤◌, ◌<◌}
-use mathlib.Core.Path.{◌≡◌, refl, subst, ◌∙◌}
+use Prim.Native.Nat.{ℕ, ◌+◌, ◌-◌, ◌*◌, ◌≤◌}
+use mathlib.Core.Path.{refl, subst, ◌∙◌}
 use mathlib.Core.Logic.{inl, inr, by_cases}
-use mathlib.Core.List.{List}
 use native.Mathlib.Decide.{ℕ_discrete}
 use native.Mathlib.Omega.{arith}
-use lib.ListN.{length, get_or, length-set}
+use lib.ListN.{length-set}
 use lib.Seq.{get_or-set_other}
 use Rattle.bitset.specs.Code.Members.{In}
 use Rattle.bitset.proofs.In.{in_union}
 use Rattle.keeping.specs.Code.Tables.{pair_at}
 use Rattle.words.proofs.Entries.{entry_set}
-use Rattle.sets.proofs.tables.fill_later_row.Invariants.{Later}
 use Rattle.sets.proofs.tables.fill_later_row.Goals as goal
 
 pub loop-x-init : goal.loop-x-init

@@ -1,17 +1,11 @@
 -- `sets::tables::fill_later_row` meets its contract. The invariant: `all` and the masks from x on have the ends begun from there on. Assumes
 -- nothing.
-use Prim.Native.Nat.{ℕ, ◌+◌, ◌-◌, ◌*◌, ◌≤◌, ◌<◌}
-use mathlib.Core.Path.{◌≡◌, refl, subst, ◌∙◌}
-use mathlib.Core.Logic.{inl, inr, by_cases}
+use Prim.Native.Nat.{ℕ, ◌+◌, ◌*◌, ◌≤◌, ◌<◌}
+use mathlib.Core.Path.{◌≡◌}
 use mathlib.Core.List.{List}
-use native.Mathlib.Decide.{ℕ_discrete}
-use native.Mathlib.Omega.{arith}
-use lib.ListN.{length, get_or, length-set}
-use lib.Seq.{get_or-set_other}
+use lib.ListN.{length, get_or}
 use Rattle.bitset.specs.Code.Members.{In}
-use Rattle.bitset.proofs.In.{in_union}
 use Rattle.keeping.specs.Code.Tables.{pair_at}
-use Rattle.words.proofs.Entries.{entry_set}
 use Rattle.sets.proofs.tables.fill_later_row.Given as goal
 
 -- `all` and the masks from x on have the ends begun from there on

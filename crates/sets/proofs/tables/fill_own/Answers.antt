@@ -1,8 +1,5 @@
 -- `sets::tables::fill_own` meets its contract. The invariant: the rows of the members before i are right. Assumes nothing.
-use Prim.Native.Nat.{◌-◌, ◌≤◌}
 use native.Mathlib.Omega.{arith}
-use lib.ListN.{length}
-use Rattle.sets.specs.Code.Tables.{OwnRows}
 use Rattle.sets.proofs.Pairs.{own_rows_more}
 use Rattle.sets.proofs.tables.fill_own.Goals as goal
 

@@ -1,11 +1,8 @@
 -- `sets::tables::fill_own_row` meets its contract. The invariant: the row is right before x. Assumes nothing.
 use Prim.Native.Nat.{ℕ, ◌+◌, ◌-◌, ◌≤◌}
-use mathlib.Core.Path.{refl}
 use mathlib.Core.List.{List}
-use native.Mathlib.Omega.{arith}
 use Rattle.model.specs.Code.Table.{InTable}
 use Rattle.sets.specs.Code.Tables.{OwnRow}
-use Rattle.sets.proofs.Pairs.{own_more}
 use Rattle.sets.proofs.tables.fill_own_row.Given as goal
 
 -- the row is right before x

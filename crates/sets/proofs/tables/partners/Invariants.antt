@@ -1,14 +1,8 @@
 -- `sets::tables::partners` meets its contract. The invariant: a begin with which both may end is one of r's, or one that is left. Assumes
 -- nothing.
 use Prim.Native.Nat.{ℕ}
-use mathlib.Core.Path.{◌≡◌, subst}
-use mathlib.Core.Logic.{◌⊎◌, inl, inr, by_cases, ⊎_elim}
-use mathlib.Core.List.{List}
-use native.Mathlib.Decide.{ℕ_discrete}
-use native.Mathlib.Omega.{arith}
+use mathlib.Core.Logic.{◌⊎◌}
 use Rattle.bitset.specs.Code.Members.{In, pop_count}
-use Rattle.bitset.proofs.Bools.{not_both}
-use Rattle.bitset.proofs.In.{in_union, in_single, in_without, in_zero}
 use Rattle.keeping.specs.Code.Tables.{pair_at}
 use Rattle.sets.proofs.tables.partners.Given as goal
 

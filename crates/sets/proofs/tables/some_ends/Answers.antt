@@ -1,10 +1,10 @@
 -- `sets::tables::some_ends` meets its contract. The invariant: an end where j begins at y is one of r's, or y is left. Assumes nothing.
 use Prim.Native.Nat.{ℕ}
 use mathlib.Core.Path.{subst}
-use mathlib.Core.Logic.{◌⊎◌, inl, inr, by_cases, ⊎_elim}
+use mathlib.Core.Logic.{inl, inr, by_cases, ⊎_elim}
 use native.Mathlib.Decide.{ℕ_discrete}
 use native.Mathlib.Omega.{arith}
-use Rattle.bitset.specs.Code.Members.{In, pop_count}
+use Rattle.bitset.specs.Code.Members.{In}
 use Rattle.bitset.proofs.In.{in_union, in_without, in_zero}
 use Rattle.keeping.specs.Code.Tables.{pair_at}
 use Rattle.sets.proofs.tables.some_ends.Goals as goal
