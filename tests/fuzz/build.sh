@@ -23,35 +23,29 @@ need_clang() {
     apt-get update && apt-get install -y --no-install-recommends clang libclang-rt-14-dev
 }
 
-# Makes a folder like the kit's, whose clang compiles each module twice: as the kit does, and with counters to OBJECT,
-# an absolute path.
-counting_kit() { # FOLDER OBJECT
-    kit=$(dirname "$(dirname "$(rt doc)")")
-    own=on/$(uname -m)
+# Makes a folder like the kit's toolchain, whose clang compiles each module twice: as the kit's does, and with counters
+# to OBJECT, an absolute path.
+counting_toolchain() { # FOLDER OBJECT
+    kit=$(dirname "$(rt doc)")/toolchain
     rm -rf "$1"
-    mkdir -p "$1/$own/toolchain/bin"
-    for part in "$kit"/* "$kit/$own"/* "$kit/$own/toolchain"/* "$kit/$own/toolchain/bin"/*; do
+    mkdir -p "$1/bin"
+    for part in "$kit"/* "$kit"/bin/*; do
         here=$1/${part#"$kit"/}
         [ -e "$here" ] || ln -s "$part" "$here"
     done
-    mkdir "$1/$own/toolchain/uncounted"
-    mv "$1/$own/toolchain/bin/clang" "$1/$own/toolchain/uncounted/clang"
-    cat >"$1/$own/toolchain/bin/clang" <<WRAPPER
+    rm "$1/bin/clang"
+    cat >"$1/bin/clang" <<WRAPPER
 #!/bin/sh
-clang=\$(dirname "\$0")/../uncounted/clang
-"\$clang" "\$@" && exec "\$clang" "\$@" -fsanitize-coverage=inline-8bit-counters,pc-table -o '$2'
+'$kit/bin/clang' "\$@" && exec '$kit/bin/clang' "\$@" -fsanitize-coverage=inline-8bit-counters,pc-table -o '$2'
 WRAPPER
-    chmod +x "$1/$own/toolchain/bin/clang"
+    chmod +x "$1/bin/clang"
 }
 
-# Writes the proved module with counters to target/fuzz/counted.o, beside libplanreader.a.
+# Writes the proved module with counters to target/fuzz/counted.o, beside an archive without.
 build_counted() {
-    counting_kit target/fuzz/kit "$(pwd)/target/fuzz/counted.o"
+    counting_toolchain target/fuzz/toolchain "$(pwd)/target/fuzz/counted.o"
     rm -f target/fuzz/counted.o
-    RATTLE_HOME=$(pwd)/target/fuzz/kit rt staticlib planreader >target/fuzz/staticlib.log 2>&1 || {
-        cat target/fuzz/staticlib.log
-        return 1
-    }
+    tools/build --by target/fuzz/toolchain target/fuzz/uncounted.a
 }
 
 build_fuzzer() {

@@ -1,7 +1,10 @@
 """The list of mutants, and a mutant's copy of its crate."""
+import contextlib
 import shutil
 import sys
+import tempfile
 from dataclasses import dataclass, field
+from pathlib import Path
 
 from build import ROOT
 
@@ -14,15 +17,18 @@ class Mutant:
     speed: bool = False
     edits: list = field(default_factory=list)  # of file, old text, new text
 
-    def copy_to(self, folder):
-        """Makes a copy of the crate with the edits."""
-        shutil.rmtree(folder, ignore_errors=True)
-        shutil.copytree(ROOT / "crates" / self.crate, folder, ignore=shutil.ignore_patterns("must-fail"))
-        for file, old, new in self.edits:
-            text = (folder / file).read_text()
-            if text.count(old) != 1:
-                sys.exit(f"{self.name}: the old text is {text.count(old)} times in {file}: {old}")
-            (folder / file).write_text(text.replace(old, new))
+    @contextlib.contextmanager
+    def copied(self):
+        """Gives the folder of a copy of the crate with the edits, outside the repository, where `rt ci` wants no other sources."""
+        with tempfile.TemporaryDirectory() as room:
+            folder = Path(room).resolve() / self.crate
+            shutil.copytree(ROOT / "crates" / self.crate, folder, ignore=shutil.ignore_patterns("must-fail", "out"))
+            for file, old, new in self.edits:
+                text = (folder / file).read_text()
+                if text.count(old) != 1:
+                    sys.exit(f"{self.name}: the old text is {text.count(old)} times in {file}: {old}")
+                (folder / file).write_text(text.replace(old, new))
+            yield folder
 
 
 def read():

@@ -2,7 +2,8 @@
 import re
 import subprocess
 
-from build import ROOT, TARGET, WORK
+from build import WORK, run
+from kit import CRATES
 
 # The kinds of errors, the gravest first, and what an error of the kind says.
 KINDS = {
@@ -16,39 +17,34 @@ KINDS = {
 
 
 def prove_below(kit, todo):
-    """Proves the crates that the mutants' crates cite, if they are not proved yet."""
-    below = {dep for mutant in todo for dep in kit.crates[mutant.crate] if dep in kit.crates}
-    if below:
-        subprocess.run(["rt", "check", *sorted(below)], cwd=ROOT, check=True, stdout=subprocess.DEVNULL)
+    """Proves the mutants' crates, and with them the crates below, if they are not proved yet."""
+    for crate in dict.fromkeys(mutant.crate for mutant in todo):
+        run(["rt", "check"], cwd=CRATES / crate, stdout=subprocess.DEVNULL)
 
 
-def verdict(kit, mutant, folder):
+def verdict(kit, mutant, sources, folder):
     """Checks the copy, and keeps what the prover says in prover.log. The crate as it is was checked first, so that only
     what the mutant changes is checked anew; one that gets through is checked once more, from nothing."""
     kept = WORK / "incremental" / mutant.crate
     if not kept.exists():
         kept.mkdir(parents=True)
-        checked(kit, mutant.crate, ROOT / "crates" / mutant.crate, ["--incremental", str(kept)])
-    status, log = checked(kit, mutant.crate, folder, ["--incremental", str(kept)])
+        checked(kit, mutant.crate, CRATES / mutant.crate, ["--incremental", kept])
+    status, log = checked(kit, mutant.crate, sources, ["--incremental", kept])
     if status == 0 and "incremental=trusted" in log:
-        status, log = checked(kit, mutant.crate, folder, [])
+        status, log = checked(kit, mutant.crate, sources, [])
     (folder / "prover.log").write_text(log)
     if status == 0 and "logic=proved" in log:
         adapted = any(file.startswith("proofs/") for file, _, _ in mutant.edits)
         return "lets it through" + (", its proof adapted" if adapted else "")
     if status == 1 and "logic=not-proved" in log:
-        return "refuses: " + first_error(log.replace(f"{folder}/", ""))
+        return "refuses: " + first_error(log.replace(f"{sources}/", ""))
     return "NOT A MUTANT: does not reach the prover"
 
 
 def checked(kit, crate, folder, more):
     """Runs `rattle check` on a crate as rt does. Returns its status and what it says."""
-    words = [str(kit.own / "bin" / "rattle"), "check", "--crate-name", crate, str(folder / "src" / "lib.rt")]
-    for dep in ["std", *kit.crates[crate]]:
-        words += ["--extern", f"{dep}={(TARGET if dep in kit.crates else kit.own) / 'rlib' / dep}.rlib"]
-    words += ["-L", f"dependency={TARGET / 'rlib'}", "-L", f"dependency={kit.own / 'rlib'}", *more]
-    words += ["--antt-project", f"{kit.home}/logic/antt-project.json", "--logic-built", f"{kit.own}/logic-built"]
-    ran = subprocess.run(words, stdout=subprocess.PIPE, stderr=subprocess.STDOUT, text=True)
+    words = [kit.home / "bin/rattle", "check", "--crate-name", crate, "src/lib.rt", *kit.over_libraries(crate), "--links", f"{crate}=", *more]
+    ran = subprocess.run([str(word) for word in words], cwd=folder, stdout=subprocess.PIPE, stderr=subprocess.STDOUT, text=True)
     return ran.returncode, ran.stdout
 
 

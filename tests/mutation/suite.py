@@ -75,18 +75,18 @@ class Suite:
         names = [name for name in TESTS[what] if speed or name != "bench"]
         return next(filter(None, (failure(name, self.words[name], folder) for name in names)), None)
 
-    def verdict(self, mutant, folder):
+    def verdict(self, mutant, sources, folder):
         """Builds the library and the program if the mutant is in them, and tests what is other code than the plain."""
         tested = False
         for what in TESTS:
-            root, archive = what
+            root, made = what
             if mutant.crate not in self.kit.reached(root):
                 continue
             try:
-                self.kit.build(what, folder, mutant.crate)
+                self.kit.build(what, folder, mutant.crate, sources)
             except subprocess.CalledProcessError:
                 return "NOT A MUTANT: does not build"
-            if not filecmp.cmp(folder / archive, self.plain / archive, shallow=False):
+            if not filecmp.cmp(folder / made, self.plain / made, shallow=False):
                 tested = True
                 found = self.first_failure(what, folder, mutant.speed)
                 if found:

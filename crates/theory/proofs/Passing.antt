@@ -10,7 +10,7 @@ use Rattle.job.specs.declared.Index.{Index}
 use Rattle.job.specs.Refusal.{job_refusal}
 use Rattle.job.specs.Code.Index.{places_upto, index_upto, checked_of}
 use Rattle.words.specs.Fields.{fact_room}
-use Rattle.job.specs.Parts.{head_word, total, node_count}
+use Rattle.job.specs.Parts.{head_word, node_count}
 use Rattle.job.specs.Code.Parts.{formula_count}
 use Rattle.job.specs.Code.WellFormed.{WellFormed, Indexed}
 use Rattle.job.proofs.WellFormed.{well_formed}

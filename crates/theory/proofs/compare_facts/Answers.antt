@@ -9,14 +9,15 @@ use Rattle.words.specs.Fields.{fluents_of}
 use Rattle.job.specs.Parts.{last_moment}
 use Rattle.history.specs.Code.Tables.{History}
 use Rattle.facts.specs.Facts.{facts_of}
-use Rattle.facts.specs.Code.Written.{row_facts, rows_facts}
+use Rattle.facts.specs.Code.Written.{row_facts}
 use Rattle.facts.proofs.Lists.{row-most, rows_none, rows_first, rows_facts_lem}
 use Rattle.answers.specs.declared.Refusal.{Refusal}
 use Rattle.theory.specs.Answers.{facts_refusal}
 use Rattle.theory.specs.Code.Compared.{part_refusal}
 use Rattle.theory.proofs.Laws.{part_refuses, part_passes, part_inside, rest_none, rest_some, filled_front}
 use Rattle.theory.proofs.compare_facts.Goals as goal
-use Rattle.theory.proofs.compare_facts.Goals.{After-row_facts-n, Else-part-ne0}
+use Rattle.theory.proofs.compare_facts.Invariants.{rest}
+use Rattle.theory.proofs.compare_facts.Goals.{After-compare_part-part, After-loop-t, After-row_facts-n}
 
 -- those of the first of these moments, then the others; all of them, by the history of a plan
 split : (job history : List ℕ) (last t : ℕ) → t ≤ last → rest job history last t ≡ row_facts history (get_or job 0 0) t (fluents_of (get_or job 0 0)) ++ rest job history last (t + 1)
@@ -36,29 +37,29 @@ row_facts-n-requires c =
     let well = c.requires in
     (well, omega (arith, c.loop-t-test.true, c.last_of-last.ensures.0), omega (arith, well.few_fluents, c.loop-t.invariant.size))
 
-row-size : (c : After-row_facts-n) → length c.row_facts-n.new.1.1.1.0 ≡ 256
+row-size : (c : After-row_facts-n) → length c.row_facts-n.new.row ≡ 256
 row-size c = ap length c.row_facts-n.ensures.held ∙ simp length-sets c.loop-t.invariant.size
 
 -- the facts of a moment stand in front of the row
-front : (c : tie.After-row-facts invariant-loop decreases-loop)
+front : (c : After-compare_part-part)
     → let a = c.args in
-    take c.row-facts.result c.row-facts.new.1.1.1.0 ≡ row_facts a.history.now (get_or a.job.now 0 0) c.loop.t (fluents_of (get_or a.job.now 0 0))
+    take c.row_facts-n.result c.row_facts-n.new.row ≡ row_facts a.history.now (get_or a.job.now 0 0) c.loop-t.t (fluents_of (get_or a.job.now 0 0))
 front c =
-    let most = row-most c.args.history.now (get_or c.args.job.now 0 0) c.loop.t (fluents_of (get_or c.args.job.now 0 0)) in
-    (filled_front c.row-facts.ensures (omega (arith, c.pre.few_fluents, c.loop.invariant.size))).0
+    let most = row-most c.args.history.now (get_or c.args.job.now 0 0) c.loop-t.t (fluents_of (get_or c.args.job.now 0 0)) in
+    (filled_front c.row_facts-n.ensures (omega (arith, c.requires.few_fluents, c.loop-t.invariant.size))).0
 
-fits : (c : After-row_facts-n) → c.row_facts-n.result ≤ length c.row_facts-n.new.1.1.1.0
+fits : (c : After-row_facts-n) → c.row_facts-n.result ≤ length c.row_facts-n.new.row
 fits c =
     let most = row-most c.args.history.now (get_or c.args.job.now 0 0) c.loop-t.t (fluents_of (get_or c.args.job.now 0 0)) in
     omega (arith, c.row_facts-n.ensures.count, c.requires.few_fluents, c.loop-t.invariant.size, row-size c)
 
 -- what the comparison gives, by the history
-compared : (c : tie.After-compare-part invariant-loop decreases-loop)
-    → let s = c.args in let at = c.loop in
-    c.compare-part.result ≡ part_refusal (drop at.at s.given.now) (row_facts s.history.now (get_or s.job.now 0 0) at.t (fluents_of (get_or s.job.now 0 0))) at.at
+compared : (c : After-compare_part-part)
+    → let s = c.args in let at = c.loop-t in
+    c.compare_part-part.result ≡ part_refusal (drop at.at s.given.now) (row_facts s.history.now (get_or s.job.now 0 0) at.t (fluents_of (get_or s.job.now 0 0))) at.at
 compared c =
-    let at = c.loop in
-    c.compare-part.ensures ∙ ap (λ (l : List ℕ). part_refusal (drop at.at c.args.given.now) l at.at) (front c)
+    let at = c.loop-t in
+    c.compare_part-part.ensures ∙ ap (λ (l : List ℕ). part_refusal (drop at.at c.args.given.now) l at.at) (front c)
 
 pub loop-t-init : goal.loop-t-init
 loop-t-init c = record { bound = omega arith; size = refl; inside = omega arith; left = refl }
@@ -67,7 +68,7 @@ pub returns-then-part-ne0 : goal.returns-then-part-ne0
 returns-then-part-ne0 c starts h =
     let a = c.args in
     let at = c.loop-t in
-    let is = compared c in
+    let is = compared (goal.at.returns-then-part-ne0 c).After-compare_part-part in
     is
     ∙ part_refuses a.given.now _ (rest a.job.now a.history.now c.last_of-last.result (at.t + 1)) at.at (λ z. c.if-part-ne0.true (ap (λ (r : Refusal). r.number) is ∙ z))
     ∙ ap (λ (l : List ℕ). facts_refusal (drop at.at a.given.now) l at.at) (sym (split a.job.now a.history.now c.last_of-last.result at.t c.loop-t-test.true))
@@ -75,10 +76,19 @@ returns-then-part-ne0 c starts h =
     ∙ ap (λ (l : List ℕ). facts_refusal a.given.now l 0) (all c.last_of-last.result c.last_of-last.ensures.0 h)
 
 -- past a moment whose facts are the given ones
-passing : (c : tie.Else1 invariant-loop decreases-loop)
-    → let s = c.args in let at = c.loop in
+passing : (c : After-compare_part-part)
+    → c.compare_part-part.result.number ≡ 0
+    → let s = c.args in let at = c.loop-t in
     (part_refusal (drop at.at s.given.now) (row_facts s.history.now (get_or s.job.now 0 0) at.t (fluents_of (get_or s.job.now 0 0))) at.at).number ≡ 0
-passing c = sym (ap (λ (r : Refusal). r.number) (compared c)) ∙ c.if1.false
+passing c z = sym (ap (λ (r : Refusal). r.number) (compared c)) ∙ z
+
+inside : (c : After-compare_part-part)
+    → c.compare_part-part.result.number ≡ 0
+    → c.loop-t.at + c.row_facts-n.result ≤ length c.args.given.now
+inside c z =
+    let old = c.loop-t.invariant.inside in
+    let given = c.args.given.now in
+    omega (arith, c.row_facts-n.ensures.count, part_inside (drop c.loop-t.at given) _ _ (passing c z), length-drop c.loop-t.at given)
 
 pub loop-t-preserved : goal.loop-t-preserved
 loop-t-preserved c =
@@ -87,31 +97,30 @@ loop-t-preserved c =
     record {
       bound = omega (arith, c.loop-t-test.true);
       size = row-size (goal.at.loop-t-preserved c).After-row_facts-n;
-      inside = inside (goal.at.loop-t-preserved c).Else-part-ne0;
+      inside = inside (goal.at.loop-t-preserved c).After-compare_part-part c.if-part-ne0.false;
       left =
           at.invariant.left
           ∙ ap (λ (l : List ℕ). facts_refusal (drop at.at a.given.now) l at.at) (split a.job.now a.history.now c.last_of-last.result at.t c.loop-t-test.true)
-          ∙ part_passes a.given.now _ _ at.at (passing c)
+          ∙ part_passes a.given.now _ _ at.at (passing (goal.at.loop-t-preserved c).After-compare_part-part c.if-part-ne0.false)
           ∙ ap (λ (n : ℕ). facts_refusal (drop (at.at + n) a.given.now) (rest a.job.now a.history.now c.last_of-last.result (at.t + 1)) (at.at + n)) (sym c.row_facts-n.ensures.count);
     }
 
 -- after the last moment row 11 is left to what stands after its facts
-ended : (l : tie.After-loop invariant-loop decreases-loop) (starts : List ℕ)
-    → let p = l in let a = p.args in
-    History a.job.now starts a.history.now → facts_refusal (drop p.loop.at a.given.now) [] p.loop.at ≡ facts_refusal a.given.now (facts_of a.job.now starts) 0
-ended l starts h =
-    let p = l in
-    let a = p.args in
-    let last = p.last_of.result in
-    let e : p.loop.t ≡ last + 1 = omega (arith, l.loop-test.false, p.loop.invariant.bound) in
-    ap (λ (l : List ℕ). facts_refusal (drop p.loop.at a.given.now) l p.loop.at) (sym (none_left a.job.now a.history.now last p.loop.t e))
-    ∙ sym p.loop.invariant.left ∙ ap (λ (l : List ℕ). facts_refusal a.given.now l 0) (all last p.last_of.ensures.0 h)
+ended : (c : After-loop-t) (starts : List ℕ)
+    → let a = c.args in
+    History a.job.now starts a.history.now → facts_refusal (drop c.loop-t.at a.given.now) [] c.loop-t.at ≡ facts_refusal a.given.now (facts_of a.job.now starts) 0
+ended c starts h =
+    let a = c.args in
+    let last = c.last_of-last.result in
+    let e : c.loop-t.t ≡ last + 1 = omega (arith, c.loop-t-test.false, c.loop-t.invariant.bound) in
+    ap (λ (fs : List ℕ). facts_refusal (drop c.loop-t.at a.given.now) fs c.loop-t.at) (sym (none_left a.job.now a.history.now last c.loop-t.t e))
+    ∙ sym c.loop-t.invariant.left ∙ ap (λ (fs : List ℕ). facts_refusal a.given.now fs 0) (all last c.last_of-last.ensures.0 h)
 
 pub returns-then-at-given : goal.returns-then-at-given
-returns-then-at-given c starts h = c.refuse.ensures ∙ sym (rest_some _ _ c.if-at-given.true) ∙ ended c starts h
+returns-then-at-given c starts h = c.refuse.ensures ∙ sym (rest_some _ _ c.if-at-given.true) ∙ ended (goal.at.returns-then-at-given c).After-loop-t starts h
 
 pub returns : goal.returns
-returns c starts h = c.none.ensures ∙ sym (rest_none _ _ c.if-at-given.false) ∙ ended c starts h
+returns c starts h = c.none.ensures ∙ sym (rest_none _ _ c.if-at-given.false) ∙ ended (goal.at.returns c).After-loop-t starts h
 
 pub bounds-job-0 : goal.bounds-job-0
 bounds-job-0 c = c.requires.some
@@ -129,4 +138,4 @@ pub compare_part-part-requires : goal.compare_part-part-requires
 compare_part-part-requires c = c.loop-t.invariant.inside
 
 pub overflow_add-at : goal.overflow_add-at
-overflow_add-at c = record { fits = omega (arith, inside (goal.at.overflow_add-at c).Else-part-ne0) }
+overflow_add-at c = record { fits = omega (arith, inside (goal.at.overflow_add-at c).After-compare_part-part c.if-part-ne0.false) }

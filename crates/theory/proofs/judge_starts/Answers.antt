@@ -15,17 +15,18 @@ use Rattle.theory.specs.Answers.{plan_refusal}
 use Rattle.answers.proofs.Rows.{or_passed}
 use Rattle.theory.proofs.Passing.{actions-indexed}
 use Rattle.theory.proofs.judge_starts.Goals as goal
+use Rattle.theory.proofs.judge_starts.Goals.{After-law_ends-ends, After-places-2-1, Else-times-ne0, Start}
 
 -- words are of 32 bits
-words : (c : tie.After-places2) (i : ℕ) → get_or c.args.starts.now i 0 < 2 ^ 32
-words c i = omega (arith, c.shared-slice-known2.given i)
+words : (c : After-places-2-1) (i : ℕ) → get_or c.args.starts.now i 0 < 2 ^ 32
+words c i = omega (arith, c.shared_slice_known-2-1.given i)
 
 -- row 6 fits no start
-starting : (c : tie.Else1) → StartsFormed c.args.job.now c.args.starts.now
-starting c = times_passed c.check-times.ensures c.if1.false
+starting : (c : Else-times-ne0) → StartsFormed c.args.job.now c.args.starts.now
+starting c = times_passed c.check_times-times.ensures c.if-times-ne0.false
 
 -- rows 1 to 5 pass, so that the rows on starts are the answer
-starts-rows : (s : tie.Start) → starts_refusal s.args.job.now s.args.starts.now ≡ plan_refusal s.args.job.now s.args.starts.now
+starts-rows : (s : Start) → starts_refusal s.args.job.now s.args.starts.now ≡ plan_refusal s.args.job.now s.args.starts.now
 unfolding plan_refusal
 starts-rows s = or_passed (job_refusal s.args.job.now) (starts_refusal s.args.job.now s.args.starts.now) s.requires.good
 
@@ -38,9 +39,9 @@ law_ends-ends-requires c =
     (well_formed _ c.requires.good, actions-indexed _ c.requires.good c.requires.index)
 
 -- the laws of the job's actions
-ruled : (c : tie.After-law-ends) → Ruled c.args.job.now c.args.index.actions.position c.law-ends.result
+ruled : (c : After-law_ends-ends) → Ruled c.args.job.now c.args.index.actions.position c.law_ends-ends.result
 ruled c =
-    record { formed = well_formed _ c.pre.good; indexed = actions-indexed _ c.pre.good c.pre.index; laws = c.law-ends.ensures }
+    record { formed = well_formed _ c.requires.good; indexed = actions-indexed _ c.requires.good c.requires.index; laws = c.law_ends-ends.ensures }
 
 pub check_times-times-requires : goal.check_times-times-requires
 check_times-times-requires c =
@@ -53,42 +54,42 @@ check_times-times-requires c =
 pub returns-then-times-ne0 : goal.returns-then-times-ne0
 returns-then-times-ne0 c =
     let never = c.if-times-ne0.true in
-    let is = starts_found _ _ c.check_times-times.ensures never ∙ starts-rows c in
+    let is = starts_found _ _ c.check_times-times.ensures never ∙ starts-rows (goal.at.returns-then-times-ne0 c).Start in
     record { refusal = c.refused.ensures ∙ is; passed = λ z. absurd (never (ap (λ (r : Refusal). r.number) is ∙ z)) }
 
 pub history-history-requires : goal.history-history-requires
 history-history-requires c =
-    let small = words c in (
+    let small = words (goal.at.history-history-requires c).After-places-2-1 in (
       record {
         well = well_formed _ c.requires.good;
         tables = record { durations = c.durations-durations.ensures; effects = c.effects-effects.ensures };
-        named = named (starting c);
+        named = named (starting (goal.at.history-history-requires c).Else-times-ne0);
       },
-      ascending (starting c) small,
-      few_words _ _ small _ (starting c).right,
+      ascending (starting (goal.at.history-history-requires c).Else-times-ne0) small,
+      few_words _ _ small _ (starting (goal.at.history-history-requires c).Else-times-ne0).right,
       c.requires.soon,
     )
 
 pub outside_windows-outside-requires : goal.outside_windows-outside-requires
-outside_windows-outside-requires c = (c.shifts_of-shifts.ensures, starting c)
+outside_windows-outside-requires c = (c.shifts_of-shifts.ensures, starting (goal.at.outside_windows-outside-requires c).Else-times-ne0)
 
 pub over_limit-over-requires : goal.over_limit-over-requires
 over_limit-over-requires c =
-    let small = words c in
+    let small = words (goal.at.over_limit-over-requires c).After-places-2-1 in
     record {
-      = record { formed = well_formed _ c.requires.good; lasts = c.durations-durations.ensures; words = starting c };
+      timed = record { formed = well_formed _ c.requires.good; lasts = c.durations-durations.ensures; words = starting (goal.at.over_limit-over-requires c).Else-times-ne0 };
       table = c.groups_of-groups.ensures;
-      ascends = ascending (starting c) small;
-      few = few_words _ _ small _ (starting c).right;
+      ascends = ascending (starting (goal.at.over_limit-over-requires c).Else-times-ne0) small;
+      few = few_words _ _ small _ (starting (goal.at.over_limit-over-requires c).Else-times-ne0).right;
     }
 
 pub check_needs-unmet-requires : goal.check_needs-unmet-requires
 check_needs-unmet-requires c =
     record {
-      rules = ruled c;
-      words = starting c;
+      rules = ruled (goal.at.check_needs-unmet-requires c).After-law_ends-ends;
+      words = starting (goal.at.check_needs-unmet-requires c).Else-times-ne0;
       last = c.args.last;
-      past = λ i l. c.requires.past i l (right_word (starting c) i l).moment;
+      past = λ i l. c.requires.past i l (right_word (starting (goal.at.check_needs-unmet-requires c).Else-times-ne0) i l).moment;
       values = c.history-history.ensures;
     }
 
@@ -99,7 +100,7 @@ returns c =
           c.outside_windows-outside.ensures
           c.over_limit-over.ensures
           c.check_needs-unmet.ensures
-          ∙ starts-rows c;
+          ∙ starts-rows (goal.at.returns c).Start;
       passed = λ z. record {
         clear = z;
         index = c.requires.index;
@@ -113,7 +114,7 @@ returns c =
     }
 
 pub effects-effects-requires : goal.effects-effects-requires
-effects-effects-requires c = ruled c
+effects-effects-requires c = ruled (goal.at.effects-effects-requires c).After-law_ends-ends
 
 pub shifts_of-shifts-requires : goal.shifts_of-shifts-requires
 shifts_of-shifts-requires c = c.durations-durations.ensures

@@ -1,9 +1,8 @@
 -- `theory::moments::start_moments` meets its contract. The invariant: the sets are those of the starts from `i` on. Assumes nothing.
 use mathlib.Core.Path.{◌≡◌}
-use Prim.Native.Nat.{◌-◌, ◌≤◌}
+use Prim.Native.Nat.{◌-◌}
 use native.Mathlib.Omega.{arith}
-use lib.ListN.{length, get_or, drop}
-use Rattle.bitset.proofs.SetTable.{SetTable, table_none, table_more}
+use Rattle.bitset.proofs.SetTable.{table_none, table_more}
 use Rattle.theory.specs.Trajectory.{is_start_of}
 use Rattle.theory.proofs.StartSets.{start_passes}
 use Rattle.theory.proofs.moments.start_moments.Goals as goal
