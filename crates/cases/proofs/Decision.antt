@@ -1,7 +1,7 @@
 -- A test that computes whether node p reads from b to e: the rule of each form over tests. `decides` (Decides.antt) is its law: it tells what
 -- has a reading. Assumes nothing.
 use Prim.Native.Nat.{ℕ, zero, suc, ◌+◌, max}
-use mathlib.Core.Bool.{Bool, true, false, not, ◌&&◌, ◌||◌}
+use mathlib.Core.Bool.{Bool, false, not, ◌&&◌, ◌||◌}
 use mathlib.Core.List.{List, [], ◌∷◌}
 use lib.Dec.{eqb, leb}
 use lib.ListN.{length, get_or}

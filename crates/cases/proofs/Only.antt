@@ -1,7 +1,7 @@
 -- A test that computes whether a test passes on each reading of a node, and its law: where `on_each` says so, it does. Assumes nothing.
 use Prim.Native.Nat.{ℕ, zero, suc, ◌+◌, ◌≤◌, ◌<◌, max}
 use mathlib.Core.Bool.{Bool, true, false, ◌&&◌, false≢true}
-use mathlib.Core.Path.{◌≡◌, refl, sym, ap, ◌∙◌}
+use mathlib.Core.Path.{◌≡◌, sym, ap, ◌∙◌}
 use mathlib.Core.Logic.Iff
 use mathlib.Core.List.{List, [], ◌∷◌, ◌++◌}
 use native.Mathlib.Omega.{arith}
@@ -18,7 +18,7 @@ use Rattle.model.specs.Forms.{Form, Act, Test, Sequence, Choice, If, While, Star
 use Rattle.reading.specs.Reading.{Mode, whole, passes, Reading, act, test, sequence, first, second, taken, otherwise, loop, done, pass, start_window, end_window, set}
 use Rattle.reading.proofs.Step.{onward}
 use Rattle.words.proofs.AllBelow.{all_below, all_law}
-use Rattle.cases.proofs.Decides.{and_law, eq_law, le_law}
+use Rattle.cases.proofs.Decides.{and_law}
 
 -- whether a test passes on each reading, by mode, node, begin and end
 abbrev pub OnReadings : Type 0

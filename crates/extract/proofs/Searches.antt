@@ -1,20 +1,20 @@
 -- The searches for the moments of two parts: a begin that meets, and a cut, taken lowest first. Assumes nothing.
-use Prim.Native.Nat.{ℕ, zero, suc, ◌+◌, ◌≤◌, ◌<◌, max}
+use Prim.Native.Nat.{ℕ, zero, suc, ◌+◌, ◌≤◌, ◌<◌}
 use mathlib.Core.Path.{◌≡◌, refl, sym, ap, ◌∙◌}
-use mathlib.Core.Bool.{true, false, not, ◌&&◌}
+use mathlib.Core.Bool.{true, false, ◌&&◌}
 use mathlib.Core.Logic.{by_cases}
 use mathlib.Core.List.{List}
 use native.Mathlib.Nat.{pow-suc}
 use native.Mathlib.Decide.{ℕ_discrete}
 use native.Mathlib.Omega.{arith}
-use lib.Dec.{leb, ltb, eqb}
+use lib.Dec.{leb, ltb}
 use lib.Pow.{pow_pos}
-use borrow.Author.Tests.{leb-true, le-leb, lt-ltb, ne_eqb}
+use borrow.Author.Tests.{leb-true, le-leb, lt-ltb}
 use Rattle.model.specs.Code.Table.{InTable, row_at}
 use Rattle.bitset.specs.Code.Members.{has, IsSetOf, In, Lowest, Dropped, Max}
 use Rattle.words.proofs.Choices.{both_true}
 use Rattle.bitset.proofs.Bools.{not_both, both}
-use Rattle.bitset.proofs.Digits.{has-zero, has-past}
+use Rattle.bitset.proofs.Digits.{has-past}
 use Rattle.bitset.proofs.Ends.{lowest_le}
 use Rattle.bitset.proofs.In.{in_zero, in_dropped}
 use Rattle.reading.specs.Code.Quiet.{QuietUpto}

@@ -1,6 +1,5 @@
 -- `applicable::some_busy` meets its contract. The invariant: no start before `i` is one of the action in hand. Assumes nothing.
 use mathlib.Core.Path.{sym, ◌∙◌}
-use Prim.Native.Nat.{◌-◌}
 use native.Mathlib.Omega.{arith}
 use Rattle.words.proofs.Scan.{from_start, from_more, from_found, from_end}
 use Rattle.applicable.proofs.some_busy.Goals as goal

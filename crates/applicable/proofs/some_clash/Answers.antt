@@ -1,6 +1,5 @@
 -- `applicable::some_clash` meets its contract. The invariant: no start before `i` clashes. Assumes nothing.
 use mathlib.Core.Path.{sym, ◌∙◌}
-use Prim.Native.Nat.{◌-◌}
 use native.Mathlib.Omega.{arith}
 use Rattle.words.proofs.Lists.{each_at}
 use Rattle.words.proofs.Scan.{from_start, from_more, from_found, from_end}

@@ -1,8 +1,6 @@
 -- `trial::some_later` meets its contract. The invariant: no word before `i` is later. Assumes nothing.
-use Prim.Native.Nat.{◌-◌}
 use native.Mathlib.Omega.{arith}
 use borrow.Author.Tests.{lt-ltb, le-ltb}
-use Rattle.words.specs.Fields.{start_moment}
 use Rattle.words.proofs.Scan.{from_start, from_more, from_found, from_end}
 use Rattle.trial.proofs.some_later.Goals as goal
 

@@ -37,7 +37,7 @@ clashes_after-requires c =
 pub returns-then-clashes_after : goal.returns-then-clashes_after
 returns-then-clashes_after c =
     let inside : c.loop-i.i < length c.args.starts.now = c.loop-i-test.true in
-    let words : (j : ℕ) → get_or c.args.starts.now j 0 < 2 ^ 32 = λ j. omega (arith, c.shared_slice_known-in-loop-i-1.given j) in
+    let words : (j : ℕ) → get_or c.args.starts.now j 0 < 2 ^ 32 = λ j. omega (arith, c.type_inv.starts j) in
     let value : clashes c.args.job.now c.args.starts.now c.loop-i.i ≡ c.clashes_after.result = latest-clash c.requires.0 words inside c.loop-i.invariant.1 c.start_action-a.ensures.0 c.start_moment.ensures.0
     ∙ sym c.clashes_after.ensures in
     c.refuse.ensures ∙ tried_found c.loop-i.invariant.0 (omega arith) inside (value ∙ c.if-clashes_after.true)
@@ -59,7 +59,7 @@ loop-i-smaller c = omega arith
 
 pub loop-i-preserved : goal.loop-i-preserved
 loop-i-preserved c =
-    let words : (j : ℕ) → get_or c.args.starts.now j 0 < 2 ^ 32 = λ j. omega (arith, c.shared_slice_known-in-loop-i-1.given j) in
+    let words : (j : ℕ) → get_or c.args.starts.now j 0 < 2 ^ 32 = λ j. omega (arith, c.type_inv.starts j) in
     let inside : c.loop-i.i < length c.args.starts.now = c.loop-i-test.true in
     let action : c.start_action-a.result < actions c.args.job.now = omega (arith, c.start_action-a.ensures.0, (right_word c.requires.0.words c.loop-i.i inside).action) in
     let value : clashes c.args.job.now c.args.starts.now c.loop-i.i ≡ c.clashes_after.result = latest-clash c.requires.0 words inside c.loop-i.invariant.1 c.start_action-a.ensures.0 c.start_moment.ensures.0
