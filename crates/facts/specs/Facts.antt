@@ -25,7 +25,7 @@ facts_after job starts t = concat_below (λ i. facts_at job starts (t + 1 + i)) 
 unfoldable pub facts_of : List ℕ → List ℕ → List ℕ
 facts_of job starts = facts_upto job starts (last_moment job)
 
--- The list of facts ascends strictly, of any starts of a well-formed job: each word is below each that comes after it. `facts-ascend`
+-- The list of facts ascends strictly, of any starts of a well-formed job: each word is below each that comes after it. `facts_ascend`
 -- (proofs/Ascent.antt) shows it.
 abbrev pub FactsAscend : Type 0
 FactsAscend = (job starts : List ℕ) → (job_refusal job).number ≡ 0 → Pairs (λ w w'. w < w') (facts_of job starts)

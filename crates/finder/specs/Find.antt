@@ -24,7 +24,7 @@ abbrev pub RootReading : List ℕ → List ℕ → List ℕ → Type 0
 RootReading job starts ws = Reading (procedure_of job) (plan_trajectory job starts) whole (node_count job - 1) 0 (last_moment job) ws
 
 -- No reading exceeds 4,032 words: every list of words that is a reading of any node of a well-formed job, by any starts, up to any moment of the
--- job. `readings-bounded` (proofs/Job.antt) shows it.
+-- job. `readings_bounded` (proofs/Job.antt) shows it.
 abbrev pub ReadingsBounded : Type 0
 ReadingsBounded =
     (job starts : List ℕ) (p b e : ℕ) (ws : List ℕ) → (job_refusal job).number ≡ 0 → p < node_count job → e ≤ last_moment job

@@ -13,7 +13,7 @@ or_table = 0 ∷ 1 ∷ 2 ∷ 1 ∷ 1 ∷ 2 ∷ 2 ∷ 2 ∷ 2 ∷ []
 abbrev pub by_table : List ℕ → ℕ → ℕ → ℕ
 by_table table a b = get_or table (a * 3 + b) 0
 
--- so 'and' of two values is the lesser of them, and 'or' the greater. `and-lesser`, `or-greater` (proofs/Tables.antt) show it.
+-- so 'and' of two values is the lesser of them, and 'or' the greater. `and_lesser`, `or_greater` (proofs/Tables.antt) show it.
 abbrev pub AndLesser : Type 0
 AndLesser = (a b : ℕ) → a ≤ holds → b ≤ holds → by_table and_table a b ≡ min a b
 
@@ -56,7 +56,7 @@ unfoldable pub formula_at : List ℕ → List ℕ → List ℕ → (ℕ → ℕ 
 formula_at conj disj job fluent k t = formula_below conj disj job fluent (suc k) k t
 
 -- A value depends on the states up to its moment and on none after it: histories that agree up to t give a formula one value at t.
--- `value-up-to` (proofs/Laws.antt) shows it.
+-- `value_up_to` (proofs/Laws.antt) shows it.
 abbrev pub ValueUpTo : Type 0
 ValueUpTo =
     (conj disj job : List ℕ) (fluent fluent' : ℕ → ℕ → ℕ) (k t : ℕ) → ((u f : ℕ) → u ≤ t → fluent u f ≡ fluent' u f)

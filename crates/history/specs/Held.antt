@@ -39,7 +39,7 @@ pub record HeldList (job starts : List ℕ) (t : ℕ) (list : List ℕ) (count :
   pub words : take count list ≡ held_at job starts t
 
 -- at each moment t, exactly the starts with u ≤ t < u + d are in hand; at moment 0 they are those that begin then, and at each next moment
--- those in hand that have not finished, and then those that begin. `held-exactly`, `held_start`, `held_next` (proofs/Held.antt) show it.
+-- those in hand that have not finished, and then those that begin. `held_exactly`, `held_start`, `held_next` (proofs/Held.antt) show it.
 abbrev pub HeldExactly : Type 0
 HeldExactly =
     (job starts : List ℕ) (t s : ℕ) → Memᴰ s (held_at job starts t) ↔ (Memᴰ s starts × ((start_moment s ≤ t) × (t < finish job s)))

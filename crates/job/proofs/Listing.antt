@@ -1,4 +1,4 @@
--- Laws of what words list. An entry's number stands for the fluent or for the pair that a word lists (`fluent-entry`, `pair-entry`). A kind
+-- Laws of what words list. An entry's number stands for the fluent or for the pair that a word lists (`fluent_entry`, `pair_entry`). A kind
 -- that lists something follows only itself and the kind one below (`run`), so that the words since one of that kind are the run directly
 -- before: a word of the same kind adds its entry to the set, and any other word ends the run and empties it (`listed_more`). Assumes nothing.
 use mathlib.Core.Bool.{Bool, true, false, cond, ◌&&◌, ◌||◌}

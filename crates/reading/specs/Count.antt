@@ -22,6 +22,6 @@ pub record Counted (P : Procedure) (T : Trajectory) (r : ℕ) : Type 0 where
   pub exact : (s : Triple) → Memᴰ s triples ↔ Read P T s
   pub many : length triples ≡ r
 
--- The count is one number: two counts for the same procedure and trajectory are equal. `counted-once` (proofs/Counts.antt) shows it.
+-- The count is one number: two counts for the same procedure and trajectory are equal. `counted_once` (proofs/Counts.antt) shows it.
 abbrev pub CountedOnce : Type 0
 CountedOnce = (P : Procedure) (T : Trajectory) (a b : ℕ) → Counted P T a → Counted P T b → a ≡ b

@@ -33,7 +33,7 @@ WithinExactly =
     (job : List ℕ) (group : ℕ → Bool) (limit : ℕ) (starts : List ℕ) → Ascending starts
     → ((i : ℕ) → i < length starts → exceeds job group limit (take (suc i) starts) (get_or starts i 0) ≡ false) ↔ Within job group limit starts
 
--- where each start lasts, a limit of 0 forbids the group; `zero-forbids` there shows it
+-- where each start lasts, a limit of 0 forbids the group; `zero_forbids` there shows it
 abbrev pub ZeroForbids : Type 0
 ZeroForbids =
     (job : List ℕ) (group : ℕ → Bool) (starts : List ℕ) → Lasting job starts

@@ -1,4 +1,4 @@
--- Demand 2, as statements. `passes-exactly` and `filled-passes` (proofs/Demand.antt) show them.
+-- Demand 2, as statements. `passes_exactly` and `filled_passes` (proofs/Demand.antt) show them.
 use Rattle.std.specs.Prelude.{List, ◌↔◌, ◌≡◌, ℕ, take}
 use Rattle.answers.specs.declared.Answer.TheVariants.{Accepted}
 use Rattle.facts.specs.Facts.{facts_of}

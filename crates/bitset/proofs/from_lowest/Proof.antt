@@ -1,8 +1,5 @@
 -- `bitset::from_lowest` meets its contract. Assumes nothing.
-use Prim.Native.Nat.{ℕ, ◌≤◌}
-use mathlib.Core.Path.{sym, ◌∙◌}
 use native.Mathlib.Omega.{arith}
-use Rattle.bitset.specs.Code.Members.{In, FromSome}
 use Rattle.bitset.proofs.Ends.{lowest_le}
 use Rattle.bitset.proofs.In.{in_from, in_none, in_zero}
 use borrow.Author.Rules.{rules}

@@ -1,5 +1,5 @@
 -- Between functions: what a well-formed job, one that no row on its length, its words or its end fits (`(job_refusal job).number ≡ 0`), has:
--- what the layers above may use. `well-formed` (proofs/WellFormed.antt) shows it.
+-- what the layers above may use. `well_formed` (proofs/WellFormed.antt) shows it.
 use Rattle.std.specs.Prelude.{List, ◌≡◌, ◌⊎◌, ℕ, suc, ◌<◌, ◌≤◌, length, get_or, drop}
 use Rattle.words.specs.Fields.{kind, form, most_fluents, fluent_of, formula_x, formula_y, atom_fluent, node_x, node_m, node_n, member_node, condition_formula, condition_i, condition_j, group_number}
 use Rattle.words.specs.Scan.{count}
