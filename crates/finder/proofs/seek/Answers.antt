@@ -28,14 +28,14 @@ pub emit-length-requires : goal.emit-length-requires
 emit-length-requires c =
     let s = c.requires in
     let w = c.args.arrays in
-    (w.starts, w.durations, emit_ready _ _ _ s.clear s.represented c.tabulate-count.ensures c.all_starts.ensures (sym c.has_end.ensures ∙ c.if-has_end.true) s.room)
+    (w.starts, w.durations, emit_ready _ _ _ s.clear s.represented c.tabulate-count.ensures c.all_starts.ensures (sym c.has_end.ensures ∙ c.if-has_end.true) (omega (arith, s.room)))
 
 pub returns-then-has_end : goal.returns-then-has_end
 returns-then-has_end c =
     let s = c.requires in
     let w = c.args.arrays in
-    let ready = emit_ready _ _ _ s.clear s.represented c.tabulate-count.ensures c.all_starts.ensures (sym c.has_end.ensures ∙ c.if-has_end.true) s.room in
-    let emitted = c.emit-length.ensures w.starts w.durations ready in record {
+    let root = sym c.has_end.ensures ∙ c.if-has_end.true in
+    let emitted = c.emit-length.ensures w.starts w.durations (emit_ready _ _ _ s.clear s.represented c.tabulate-count.ensures c.all_starts.ensures root (omega (arith, s.room))) in record {
       searched = written-reading _ _ _ s.clear s.represented c.tabulate-count.ensures emitted;
       in_range = (omega (arith, emitted.few, c.tabulate-count.ensures.small), omega (arith, emitted.few));
     }
