@@ -122,6 +122,8 @@ fn held_refusal(job: &[u32], plan: Plan, starts: &[u32], u: usize, a: usize) -> 
 
 // Runs rows 6 to 9, 15, 16 and 10 of action `a` started at moment `u`, in this order. If none refuses, there are fewer than 4,096
 // starts.
+// It is not inlined, so that its tables are on the stack while it runs, and not all the time that its caller does.
+#[inline(never)]
 pub fn start_refusal(job: &[u32], plan: Plan, starts: &[u32], u: usize, a: usize) -> Refusal
     requires { Present job.now starts.now u plan }
     ensures { StartTested job.now starts.now u a result }

@@ -17,6 +17,8 @@ use words::ENDS;
 const NO_READING: u64 = answers::NO_READING as u64;
 
 // Seeks a reading of a plan that passes: fills the table, counts the triples, and writes a reading of the root if there is one.
+// It is not inlined, so that its tables are on the stack while it runs, and not all the time that its caller does.
+#[inline(never)]
 fn seek(job: &[u32], starts: &[u32], arrays: Arrays, buffer: &mut [u32]) -> Answer
     requires { Seekable job.now starts.now arrays (length buffer.old) }
     ensures searched { Searched job.now starts.now buffer.old result buffer.new }

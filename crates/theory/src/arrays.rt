@@ -11,6 +11,8 @@ use model::Arrays;
 use words::last_of;
 
 // Returns the procedure and the trajectory of a plan that passed, as arrays.
+// It is not inlined, so that its tables are on the stack while it runs, and not all the time that its caller does.
+#[inline(never)]
 pub fn arrays_of(job: &[u32], starts: &[u32], plan: Plan) -> Arrays
     requires { Passed job.now starts.now plan }
     ensures { Represents job.now result (procedure_of job.now) (plan_trajectory job.now starts.now) }

@@ -125,6 +125,8 @@ pub fn check_job_and_room(job: &[u32], room: usize) -> Checked
 }
 
 // Runs the rows of the starts, after those that gave `checked`.
+// It is not inlined, so that its tables are on the stack while it runs, and not all the time that its caller does.
+#[inline(never)]
 pub fn judge(job: &[u32], checked: Checked, starts: &[u32]) -> Plan
     requires { JobChecked job.now checked }
     ensures { Judged (first_refusal checked.refusal (starts_refusal job.now starts.now)) job.now starts.now result }
