@@ -1,8 +1,9 @@
 -- `reply::reply_words` meets its contract: the starts end within the plan, and the report reads what `find_reading` wrote. Assumes nothing.
-use Rattle.std.proofs.Common.{arith, sym}
+use Rattle.std.proofs.Common.{length, arith, sym, ap}
 use lib.Seq.{length-take-le}
 use Rattle.text.proofs.Plans.{starts_fit}
-use Rattle.reader.proofs.Replies.{answered}
+use Rattle.finder.proofs.Outcomes.{outcome_length}
+use Rattle.reader.proofs.Replies.{length-lent, answered}
 use Rattle.reader.proofs.reply.reply_words.Goals as goal
 
 pub slice_bounds-find_reading-end : goal.slice_bounds-find_reading-end
@@ -16,6 +17,11 @@ slice_bounds-find_reading-count c = starts_fit c.args.plan.now _ c.starts_length
 
 pub slice_bounds-find_reading-start : goal.slice_bounds-find_reading-start
 slice_bounds-find_reading-start c = omega (arith, starts_fit c.args.plan.now _ c.starts_length-s.ensures)
+
+pub report-requires : goal.report-requires
+report-requires c =
+    let written = outcome_length c.find_reading-answer.ensures.outcome in
+    omega (arith, written, ap length c.requires.0, length-lent, c.requires.1)
 
 pub returns-clause-text : goal.returns-clause-text
 returns-clause-text c =
