@@ -14,7 +14,7 @@ use narrowing::Open;
 use words::MEMBERS;
 
 // The ends found, all at most `upto`, and, where `upto` is one of them, begins for it.
-#[derive(Drop)]
+#[derive(Clone, Copy)]
 pub struct Found {
     pub upto: u32,
     pub ends: u64,

@@ -15,7 +15,7 @@ use words::forms::{
 };
 use words::{FORMULA_VALUES, MEMBERS, MOMENTS, NODES};
 
-#[derive(Drop)]
+#[derive(Clone, Copy)]
 pub struct Parts {
     pub count: usize,
     pub nodes: [usize; MEMBERS],

@@ -11,7 +11,7 @@ use words::MOMENTS;
 const NO_MOMENT: usize = MOMENTS;
 
 // Two moments.
-#[derive(Drop)]
+#[derive(Clone, Copy)]
 pub struct Pair {
     pub first: usize,
     pub second: usize,

@@ -15,7 +15,7 @@ pub const PAIRS: usize = MEMBERS * MEMBERS * MOMENTS;
 pub const ROWS: usize = MEMBERS * MOMENTS;
 
 // The begins and ends that one member may still have.
-#[derive(Drop)]
+#[derive(Clone, Copy)]
 pub struct Choice {
     pub begins: u64,
     pub ends: u64,

@@ -9,7 +9,7 @@ use words::{ACTIONS, CONDITION, FORMULA_VALUES, MEMBER, NODES};
 
 // Node p's word stands at places[p] of the job, and after it those of its members and conditions; starts[a] is the set of the moments at
 // which action a starts; values has the value of formula k at moment t at k * 64 + t.
-#[derive(Drop)]
+#[derive(Clone, Copy)]
 pub struct Arrays {
     pub count: usize,
     pub last: usize,
@@ -20,7 +20,7 @@ pub struct Arrays {
 }
 
 // A node, read from the moment `begin` to the moment `end`.
-#[derive(Drop)]
+#[derive(Clone, Copy)]
 pub struct Triple {
     pub node: usize,
     pub begin: usize,
@@ -28,7 +28,7 @@ pub struct Triple {
 }
 
 // How many members and conditions a task set has.
-#[derive(Drop)]
+#[derive(Clone, Copy)]
 pub struct SetCounts {
     pub members: usize,
     pub conditions: usize,

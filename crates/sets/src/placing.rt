@@ -10,7 +10,7 @@ use keeping::{MASKS, PAIRS, ROWS};
 use narrowing::bounds::BOUNDS;
 use words::{FORMULA_VALUES, MEMBERS};
 
-#[derive(Drop)]
+#[derive(Clone, Copy)]
 pub struct Placement {
     pub begins: [u32; MEMBERS],
     pub ends: [u32; MEMBERS],
