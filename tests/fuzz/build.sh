@@ -27,7 +27,6 @@ need_clang() {
 # to OBJECT, an absolute path.
 counting_toolchain() { # FOLDER OBJECT
     kit=$(dirname "$(rt doc)")/toolchain
-    rm -rf "$1"
     mkdir -p "$1/bin"
     for part in "$kit"/* "$kit"/bin/*; do
         here=$1/${part#"$kit"/}
@@ -41,11 +40,17 @@ WRAPPER
     chmod +x "$1/bin/clang"
 }
 
-# Writes the proved module with counters to target/fuzz/counted.o, beside an archive without.
+# Writes the proved module with counters to target/fuzz/counted.o, beside an archive without. The folder with links is
+# not in target/, since `rt ci` wants no links in the repository.
 build_counted() {
-    counting_toolchain target/fuzz/toolchain "$(pwd)/target/fuzz/counted.o"
+    mkdir -p target/fuzz
     rm -f target/fuzz/counted.o
-    tools/build --by target/fuzz/toolchain target/fuzz/uncounted.a
+    folder=$(mktemp -d)
+    counting_toolchain "$folder/toolchain" "$(pwd)/target/fuzz/counted.o"
+    status=0
+    tools/build --by "$folder/toolchain" target/fuzz/uncounted.a || status=$?
+    rm -rf "$folder"
+    return "$status"
 }
 
 build_fuzzer() {

@@ -1,2 +1,3 @@
--- Laws that belong to no one function: Replies (what was written is the reply).
+-- Laws that belong to no one function: Files (what is a file, and what is printed by that), Replies (what was written is the reply).
+pub mod Files
 pub mod Replies
