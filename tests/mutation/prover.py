@@ -12,7 +12,7 @@ KINDS = {
     # A step of the written proof proves something else than what is asked.
     "a step fails": ("expected type", "two types", "two sides", "`rw`"),
     # The written proof names what the mutant does not ask, or leaves out what it asks.
-    "proof must change": (" that can be named from here", " has no field "),
+    "proof must change": ("has no field", "is not in scope", "has no `", "was not admitted"),
 }
 
 
