@@ -4,7 +4,7 @@ ghost use Rattle.std.specs.Prelude.{◌≡◌, ℕ, ◌+◌, ◌*◌, ◌<◌, �
 ghost use Rattle.bitset.specs.Code.Members.{In};
 ghost use Rattle.narrowing.specs.Code.Tables.{EndsHave, BoundsHave, Bounded};
 ghost use Rattle.sets.specs.Code.Tables.{InSpan};
-ghost use Rattle.sets.specs.Code.Bounds.{BoundsReady, Grows, EndMarked};
+ghost use Rattle.sets.specs.Code.Bounds.{Grows, EndMarked};
 
 use crate::tables::is_short;
 use keeping::PAIRS;
@@ -14,7 +14,7 @@ use words::{MEMBERS, MOMENTS};
 
 // Marks begin y in row p at the last and at the first of its ends.
 fn mark(p: usize, y: u32, mask: u64, bounds: &mut [u64; BOUNDS])
-    requires { (p < 16) × (y < 64) × (length bounds.old ≡ 2052) }
+    requires { (p < 16) × (y < 64) }
     ensures { Grows bounds.old bounds.new × ((e : ℕ) → In mask e → EndMarked bounds.new p y e) }
 {
     if mask == 0 {
@@ -29,15 +29,13 @@ fn mark(p: usize, y: u32, mask: u64, bounds: &mut [u64; BOUNDS])
 
 // Does so for the begins from a to z, by the ends in row p of the table.
 fn mark_pair(ends: &[u64; PAIRS], p: usize, a: u32, z: u32, bounds: &mut [u64; BOUNDS])
-    requires { (p < 16) × (a ≤ z) × (z < 64) × (length bounds.old ≡ 2052) }
+    requires { (p < 16) × (a ≤ z) × (z < 64) }
     ensures { Grows bounds.old bounds.new × ((y e : ℕ) → a ≤ y → y ≤ z → a ≤ e → e ≤ z → In (get_or ends.now (p * 64 + y) 0) e → EndMarked bounds.new p y e) }
 {
     let window = bitset::between(a, z);
-    let mut y = a;
-    while y <= z {
+    for y in a..=z {
         let mask = bitset::inter(ends[p * MOMENTS + y as usize], window);
         mark(p, y, mask, bounds);
-        y += 1;
     }
 }
 
@@ -46,7 +44,7 @@ const LAST: usize = MOMENTS - 1;
 
 // Adds to each of 64 entries what the entries after it have.
 fn join_down(base: usize, bounds: &mut [u64; BOUNDS])
-    requires { (base ≤ 1984) × (length bounds.old ≡ 2052) }
+    requires { (base ≤ 1984) }
     ensures { Grows bounds.old bounds.new × ((d e y : ℕ) → d ≤ e → e < 64 → In (get_or bounds.old (base + e) 0) y → In (get_or bounds.new (base + d) 0) y) }
 {
     let mut e = LAST;
@@ -59,7 +57,7 @@ fn join_down(base: usize, bounds: &mut [u64; BOUNDS])
 
 // Adds to each of 64 entries what the entries before it have.
 fn join_up(base: usize, bounds: &mut [u64; BOUNDS])
-    requires { (base ≤ 1984) × (length bounds.old ≡ 2052) }
+    requires { (base ≤ 1984) }
     ensures { Grows bounds.old bounds.new × ((d e y : ℕ) → e ≤ d → d < 64 → In (get_or bounds.old (base + e) 0) y → In (get_or bounds.new (base + d) 0) y) }
 {
     let mut e = 0;
@@ -72,7 +70,7 @@ fn join_up(base: usize, bounds: &mut [u64; BOUNDS])
 
 // The bounds of row p.
 fn fill_pair(ends: &[u64; PAIRS], p: usize, a: u32, z: u32, bounds: &mut [u64; BOUNDS])
-    requires { (p < 16) × (a ≤ z) × (z < 64) × (length bounds.old ≡ 2052) }
+    requires { (p < 16) × (a ≤ z) × (z < 64) }
     ensures { Grows bounds.old bounds.new × ((y e : ℕ) → a ≤ y → y ≤ z → a ≤ e → e ≤ z → In (get_or ends.now (p * 64 + y) 0) e → Bounded bounds.new p y e) }
 {
     mark_pair(ends, p, a, z, bounds);
@@ -107,8 +105,8 @@ fn fill_members(
     z: u32,
     bounds: &mut [u64; BOUNDS],
 )
-    requires { BoundsReady count a z bounds.old }
-    ensures { (length bounds.new ≡ 2052) × ((bs es : ℕ → ℕ) → InSpan count a z bs es → EndsHave count ends.now bs es → BoundsHave count bounds.old bs es → BoundsHave count bounds.new bs es) }
+    requires { (count ≤ 4) × (a ≤ z) × (z < 64) }
+    ensures { (bs es : ℕ → ℕ) → InSpan count a z bs es → EndsHave count ends.now bs es → BoundsHave count bounds.old bs es → BoundsHave count bounds.new bs es }
 {
     if count <= w {
         return;
@@ -131,7 +129,7 @@ pub fn fill(
     z: u32,
     bounds: &mut [u64; BOUNDS],
 )
-    requires { BoundsReady count a z bounds.old × ((q : ℕ) → get_or bounds.old q 0 ≡ 0) }
+    requires { (count ≤ 4) × (a ≤ z) × (z < 64) × ((q : ℕ) → get_or bounds.old q 0 ≡ 0) }
     ensures { (bs es : ℕ → ℕ) → InSpan count a z bs es → EndsHave count ends.now bs es → BoundsHave count bounds.new bs es }
 {
     if is_short(a, z) {

@@ -17,12 +17,10 @@ fn failing(values: &[u8; FORMULA_VALUES], k: usize, a: u32, z: u32) -> u64
     ensures { (t : ℕ) → a ≤ t → t ≤ z → In result t ↔ (value_in values.now k t ≡ holds → ⊥) }
 {
     let mut mask = 0;
-    let mut t = a;
-    while t <= z {
+    for t in a..=z {
         if values[k * MOMENTS + t as usize] != words::HOLDS {
             mask = bitset::union(mask, bitset::single(t));
         }
-        t += 1;
     }
     mask
 }
@@ -192,18 +190,16 @@ fn fill_masks(
     n: u32,
     allow: &mut [u64; MASKS],
 )
-    requires { (c < 8) × (a ≤ z) × (z ≤ n) × (n < 64) × (length allow.old ≡ 512) }
-    ensures { ((x y : ℕ) → a ≤ x → x ≤ z → In (get_or allow.new (c * 64 + x) 0) y ↔ ((a ≤ y) × (y ≤ z) × MetAt (value_in values.now) n w y y x)) × ((p : ℕ) → p < c * 64 → get_or allow.new p 0 ≡ get_or allow.old p 0) × (length allow.new ≡ 512) }
+    requires { (c < 8) × (a ≤ z) × (z ≤ n) × (n < 64) }
+    ensures { ((x y : ℕ) → a ≤ x → x ≤ z → In (get_or allow.new (c * 64 + x) 0) y ↔ ((a ≤ y) × (y ≤ z) × MetAt (value_in values.now) n w y y x)) × ((p : ℕ) → p < c * 64 → get_or allow.new p 0 ≡ get_or allow.old p 0) }
 {
     let form = words::form_of(w);
     let first = words::condition_m(w) as u32;
     let last = words::condition_n(w) as u32;
     let fails = failing_for(values, form, words::condition_formula(w), last, a, z, n);
     let own = own_mask(form, fails, first, last, a, z, n);
-    let mut x = a;
-    while x <= z {
+    for x in a..=z {
         allow[c * MOMENTS + x as usize] = mask_at(form, fails, own, first, last, x, a, z);
-        x += 1;
     }
 }
 
@@ -216,12 +212,10 @@ pub fn fill_allowed(
     n: u32,
     allow: &mut [u64; MASKS],
 )
-    requires { (length conds.now ≤ 8) × (a ≤ z) × (z ≤ n) × (n < 64) × (length allow.old ≡ 512) }
+    requires { (length conds.now ≤ 8) × (a ≤ z) × (z ≤ n) × (n < 64) }
     ensures { Allowed (value_in values.now) conds.now n a z (length conds.now) allow.new }
 {
-    let mut c = 0;
-    while c < conds.len() {
-        fill_masks(values, conds[c], c, a, z, n, allow);
-        c += 1;
+    for (c, &w) in conds.iter().enumerate() {
+        fill_masks(values, w, c, a, z, n, allow);
     }
 }

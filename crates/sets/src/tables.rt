@@ -7,7 +7,7 @@ ghost use Rattle.sets.specs.Code.Rows.{task_set_of};
 ghost use Rattle.model.specs.Code.Table.{InTable};
 ghost use Rattle.keeping.specs.Code.Tables.{pair_at};
 ghost use Rattle.ending.specs.Code.Ends.{MetAtMask, MetByMask};
-ghost use Rattle.sets.specs.Code.Tables.{Have, LeftOut, Cut, ConditionReady, ConditionsReady, InSpan, OwnRow, OwnRows, LaterReady, TablesReady, Tables};
+ghost use Rattle.sets.specs.Code.Tables.{Have, LeftOut, Cut, ConditionReady, ConditionsReady, InSpan, OwnRow, OwnRows, TablesReady, Tables};
 
 use crate::conditions;
 use keeping::{MASKS, PAIRS, ROWS, pair_at, pair_index};
@@ -28,10 +28,8 @@ fn cut(table: &mut [u64; PAIRS], p: usize, allow: &[u64; MASKS], c: usize, a: u3
     requires { (p < 16) × (c < 8) × (a ≤ z) × (z < 64) }
     ensures { Cut table.old p allow.now c a z table.new }
 {
-    let mut y = a as usize;
-    while y <= z as usize {
+    for y in a as usize..=z as usize {
         table[p * MOMENTS + y] = bitset::inter(table[p * MOMENTS + y], allow[c * MOMENTS + y]);
-        y += 1;
     }
 }
 
@@ -70,10 +68,8 @@ fn cut_all(
     requires { ConditionsReady conds.now a z }
     ensures { (count : ℕ) (bs es : ℕ → ℕ) → InSpan count a z bs es → count ≤ 4 → ((c : ℕ) → c < length conds.now → (condition_i (get_or conds.now c 0) < count) × (condition_j (get_or conds.now c 0) < count) × MetByMask conds.now allow.now bs c (es (condition_i (get_or conds.now c 0)))) → Have ends.old goes.old count bs es → Have ends.new goes.new count bs es }
 {
-    let mut c = 0;
-    while c < conds.len() {
-        cut_for(conds[c], c, allow, a, z, ends, goes);
-        c += 1;
+    for (c, &w) in conds.iter().enumerate() {
+        cut_for(w, c, allow, a, z, ends, goes);
     }
 }
 
@@ -110,11 +106,8 @@ fn fill_own_row(
     requires { (m * 64 + 64 ≤ length table.now) × (i < 4) × (a ≤ z) × (z < 64) }
     ensures { OwnRow (InTable table.now m) goes.now i a z ends.old ends.new (z + 1) }
 {
-    let mut x = a;
-    while x <= z {
-        let row = own_row(table, m, i, x, z, ends, goes);
-        ends[pair_index(i, i, x)] = row;
-        x += 1;
+    for x in a..=z {
+        ends[pair_index(i, i, x)] = own_row(table, m, i, x, z, ends, goes);
     }
 }
 
@@ -130,10 +123,8 @@ fn fill_own(
     requires { (length members.now ≤ 4) × ((i : ℕ) → i < length members.now → member_node (get_or members.now i 0) * 64 + 64 ≤ length table.now) × (a ≤ z) × (z < 64) }
     ensures { OwnRows members.now table.now goes.now a z ends.old ends.new (length members.now) }
 {
-    let mut i = 0;
-    while i < members.len() {
-        fill_own_row(table, words::member_node(members[i]), i, a, z, goes, ends);
-        i += 1;
+    for (i, &w) in members.iter().enumerate() {
+        fill_own_row(table, words::member_node(w), i, a, z, goes, ends);
     }
 }
 
@@ -191,13 +182,11 @@ fn cut_pair(i: usize, j: usize, a: u32, z: u32, ends: &mut [u64; PAIRS], goes: &
     requires { (i < 4) × (j < 4) × (a ≤ z) × (z < 64) }
     ensures { (count : ℕ) → i < count → j < count → count ≤ 4 → LeftOut count a z ends.old goes.old ends.new goes.new }
 {
-    let mut x = a;
-    while x <= z {
+    for x in a..=z {
         let begins = partners(ends, goes, i, x, j);
         goes[pair_index(i, j, x)] = begins;
         let p = pair_index(i, i, x);
         ends[p] = bitset::inter(ends[p], some_ends(ends, i, j, begins));
-        x += 1;
     }
 }
 
@@ -280,26 +269,22 @@ fn cut_constrained(
 
 // The ends of member i begun at x or later, for each x from z down to a.
 fn fill_later_row(ends: &[u64; PAIRS], i: usize, a: u32, z: u32, later: &mut [u64; ROWS])
-    requires { (i < 4) × LaterReady a z later.old }
-    ensures { ((x y e : ℕ) → a ≤ x → x ≤ y → y ≤ z → In (pair_at ends.now i i y) e → In (get_or later.new (i * 64 + x) 0) e) × ((p : ℕ) → p < i * 64 → get_or later.new p 0 ≡ get_or later.old p 0) × (length later.new ≡ 256) }
+    requires { (i < 4) × (a ≤ z) × (z < 64) }
+    ensures { ((x y e : ℕ) → a ≤ x → x ≤ y → y ≤ z → In (pair_at ends.now i i y) e → In (get_or later.new (i * 64 + x) 0) e) × ((p : ℕ) → p < i * 64 → get_or later.new p 0 ≡ get_or later.old p 0) }
 {
     let mut all = 0;
-    let mut x = z + 1;
-    while a < x {
-        x -= 1;
+    for x in (a..=z).rev() {
         all = bitset::union(all, pair_at(ends, i, i, x));
         later[i * MOMENTS + x as usize] = all;
     }
 }
 
 fn fill_later(ends: &[u64; PAIRS], count: usize, a: u32, z: u32, later: &mut [u64; ROWS])
-    requires { (count ≤ 4) × LaterReady a z later.old }
+    requires { (count ≤ 4) × (a ≤ z) × (z < 64) }
     ensures { (i x y e : ℕ) → i < count → a ≤ x → x ≤ y → y ≤ z → In (pair_at ends.now i i y) e → In (get_or later.new (i * 64 + x) 0) e }
 {
-    let mut i = 0;
-    while i < count {
+    for i in 0..count {
         fill_later_row(ends, i, a, z, later);
-        i += 1;
     }
 }
 
