@@ -42,29 +42,18 @@ fn mark_pair(ends: &[u64; PAIRS], p: usize, a: u32, z: u32, bounds: &mut [u64; B
 // The last of the entries of a row, one for each moment.
 const LAST: usize = MOMENTS - 1;
 
-// Adds to each of 64 entries what the entries after it have.
-fn join_down(base: usize, bounds: &mut [u64; BOUNDS])
-    requires { (base ≤ 1984) }
-    ensures { Grows bounds.old bounds.new × ((d e y : ℕ) → d ≤ e → e < 64 → In (get_or bounds.old (base + e) 0) y → In (get_or bounds.new (base + d) 0) y) }
+// Adds to each of the 64 entries from `base` on what the entries before it in this order have: that of `order(k)` comes after k others.
+fn join<F: Fn(usize) -> usize>(base: usize, order: F, bounds: &mut [u64; BOUNDS])
+    ghost turn: { ℕ → ℕ }
+    requires low { base ≤ 1984 }
+    requires ordered { (k : ℕ) → k < 64 → F.pre order k × ((e : ℕ) → F.post order k e → (e ≡ turn k) × (e < 64)) }
+    ensures { Grows bounds.old bounds.new × ((k l y : ℕ) → k ≤ l → l < 64 → In (get_or bounds.old (base + turn k) 0) y → In (get_or bounds.new (base + turn l) 0) y) }
 {
-    let mut e = LAST;
-    while 0 < e {
-        let later = bounds[base + e];
-        e -= 1;
-        bounds[base + e] = bitset::union(bounds[base + e], later);
-    }
-}
-
-// Adds to each of 64 entries what the entries before it have.
-fn join_up(base: usize, bounds: &mut [u64; BOUNDS])
-    requires { (base ≤ 1984) }
-    ensures { Grows bounds.old bounds.new × ((d e y : ℕ) → e ≤ d → d < 64 → In (get_or bounds.old (base + e) 0) y → In (get_or bounds.new (base + d) 0) y) }
-{
-    let mut e = 0;
-    while e < LAST {
-        let sooner = bounds[base + e];
-        e += 1;
-        bounds[base + e] = bitset::union(bounds[base + e], sooner);
+    let mut all = 0;
+    for k in 0..MOMENTS {
+        let q = base + order(k);
+        all = bitset::union(all, bounds[q]);
+        bounds[q] = all;
     }
 }
 
@@ -74,8 +63,8 @@ fn fill_pair(ends: &[u64; PAIRS], p: usize, a: u32, z: u32, bounds: &mut [u64; B
     ensures { Grows bounds.old bounds.new × ((y e : ℕ) → a ≤ y → y ≤ z → a ≤ e → e ≤ z → In (get_or ends.now (p * 64 + y) 0) e → Bounded bounds.new p y e) }
 {
     mark_pair(ends, p, a, z, bounds);
-    join_down(p * MOMENTS, bounds);
-    join_up(SOONER + p * MOMENTS, bounds);
+    join(p * MOMENTS, |k| LAST - k, bounds);
+    join(SOONER + p * MOMENTS, |k| k, bounds);
 }
 
 // The pairs of members of which some condition ties the end of w to the begin of j, at w * MEMBERS + j.
