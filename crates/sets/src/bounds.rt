@@ -6,7 +6,7 @@ ghost use Rattle.narrowing.specs.Code.Tables.{EndsHave, BoundsHave, Bounded};
 ghost use Rattle.sets.specs.Code.Tables.{InSpan};
 ghost use Rattle.sets.specs.Code.Bounds.{Grows, EndMarked};
 
-use crate::tables::is_short;
+use crate::tables::{is_short, members_of, pair};
 use keeping::PAIRS;
 use narrowing::bounds::{BOUNDS, FILLED, SOONER};
 use words::forms::{BEGIN_AFTER_END, HOLDS_BETWEEN};
@@ -67,46 +67,28 @@ fn fill_pair(ends: &[u64; PAIRS], p: usize, a: u32, z: u32, bounds: &mut [u64; B
     join(SOONER + p * MOMENTS, |k| k, bounds);
 }
 
-// The pairs of members of which some condition ties the end of w to the begin of j, at w * MEMBERS + j.
-fn tied(conds: &[u32]) -> u64 {
-    let mut pairs = 0;
-    let mut c = 0;
-    while c < conds.len() {
-        let word = conds[c];
-        let p = words::condition_i(word) * MEMBERS + words::condition_j(word);
-        match words::form_of(word) {
-            BEGIN_AFTER_END => pairs = bitset::union(pairs, bitset::single(p as u32)),
-            HOLDS_BETWEEN => pairs = bitset::union(pairs, bitset::single(p as u32)),
-            _ => {}
-        }
-        c += 1;
+// The pair of members of which condition w ties the end of the one to the begin of the other, if it ties any.
+fn tied_by(w: u32) -> u64 {
+    match words::form_of(w) {
+        BEGIN_AFTER_END | HOLDS_BETWEEN => { pair(words::condition_i(w), words::condition_j(w)) }
+        _ => 0,
     }
-    pairs
 }
 
-// The bounds of the pair (w, j), where these are different members of the set.
-fn fill_members(
-    ends: &[u64; PAIRS],
-    count: usize,
-    w: usize,
-    j: usize,
-    a: u32,
-    z: u32,
-    bounds: &mut [u64; BOUNDS],
-)
-    requires { (count ≤ 4) × (a ≤ z) × (z < 64) }
-    ensures { (bs es : ℕ → ℕ) → InSpan count a z bs es → EndsHave count ends.now bs es → BoundsHave count bounds.old bs es → BoundsHave count bounds.new bs es }
+// The pairs of members that some condition ties.
+fn tied(conds: &[u32]) -> u64 {
+    conds
+        .iter()
+        .fold(0, |pairs, &w| bitset::union(pairs, tied_by(w)))
+}
+
+// The bounds of the pair (w, j).
+fn fill_members(ends: &[u64; PAIRS], w: usize, j: usize, a: u32, z: u32, bounds: &mut [u64; BOUNDS])
+    requires { (w < 4) × (j < 4) × (a ≤ z) × (z < 64) }
+    ensures { (count : ℕ) (bs es : ℕ → ℕ) → w < count → j < count → InSpan count a z bs es → EndsHave count ends.now bs es → BoundsHave count bounds.old bs es → BoundsHave count bounds.new bs es }
 {
-    if count <= w {
-        return;
-    }
-    if count <= j {
-        return;
-    }
-    if w != j {
-        fill_pair(ends, w * MEMBERS + j, a, z, bounds);
-        bounds[FILLED + j] = bitset::union(bounds[FILLED + j], bitset::single(w as u32));
-    }
+    fill_pair(ends, w * MEMBERS + j, a, z, bounds);
+    bounds[FILLED + j] = bitset::union(bounds[FILLED + j], bitset::single(w as u32));
 }
 
 // The bounds of all pairs that are tied, but none where a..z is short.
@@ -126,8 +108,9 @@ pub fn fill(
     }
     let mut rest = tied(conds);
     while rest != 0 {
-        let p = bitset::lowest(rest) as usize;
-        fill_members(ends, count, p / 4, p % 4, a, z, bounds);
+        if let Some((w, j)) = members_of(bitset::lowest(rest), count) {
+            fill_members(ends, w, j, a, z, bounds);
+        }
         rest = bitset::drop_lowest(rest);
     }
 }

@@ -1,6 +1,6 @@
 // The tables of a set for the moments a..z: the masks of its conditions, and by pairs of members the ends of i where j begins at y, the begins
 // of j where i begins at x, and the ends of i begun at x or later. They leave out what no placement has.
-ghost use Rattle.std.specs.Prelude.{◌≡◌, true, ◌↔◌, ℕ, ◌+◌, ◌*◌, ◌<◌, ◌≤◌, length, get_or};
+ghost use Rattle.std.specs.Prelude.{◌≡◌, true, ◌↔◌, ℕ, ◌+◌, ◌*◌, ◌<◌, ◌≤◌, length, get_or, MatchOption};
 ghost use Rattle.bitset.specs.Code.Members.{In};
 ghost use Rattle.words.specs.Fields.{member_node, condition_i, condition_j};
 ghost use Rattle.sets.specs.Code.Rows.{task_set_of};
@@ -50,8 +50,7 @@ fn cut_for(
     let i = words::condition_i(w);
     let j = ending::ends::partner(form, i, words::condition_j(w));
     match form {
-        BEGIN_AFTER_BEGIN => cut(goes, j * MEMBERS + i, allow, c, a, z),
-        HOLDS_BEFORE => cut(goes, j * MEMBERS + i, allow, c, a, z),
+        BEGIN_AFTER_BEGIN | HOLDS_BEFORE => cut(goes, j * MEMBERS + i, allow, c, a, z),
         _ => cut(ends, i * MEMBERS + j, allow, c, a, z),
     }
 }
@@ -190,46 +189,41 @@ fn cut_pair(i: usize, j: usize, a: u32, z: u32, ends: &mut [u64; PAIRS], goes: &
     }
 }
 
-// The pairs of members that some condition is on, i and j at i * MEMBERS + j.
-fn constrained(conds: &[u32]) -> u64 {
-    let mut pairs = 0;
-    let mut c = 0;
-    while c < conds.len() {
-        let w = conds[c];
-        let i = words::condition_i(w);
-        let j = ending::ends::partner(words::form_of(w), i, words::condition_j(w));
-        pairs = bitset::union(pairs, bitset::single((i * MEMBERS + j) as u32));
-        pairs = bitset::union(pairs, bitset::single((j * MEMBERS + i) as u32));
-        c += 1;
-    }
-    pairs
-}
-
-// Does so where i and j are different members of the set.
-fn cut_members(
-    count: usize,
-    i: usize,
-    j: usize,
-    a: u32,
-    z: u32,
-    ends: &mut [u64; PAIRS],
-    goes: &mut [u64; PAIRS],
-)
-    requires { (count ≤ 4) × (a ≤ z) × (z < 64) }
-    ensures { LeftOut count a z ends.old goes.old ends.new goes.new }
+// The pair of the members i and j, as a set of pairs: it stands at i * MEMBERS + j.
+pub fn pair(i: usize, j: usize) -> u64
+    requires { (i < 8) × (j < 8) }
 {
-    if count <= i {
-        return;
-    }
-    if count <= j {
-        return;
-    }
-    if i != j {
-        cut_pair(i, j, a, z, ends, goes);
+    bitset::single((i * MEMBERS + j) as u32)
+}
+
+// The members i and j of pair p, where these are different members of the set.
+pub fn members_of(p: u32, count: usize) -> Option<(usize, usize)>
+    ensures { MatchOption result (Unit {0}) (λ m. (m.0 < count) × (m.1 < count)) }
+{
+    let i = p as usize / MEMBERS;
+    let j = p as usize % MEMBERS;
+    if i < count && j < count && i != j {
+        Some((i, j))
+    } else {
+        None
     }
 }
 
-// Does so for each of these pairs.
+// The pairs of members that condition w is on.
+fn pairs_of(w: u32) -> u64 {
+    let i = words::condition_i(w);
+    let j = ending::ends::partner(words::form_of(w), i, words::condition_j(w));
+    bitset::union(pair(i, j), pair(j, i))
+}
+
+// The pairs of members that some condition is on.
+fn constrained(conds: &[u32]) -> u64 {
+    conds
+        .iter()
+        .fold(0, |pairs, &w| bitset::union(pairs, pairs_of(w)))
+}
+
+// Cuts each of these pairs of different members.
 fn cut_pairs(
     pairs: u64,
     count: usize,
@@ -243,8 +237,9 @@ fn cut_pairs(
 {
     let mut rest = pairs;
     while rest != 0 {
-        let p = bitset::lowest(rest) as usize;
-        cut_members(count, p / 4, p % 4, a, z, ends, goes);
+        if let Some((i, j)) = members_of(bitset::lowest(rest), count) {
+            cut_pair(i, j, a, z, ends, goes);
+        }
         rest = bitset::drop_lowest(rest);
     }
 }

@@ -16,10 +16,10 @@ loop-i-preserved c =
     let new = c.fill_later_row.new.later in
     let o = c.fill_later_row.ensures in
     λ k x y e g h m n t. by_cases (dec_lt k l.i)
-        (λ b. subst (λ (v : ℕ). In v e) (sym (o.1 (k * 64 + x) (omega (arith, c.requires)))) (l.invariant k x y e b h m n t))
-        (λ b.
-        let q : l.i ≡ k = omega arith in
-        subst (λ (k : ℕ). In (get_or new (k * 64 + x) 0) e) q (o.0 x y e h m n (subst (λ (k : ℕ). In (pair_at E k k y) e) (sym q) t)))
+    (λ b. subst (λ (v : ℕ). In v e) (sym (o.1 (k * 64 + x) (omega (arith, c.requires)))) (l.invariant k x y e b h m n t))
+    (λ b.
+    let q : l.i ≡ k = omega arith in
+    subst (λ (k : ℕ). In (get_or new (k * 64 + x) 0) e) q (o.0 x y e h m n (subst (λ (k : ℕ). In (pair_at E k k y) e) (sym q) t)))
 
 pub returns : goal.returns
 returns c = λ i x y e l. c.loop-i.invariant i x y e (omega arith)
