@@ -50,20 +50,6 @@ pub record OwnRows (members table goes : List ℕ) (a z : ℕ) (old new : List �
   pub kept : (bs es : ℕ → ℕ) → InSpan (length members) a z bs es → ((i : ℕ) → i < length members → InTable table (member_node (get_or members i 0)) (bs i) (es i))
       → GoesHave (length members) goes bs → EndsHave (length members) old bs es → EndsHave (length members) new bs es
 
--- what cutting the tables by condition c, of word w, needs, and by all conditions
-pub record ConditionReady (w c a z : ℕ) : Type 0 where
-  pub number : c < 8
-  pub first : condition_i w < 4
-  pub second : condition_j w < 4
-  pub forward : a ≤ z
-  pub moments : z < 64
-
-pub record ConditionsReady (cs : List ℕ) (a z : ℕ) : Type 0 where
-  pub few : length cs ≤ 8
-  pub named : (c : ℕ) → c < length cs → (condition_i (get_or cs c 0) < 4) × (condition_j (get_or cs c 0) < 4)
-  pub forward : a ≤ z
-  pub moments : z < 64
-
 -- what filling the tables of a set for the moments a..z needs: tables that nothing is left out of, and arrays of their length
 pub record TablesReady (s : TaskSet) (table : List ℕ) (a z : ℕ) (allow ends goes later : List ℕ) : Type 0 where
   pub formed : Formed s

@@ -11,7 +11,7 @@ use Rattle.sets.proofs.tables.cut.Goals as goal
 use Rattle.sets.proofs.tables.cut.Goals.{After-inter}
 
 -- nor is entry y
-stepped : (c : After-inter) → let a = c.args in Cut a.table.now a.p a.allow.now a.c a.a a.z (set c.loop-y.table (a.p * 64 + c.loop-y.y) c.inter.result)
+stepped : (c : After-inter) → let a = c.args in Cut a.table.now a.p a.allow.now a.c a.span.a a.span.z (set c.loop-y.table (a.p * 64 + c.loop-y.y) c.inter.result)
 stepped c q e t h =
     let l = c.loop-y in
     in_kept l.table (c.args.p * 64 + l.y) c.inter.result (l.invariant q e t h)

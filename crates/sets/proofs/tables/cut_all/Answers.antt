@@ -7,9 +7,8 @@ loop-c-init c = (omega arith, λ count bs es w few met have. have)
 
 pub cut_for-requires : goal.cut_for-requires
 cut_for-requires c =
-    let p = c.requires in
-    let m = p.named c.loop-c.c c.loop-c-test.true in
-    record { number = omega (arith, p.few, c.loop-c-test.true); first = m.0; second = m.1; forward = p.forward; moments = p.moments }
+    let m = c.requires.1 c.loop-c.c c.loop-c-test.true in
+    (omega (arith, c.requires.0, c.loop-c-test.true), m.0, m.1)
 
 pub loop-c-preserved : goal.loop-c-preserved
 loop-c-preserved c = let l = c.loop-c in (

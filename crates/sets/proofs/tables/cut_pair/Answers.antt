@@ -13,7 +13,7 @@ use Rattle.sets.proofs.tables.cut_pair.Goals.{After-inter}
 
 -- begin x leaves out no more
 stepped : (c : After-inter) → (count : ℕ) → c.args.i < count → c.args.j < count → count ≤ 4
-    → LeftOut count c.args.a c.args.z c.args.ends.now c.args.goes.now (set c.loop-x.ends c.pair_index-p.result c.inter.result) (set c.loop-x.goes c.pair_index.result c.partners-begins.result)
+    → LeftOut count c.args.span.a c.args.span.z c.args.ends.now c.args.goes.now (set c.loop-x.ends c.pair_index-p.result c.inter.result) (set c.loop-x.goes c.pair_index.result c.partners-begins.result)
 stepped c count first second few =
     let l = c.loop-x in
     let i = c.args.i in
@@ -27,8 +27,8 @@ stepped c count first second few =
     let h = l.invariant count first second few in
     record {
       fewer = rw ends_at (fewer_more c.args.ends.now l.ends k c.inter.result both h.fewer);
-      kept = λ bs es within have. rw (Goes-at, ends_at) (pair_more i j l.x c.args.a c.args.z r.result
-          c.some_ends.result c.inter.result few c.requires.3
+      kept = λ bs es within have. rw (Goes-at, ends_at) (pair_more i j l.x c.args.span.a c.args.span.z r.result
+          c.some_ends.result c.inter.result few c.args.span.moments
           (omega arith) first second within r.ensures c.some_ends.ensures both (h.kept bs es within have));
     }
 

@@ -9,6 +9,6 @@ loop-rest-init c = left_none
 
 pub loop-rest-preserved : goal.loop-rest-preserved
 loop-rest-preserved c = elim c.match-members_of.branch [
-  | in-Some w ↦ rw (w.ends-is, w.goes-is) (left_more c.loop-rest.invariant (w.cut_pair.ensures c.args.count w.in-Some.ensures.0 w.in-Some.ensures.1 c.requires.0))
+  | in-Some w ↦ rw (w.ends-is, w.goes-is) (left_more c.loop-rest.invariant (w.cut_pair.ensures c.args.count w.in-Some.ensures.0 w.in-Some.ensures.1 c.requires))
   | in_default w ↦ rw (w.ends-is, w.goes-is) c.loop-rest.invariant
 ]

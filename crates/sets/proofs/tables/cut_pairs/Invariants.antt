@@ -6,7 +6,7 @@ use Rattle.sets.proofs.tables.cut_pairs.Given as goal
 
 abbrev pub invariant-loop-rest : goal.invariant-loop-rest
 invariant-loop-rest l =
-    LeftOut l.count l.a l.z l.initial.ends l.initial.goes l.ends l.goes
+    LeftOut l.count l.span.a l.span.z l.initial.ends l.initial.goes l.ends l.goes
 
 abbrev pub decreases-loop-rest : goal.decreases-loop-rest
 decreases-loop-rest l = pop_count l.rest

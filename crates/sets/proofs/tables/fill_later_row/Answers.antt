@@ -20,12 +20,12 @@ module _ (c : After-union-all) where
   abbrev new : List ℕ
   new = set c.loop-x.later (c.args.i * 64 + c.loop-x.x) c.union-all.result
 
-  reached : (y e : ℕ) → c.loop-x.x ≤ y → y ≤ c.args.z → In (pair_at c.args.ends.now c.args.i c.args.i y) e → In c.union-all.result e
+  reached : (y e : ℕ) → c.loop-x.x ≤ y → y ≤ c.args.span.z → In (pair_at c.args.ends.now c.args.i c.args.i y) e → In c.union-all.result e
   reached y e m k t = by_cases (ℕ_discrete y c.loop-x.x)
       (λ q. (in_union c.union-all.ensures e).1 (inr (rw c.pair_at.ensures (subst (λ (y : ℕ). In (pair_at c.args.ends.now c.args.i c.args.i y) e) q t))))
       (λ q. (in_union c.union-all.ensures e).1 (inl (c.loop-x.invariant.reached y e (omega arith) k t)))
 
-  masks : (v y e : ℕ) → c.loop-x.x ≤ v → v ≤ y → y ≤ c.args.z → In (pair_at c.args.ends.now c.args.i c.args.i y) e → In (get_or new (c.args.i * 64 + v) 0) e
+  masks : (v y e : ℕ) → c.loop-x.x ≤ v → v ≤ y → y ≤ c.args.span.z → In (pair_at c.args.ends.now c.args.i c.args.i y) e → In (get_or new (c.args.i * 64 + v) 0) e
   masks v y e m k n t = entry_set (λ w. In w e) c.loop-x.later (c.args.i * 64 + c.loop-x.x) c.union-all.result (omega (arith, c.requires, c.loop-x.invariant.long))
       (λ q. reached y e (omega arith) n t) (λ q. c.loop-x.invariant.masks v y e (omega arith) k n t)
 
