@@ -30,6 +30,11 @@ pub record Dropped (x r : ℕ) : Type 0 where
   pub rest : (m : ℕ) → Lowest x m → IsSetOf r (λ k. has x k && not (eqb k m))
   pub fewer : pop_count r + 1 ≡ pop_count x
 
+-- a walk of the members of x, the lowest first, gives r and leaves y
+abbrev pub GivesLowest : ℕ → Option ℕ → ℕ → Type 0
+GivesLowest x (Some m) y = Lowest x m × Dropped x y
+GivesLowest x None y = (x ≡ 0) × (y ≡ 0)
+
 -- m is the highest member of x that is at most e
 pub record Highest (x e m : ℕ) : Type 0 where
   pub upto : m ≤ e
