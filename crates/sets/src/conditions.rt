@@ -141,14 +141,8 @@ fn holds_until(asked: Asked, x: u32, span: Span) -> u64
         return all;
     }
     match bitset::highest_upto(asked.fails, x - asked.last) {
-        bitset::Member::At(g) => {
-            if g < asked.first {
-                all
-            } else {
-                bitset::minus(all, bitset::upto(g - asked.first))
-            }
-        }
-        bitset::Member::Nothing => all,
+        Some(g) if asked.first <= g => bitset::minus(all, bitset::upto(g - asked.first)),
+        _ => all,
     }
 }
 
