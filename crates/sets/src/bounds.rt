@@ -108,11 +108,9 @@ pub fn fill(
     if span.is_short() {
         return;
     }
-    let mut rest = tied(conds);
-    while rest != 0 {
-        if let Some((w, j)) = members_of(bitset::lowest(rest), count) {
+    for p in bitset::members(tied(conds)) {
+        if let Some((w, j)) = members_of(p, count) {
             fill_members(ends, w, j, span, bounds);
         }
-        rest = bitset::drop_lowest(rest);
     }
 }

@@ -138,13 +138,10 @@ fn partners(ends: &[u64; PAIRS], goes: &[u64; PAIRS], i: usize, x: u32, j: usize
         return 0;
     }
     let mut r = 0;
-    let mut rest = pair_at(goes, i, j, x);
-    while rest != 0 {
-        let y = bitset::lowest(rest);
+    for y in bitset::members(pair_at(goes, i, j, x)) {
         if together(ends, goes, i, x, j, y) {
             r = bitset::union(r, bitset::single(y));
         }
-        rest = bitset::drop_lowest(rest);
     }
     r
 }
@@ -154,13 +151,7 @@ fn some_ends(ends: &[u64; PAIRS], i: usize, j: usize, begins: u64) -> u64
     requires { (i < 4) × (j < 4) }
     ensures { (y e : ℕ) → In begins y → In (pair_at ends.now i j y) e → In result e }
 {
-    let mut r = 0;
-    let mut rest = begins;
-    while rest != 0 {
-        r = bitset::union(r, pair_at(ends, i, j, bitset::lowest(rest)));
-        rest = bitset::drop_lowest(rest);
-    }
-    r
+    bitset::join_rows(begins, ends, pair_index(i, j, 0))
 }
 
 // Leaves out, for the pair of members i and j, the begins of j with which no ends of both are left, and the ends of i with which no begin of j
@@ -216,12 +207,10 @@ fn cut_pairs(pairs: u64, count: usize, span: Span, ends: &mut [u64; PAIRS], goes
     requires { count ≤ 4 }
     ensures { LeftOut count span.a span.z ends.old goes.old ends.new goes.new }
 {
-    let mut rest = pairs;
-    while rest != 0 {
-        if let Some((i, j)) = members_of(bitset::lowest(rest), count) {
+    for p in bitset::members(pairs) {
+        if let Some((i, j)) = members_of(p, count) {
             cut_pair(i, j, span, ends, goes);
         }
-        rest = bitset::drop_lowest(rest);
     }
 }
 
