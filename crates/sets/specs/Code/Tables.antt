@@ -1,7 +1,7 @@
 -- Between functions: how the tables of a set are filled, and what they say. bs and es are begins and ends of all members.
 use Rattle.std.specs.Prelude.{ℕ, ◌+◌, ◌*◌, ◌≤◌, ◌<◌, ◌≡◌, List, length, get_or}
 use Rattle.bitset.specs.Code.Members.{In}
-use Rattle.words.specs.Fields.{member_node, condition_i, condition_j}
+use Rattle.words.specs.Fields.{member_node}
 use Rattle.model.specs.Code.Table.{InTable}
 use Rattle.keeping.specs.Code.Tables.{pair_at}
 use Rattle.narrowing.specs.Code.Tables.{EndsHave, GoesHave, InTables}

@@ -5,10 +5,9 @@ use mathlib.Core.Path.{◌≡◌, subst}
 use mathlib.Core.Logic.{inl, inr, by_cases, ⊎_elim}
 use mathlib.Core.List.{List}
 use native.Mathlib.Decide.{ℕ_discrete}
-use native.Mathlib.Omega.{arith}
 use Rattle.bitset.specs.Code.Members.{In}
 use Rattle.bitset.proofs.Bools.{not_both}
-use Rattle.bitset.proofs.In.{in_union, in_single, in_without, in_zero}
+use Rattle.bitset.proofs.In.{in_without, in_zero}
 use Rattle.keeping.specs.Code.Tables.{pair_at}
 use Rattle.sets.proofs.tables.partners.Goals as goal
 
