@@ -7,7 +7,7 @@ use native.Mathlib.Omega.{arith}
 use lib.ListN.{get_or}
 use Rattle.bitset.specs.Code.Members.{In}
 use Rattle.bitset.proofs.In.{in_both, in_between}
-use Rattle.sets.proofs.Late.{grows_none, grows_more, marked_more, marked_same}
+use Rattle.sets.proofs.Late.{grows_more, marked_more, marked_same}
 use Rattle.sets.proofs.bounds.mark_pair.Invariants.{MarkedTo}
 use Rattle.sets.proofs.bounds.mark_pair.Goals as goal
 use Rattle.sets.proofs.bounds.mark_pair.Goals.{After-mark}
@@ -26,14 +26,8 @@ stepped c =
           (λ q. marked_more o.0 (l.invariant.marked v e g (omega arith) m n t));
     }
 
-pub loop-y-init : goal.loop-y-init
-loop-y-init c = record { grows = grows_none; marked = λ v e g h. absurd (omega arith) }
-
 pub loop-y-preserved : goal.loop-y-preserved
 loop-y-preserved c = stepped (goal.at.loop-y-preserved c).After-mark
-
-pub returns : goal.returns
-returns c = absurd (omega arith)
 
 pub returns-2 : goal.returns-2
 returns-2 c = let s = stepped (goal.at.returns-2 c).After-mark in (s.grows, λ y e g h. s.marked y e g (omega arith))

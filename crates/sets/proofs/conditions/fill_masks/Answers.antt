@@ -1,6 +1,6 @@
 -- `sets::conditions::fill_masks` meets its contract. The invariant: the masks for the begins before x are right. Assumes nothing.
 use Prim.Native.Nat.{ℕ, ◌+◌, ◌*◌, ◌≤◌}
-use mathlib.Core.Path.{◌≡◌, refl, subst, ◌∙◌}
+use mathlib.Core.Path.{◌≡◌, subst, ◌∙◌}
 use mathlib.Core.Logic.{◌↔◌}
 use native.Mathlib.Omega.{arith}
 use lib.ListN.{set, length-set}
@@ -47,14 +47,8 @@ stepped c =
       others = λ p g. get_or-set_other l.allow (a.c * 64 + l.x) p c.mask_at.result 0 (omega arith) ∙ l.invariant.others p g;
     }
 
-pub loop-x-init : goal.loop-x-init
-loop-x-init c = record { long = c.told-allow; masks = λ u y g h. absurd (omega arith); others = λ p g. refl }
-
 pub loop-x-preserved : goal.loop-x-preserved
 loop-x-preserved c = stepped (goal.at.loop-x-preserved c).After-mask_at
-
-pub returns : goal.returns
-returns c = absurd (omega arith)
 
 pub returns-2 : goal.returns-2
 returns-2 c = let s = stepped (goal.at.returns-2 c).After-mask_at in (λ x y g h. s.masks x y g (omega arith), s.others)

@@ -1,7 +1,5 @@
 -- `sets::conditions::holds_before` meets its contract. Assumes nothing.
 use Prim.Native.Nat.{ℕ, ◌-◌, ◌≤◌}
-use mathlib.Core.Path.{refl}
-use mathlib.Core.Bool.{false≢true}
 use mathlib.Core.Logic.{◌↔◌}
 use native.Mathlib.Omega.{arith}
 use Rattle.bitset.specs.Code.Members.{In}
@@ -16,12 +14,6 @@ inside c t = (
   λ u. let o = (in_both c.inter.ensures t).0 u in (o.0, (in_between c.between.ensures t).0 o.1),
   λ o. (in_both c.inter.ensures t).1 (o.0, (in_between c.between.ensures t).1 o.1),
 )
-
-pub returns-then-y-asked : goal.returns-then-y-asked
-returns-then-y-asked c = λ n. record { met = λ value k a z x l u f. (λ z. absurd (false≢true z), λ m. let g = m.0 in absurd (omega arith)) }
-
-pub returns-then-y-asked-2 : goal.returns-then-y-asked-2
-returns-then-y-asked-2 c = λ n. record { met = λ value k a z x l u f. (λ z. (omega arith, λ t g m. absurd (omega arith)), λ m. refl) }
 
 pub returns : goal.returns
 returns c = λ n. record {

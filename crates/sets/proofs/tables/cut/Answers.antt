@@ -17,14 +17,8 @@ stepped c q e t h =
     in_kept l.table (c.args.p * 64 + l.y) c.inter.result (l.invariant q e t h)
     (λ k. (in_both c.inter.ensures e).1 (subst (λ (q : ℕ). In (get_or l.table q 0) e) k (l.invariant q e t h), h l.y k (omega arith) (omega arith)))
 
-pub loop-y-init : goal.loop-y-init
-loop-y-init c = λ q e t h. t
-
 pub loop-y-preserved : goal.loop-y-preserved
 loop-y-preserved c = stepped (goal.at.loop-y-preserved c).After-inter
-
-pub returns : goal.returns
-returns c = c.loop-y.invariant
 
 pub returns-2 : goal.returns-2
 returns-2 c = stepped (goal.at.returns-2 c).After-inter

@@ -7,7 +7,7 @@ use lib.ListN.{get_or, set}
 use Rattle.bitset.specs.Code.Members.{In}
 use Rattle.bitset.proofs.In.{in_both}
 use Rattle.sets.specs.Code.Tables.{LeftOut}
-use Rattle.sets.proofs.Pairs.{pair_more, fewer_more, left_none}
+use Rattle.sets.proofs.Pairs.{pair_more, fewer_more}
 use Rattle.sets.proofs.tables.cut_pair.Goals as goal
 use Rattle.sets.proofs.tables.cut_pair.Goals.{After-inter}
 
@@ -32,14 +32,8 @@ stepped c count first second few =
           (omega arith) first second within r.ensures c.some_ends.ensures both (h.kept bs es within have));
     }
 
-pub loop-x-init : goal.loop-x-init
-loop-x-init c = λ count first second few. left_none
-
 pub loop-x-preserved : goal.loop-x-preserved
 loop-x-preserved c = stepped (goal.at.loop-x-preserved c).After-inter
-
-pub returns : goal.returns
-returns c = c.loop-x.invariant
 
 pub returns-2 : goal.returns-2
 returns-2 c = stepped (goal.at.returns-2 c).After-inter

@@ -1,10 +1,7 @@
 -- `sets::tables::cut_pairs` meets its contract. The invariant: the tables have what they had of each placement, and no end more. Assumes
 -- nothing.
-use Rattle.sets.proofs.Pairs.{left_none, left_more}
+use Rattle.sets.proofs.Pairs.{left_more}
 use Rattle.sets.proofs.tables.cut_pairs.Goals as goal
-
-pub loop-p-init : goal.loop-p-init
-loop-p-init c = left_none
 
 pub loop-p-preserved-in-Some-members_of : goal.loop-p-preserved-in-Some-members_of
 loop-p-preserved-in-Some-members_of c =
