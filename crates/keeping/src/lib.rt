@@ -1,9 +1,8 @@
 // The tables of a task set, their entries by pairs of members, and what one member keeps where another begins.
 #![tactic(auto)]
 
-ghost use Rattle.std.specs.Prelude.{◌≡◌, ℕ, ◌+◌, ◌*◌, ◌<◌, ◌≤◌, get_or};
-ghost use Rattle.bitset.specs.Code.Members.{In};
-ghost use Rattle.keeping.specs.Code.Tables.{pair_at};
+ghost use Rattle.std.specs.Prelude.{◌≡◌, ◌+◌, ◌*◌, ◌<◌};
+ghost use Rattle.keeping.specs.Code.Tables.{pair_at, Narrows};
 
 use words::{CONDITIONS, MEMBERS, MOMENTS};
 
@@ -60,7 +59,7 @@ pub fn pair_at(table: &[u64; PAIRS], i: usize, j: usize, x: u32) -> u64
 // What member j keeps where member i begins at x, within a window of moments.
 pub fn narrowed(tables: &Tables, i: usize, x: u32, j: usize, old: Choice, window: u64) -> Choice
     requires { (i < 4) × (j < 4) × (x < 64) }
-    ensures { ((y e : ℕ) → In old.begins y → In (pair_at tables.now.goes i j x) y → In window y → In old.ends e → In (pair_at tables.now.ends j i x) e → In window e → ((z : ℕ) → In window z → z ≤ y → In (get_or tables.now.later (j * 64 + z) 0) e) → In result.begins y × In result.ends e) × ((y : ℕ) → In result.begins y → In old.begins y) }
+    ensures { Narrows tables.now i x j window old result }
 {
     let there = bitset::inter(pair_at(&tables.goes, i, j, x), window);
     let begins = bitset::inter(old.begins, there);
