@@ -1,7 +1,7 @@
 -- The moments at which a formula fails, the masks that the conditions allow, and the masks of the members' ends as the conditions narrow them. Assumes nothing.
 use Prim.Native.Nat.{ℕ, zero, suc, ◌+◌, ◌*◌, ◌^◌, ◌≤◌, ◌<◌}
 use mathlib.Core.Path.{◌≡◌, refl, sym, subst}
-use mathlib.Core.Bool.{true, ◌&&◌, ◌||◌}
+use mathlib.Core.Bool.{Bool, true, false, ◌&&◌, ◌||◌}
 use mathlib.Core.Logic.{◌↔◌, ◌⊎◌, inl, inr, ⊎_elim, by_cases}
 use mathlib.Core.List.{List}
 use native.Mathlib.Decide.{dec_lt, ℕ_discrete}
@@ -13,11 +13,11 @@ use borrow.Author.Tests.{eqb-true, eq-eqb}
 use Rattle.bitset.specs.Code.Members.{has, IsSetOf, In, Highest}
 use Rattle.bitset.proofs.Bools.{not_both}
 use Rattle.bitset.proofs.Ends.{lowest}
-use Rattle.bitset.proofs.In.{in_zero, in_both, in_between, in_single, in_more}
+use Rattle.bitset.proofs.In.{in_zero, in_both, in_between, in_single, in_union}
 use Rattle.words.specs.Fields.{form, holds, condition_formula, condition_m, condition_n}
 use Rattle.model.specs.Forms.{condition_number}
 use Rattle.sets.specs.Set.{MetAt}
-use Rattle.sets.specs.Code.Masks.{Allowed, Seen, MaskOf}
+use Rattle.sets.specs.Code.Masks.{Picked, Allowed, Seen, MaskOf}
 use Rattle.covering.proofs.Laws.{gain, gain_yes, gain_no}
 
 -- a word without members is 0
@@ -26,23 +26,53 @@ empty_zero {r} f n = by_cases (ℕ_discrete r 0) (λ q. q) (λ q. absurd (n (cou
 
 -- ---- one moment more
 
--- the moments from a to before y + 1 at which M holds: those before y, and y
-turn : (M : ℕ → Type 0) (a y z : ℕ) → a ≤ y → ((a ≤ z) × (z < y + 1) × M z) ↔ (((a ≤ z) × (z < y) × M z) ⊎ (M y × (z ≡ y)))
-turn M a y z l = (
-  λ h. let g = h.1 in by_cases (dec_lt z y) (λ k. inl (h.0, k, h.2)) (λ k. let q : z ≡ y = omega arith in inr (subst M q h.2, q)),
-  ⊎_elim (λ h. let g = h.1 in (h.0, omega arith, h.2)) (λ h. let q = h.1 in (omega arith, omega arith, subst M (sym q) h.0)),
+-- of the moments from a to before y, the mask has those at which the test says yes
+pub record PickedTo (a : ℕ) (says : ℕ → Bool → Type 0) (mask y : ℕ) : Type 0 where
+  pub inside : (v : ℕ) → In mask v → (a ≤ v) × (v < y)
+  pub told : (v : ℕ) → a ≤ v → v < y → (r : Bool) × says v r × ((r ≡ true) ↔ In mask v)
+
+pub picked_none : {a : ℕ} {says : ℕ → Bool → Type 0} → PickedTo a says 0 a
+picked_none = record { inside = λ v t. absurd (in_zero refl t); told = λ v l g. absurd (omega arith) }
+
+module _ {a y mask : ℕ} {says : ℕ → Bool → Type 0} {r : Bool} (l : a ≤ y) (old : PickedTo a says mask y) (met : says y r) where
+  pub picked_yes : {m new : ℕ} (one : ℕ) → r ≡ true → IsSetOf one (λ k. eqb k y) → IsSetOf new (λ k. has mask k || has one k) → m ≡ new → PickedTo a says m (y + 1)
+  picked_yes {m} {new} one h s u e = subst (λ (m : ℕ). PickedTo a says m (y + 1)) (sym e) (record {
+    inside = λ v t. ⊎_elim (λ o. let k = old.inside v o in (k.0, omega arith)) (λ o. let q = (in_single s v).0 o in (omega arith, omega arith)) ((in_union u v).0 t);
+    told = λ v g b. by_cases (dec_lt v y)
+        (λ k. let o = old.told v g k in (
+          o.0,
+          o.1,
+          (λ q. (in_union u v).1 (inl (o.2.0 q)), λ t. ⊎_elim (λ i. o.2.1 i) (λ i. let q = (in_single s v).0 i in absurd (omega arith)) ((in_union u v).0 t)),
+        ))
+        (λ k. let q : v ≡ y = omega arith in (
+          r,
+          subst (λ (v : ℕ). says v r) (sym q) met,
+          (λ _. (in_union u v).1 (inr ((in_single s v).1 q)), λ _. h),
+        ));
+  })
+
+  pub picked_no : {m : ℕ} → r ≡ false → m ≡ mask → PickedTo a says m (y + 1)
+  picked_no {m} n e = subst (λ (m : ℕ). PickedTo a says m (y + 1)) (sym e) (record {
+    inside = λ v t. let h = old.inside v t in (h.0, omega arith);
+    told = λ v g b. by_cases (dec_lt v y)
+        (λ k. old.told v g k)
+        (λ k. let q : v ≡ y = omega arith in (
+          r,
+          subst (λ (v : ℕ). says v r) (sym q) met,
+          (λ t. absurd (not_both t n), λ t. let h = old.inside v t in absurd (omega arith)),
+        ));
+  })
+
+pub picked_all : {a z y mask : ℕ} {says : ℕ → Bool → Type 0} → z ≡ y → PickedTo a says mask (y + 1) → Picked a z says mask
+picked_all q h = record { inside = λ v t. let k = h.inside v t in (k.0, omega arith); told = λ v g b. h.told v g (omega arith) }
+
+-- in words of what the test tells
+pub picked_is : {a z mask : ℕ} {says : ℕ → Bool → Type 0} (M : ℕ → Type 0) → ((t : ℕ) (r : Bool) → a ≤ t → t ≤ z → says t r → (r ≡ true) ↔ M t)
+    → Picked a z says mask → (t : ℕ) → In mask t ↔ ((a ≤ t) × (t ≤ z) × M t)
+picked_is M is h t = (
+  λ u. let o = h.inside t u in let k = h.told t o.0 o.1 in (o.0, o.1, (is t k.0 o.0 o.1 k.1).0 (k.2.1 u)),
+  λ o. let k = h.told t o.0 o.1 in k.2.0 ((is t k.0 o.0 o.1 k.1).1 o.2),
 )
-
--- mask has the moments from a to before y at which M holds
-abbrev pub Before : (ℕ → Type 0) → ℕ → ℕ → ℕ → Type 0
-Before M a y mask = (v : ℕ) → In mask v ↔ ((a ≤ v) × (v < y) × M v)
-
-module _ (M : ℕ → Type 0) {a y mask : ℕ} (l : a ≤ y) (old : Before M a y mask) where
-  pub turn_yes : {new : ℕ} (one : ℕ) → M y → IsSetOf one (λ k. eqb k y) → IsSetOf new (λ k. has mask k || has one k) → Before M a (y + 1) new
-  turn_yes one m s u = in_more (λ v. gain_yes m (gain one u (in_single s v))) (λ v. turn M a y v l) old
-
-  pub turn_no : (M y → ⊥) → Before M a (y + 1) mask
-  turn_no n = in_more (λ v. gain_no n) (λ v. turn M a y v l) old
 
 -- ---- where a formula fails
 

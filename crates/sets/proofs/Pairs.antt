@@ -209,6 +209,10 @@ fewer_more old E k v both h p e t = by_cases (ℕ_discrete p k)
 pub left_none : {count a z : ℕ} {E G : List ℕ} → LeftOut count a z E G E G
 left_none = record { fewer = λ p e t. t; kept = λ bs es w h. h }
 
+-- one step after the other
+pub left_more : {count a z : ℕ} {E G E' G' E₂ G₂ : List ℕ} → LeftOut count a z E G E' G' → LeftOut count a z E' G' E₂ G₂ → LeftOut count a z E G E₂ G₂
+left_more v o = record { fewer = λ p e t. v.fewer p e (o.fewer p e t); kept = λ bs es w h. o.kept bs es w (v.kept bs es w h) }
+
 -- ---- what the tables say
 
 -- what is known of the tables once they are filled

@@ -5,26 +5,32 @@ ghost use Rattle.words.specs.Fields.{holds};
 ghost use Rattle.model.specs.Forms.{condition_number, HoldsBefore, HoldsAfter, HoldsBetween};
 ghost use Rattle.sets.specs.Set.{MetAs, MetAt};
 ghost use Rattle.model.specs.Code.Arrays.{value_in};
-ghost use Rattle.sets.specs.Code.Masks.{Allowed, Failing, MaskOf, OwnMask};
+ghost use Rattle.sets.specs.Code.Masks.{Allowed, Failing, MaskOf, OwnMask, Picked, Tells};
 
 use keeping::MASKS;
 use words::forms::{BEGIN_AFTER_BEGIN, BEGIN_AFTER_END, HOLDS_AFTER, HOLDS_BEFORE, HOLDS_BETWEEN};
 use words::{FORMULA_VALUES, MOMENTS};
+
+// The moments of a..z at which the test says yes.
+fn moments_where<F: Fn(u32) -> bool>(a: u32, z: u32, test: F) -> u64
+    requires { (a ≤ z) × (z < 64) × ((t : ℕ) → a ≤ t → t ≤ z → F.pre test t) }
+    ensures { Picked a z (F.post test) result }
+{
+    let mut mask = 0;
+    for t in a..=z {
+        if test(t) {
+            mask = bitset::union(mask, bitset::single(t));
+        }
+    }
+    mask
+}
 
 // Of the moments from a to z, those at which formula k does not hold.
 fn failing(values: &[u8; FORMULA_VALUES], k: usize, a: u32, z: u32) -> u64
     requires { (k < 64) × (a ≤ z) × (z < 64) }
     ensures { (t : ℕ) → a ≤ t → t ≤ z → In result t ↔ (value_in values.now k t ≡ holds → ⊥) }
 {
-    let mut mask = 0;
-    let mut t = a;
-    while t <= z {
-        if values[k * MOMENTS + t as usize] != words::HOLDS {
-            mask = bitset::union(mask, bitset::single(t));
-        }
-        t += 1;
-    }
-    mask
+    moments_where(a, z, |t| values[k * MOMENTS + t as usize] != words::HOLDS)
 }
 
 // The moment d before a, or 0.
@@ -72,7 +78,7 @@ fn failing_for(
 // Whether the formula that fails at these moments holds through y - last to y - first.
 fn holds_before(fails: u64, first: u32, last: u32, y: u32) -> bool
     requires { (first < 64) × (last < 64) × (y < 64) }
-    ensures { (value : ℕ → ℕ → ℕ) (k n a z x : ℕ) → a ≤ y → y ≤ z → Failing HoldsBefore value n k last a z fails → (result ≡ true) ↔ MetAs HoldsBefore value n k first last y y x }
+    ensures { (n : ℕ) → Tells HoldsBefore n first last fails y result }
 {
     if y < last {
         return false;
@@ -86,7 +92,7 @@ fn holds_before(fails: u64, first: u32, last: u32, y: u32) -> bool
 // Whether it holds through y + first to y + last, which is at most n.
 fn holds_after(fails: u64, first: u32, last: u32, y: u32, n: u32) -> bool
     requires { (first < 64) × (last < 64) × (y < 64) × (n < 64) }
-    ensures { (value : ℕ → ℕ → ℕ) (k a z x : ℕ) → a ≤ y → y ≤ z → Failing HoldsAfter value n k last a z fails → (result ≡ true) ↔ MetAs HoldsAfter value n k first last y y x }
+    ensures { Tells HoldsAfter n first last fails y result }
 {
     if n < y + last {
         return false;
@@ -97,39 +103,17 @@ fn holds_after(fails: u64, first: u32, last: u32, y: u32, n: u32) -> bool
     bitset::inter(fails, bitset::between(y + first, y + last)) == 0
 }
 
-// The moments of a..z at which a condition of the form HOLDS_BEFORE, or else HOLDS_AFTER, is met.
-fn own_moments(form: u32, fails: u64, first: u32, last: u32, a: u32, z: u32, n: u32) -> u64
-    requires { (first < 64) × (last < 64) × (a ≤ z) × (z ≤ n) × (n < 64) }
-    ensures { OwnMask form n first last a z fails result }
-{
-    let mut mask = 0;
-    let mut y = a;
-    while y <= z {
-        let met = if form == HOLDS_BEFORE {
-            holds_before(fails, first, last, y)
-        } else {
-            holds_after(fails, first, last, y, n)
-        };
-        if met {
-            mask = bitset::union(mask, bitset::single(y));
-        }
-        y += 1;
-    }
-    mask
-}
-
-// The same, and none for another form, whose mask depends on the begin of member j.
+// The moments of a..z at which a condition of the form HOLDS_BEFORE or HOLDS_AFTER is met, and none for another form, whose mask depends on
+// the begin of member j.
 fn own_mask(form: u32, fails: u64, first: u32, last: u32, a: u32, z: u32, n: u32) -> u64
     requires { (first < 64) × (last < 64) × (a ≤ z) × (z ≤ n) × (n < 64) }
     ensures { OwnMask form n first last a z fails result }
 {
-    if form < HOLDS_BEFORE {
-        return 0;
+    match form {
+        HOLDS_BEFORE => moments_where(a, z, |y| holds_before(fails, first, last, y)),
+        HOLDS_AFTER => moments_where(a, z, |y| holds_after(fails, first, last, y, n)),
+        _ => 0,
     }
-    if HOLDS_AFTER < form {
-        return 0;
-    }
-    own_moments(form, fails, first, last, a, z, n)
 }
 
 // The moments from x - last to x - first.
@@ -167,10 +151,10 @@ fn mask_at(form: u32, fails: u64, own: u64, first: u32, last: u32, x: u32, a: u3
     ensures { (value : ℕ → ℕ → ℕ) (n k : ℕ) → Failing (condition_number form) value n k last a z fails → ((form ≡ 2) → MaskOf HoldsBefore value n k first last a z x own) → ((form ≡ 3) → MaskOf HoldsAfter value n k first last a z x own) → MaskOf (condition_number form) value n k first last a z x result }
 {
     match form {
-        BEGIN_AFTER_BEGIN => bitset::inter(window(first, last, x), bitset::between(a, z)),
-        BEGIN_AFTER_END => bitset::inter(window(first, last, x), bitset::between(a, z)),
-        HOLDS_BEFORE => own,
-        HOLDS_AFTER => own,
+        BEGIN_AFTER_BEGIN | BEGIN_AFTER_END => {
+            bitset::inter(window(first, last, x), bitset::between(a, z))
+        }
+        HOLDS_BEFORE | HOLDS_AFTER => own,
         HOLDS_BETWEEN => holds_until(fails, first, last, x, a, z),
         _ => 0,
     }
@@ -186,18 +170,16 @@ fn fill_masks(
     n: u32,
     allow: &mut [u64; MASKS],
 )
-    requires { (c < 8) × (a ≤ z) × (z ≤ n) × (n < 64) × (length allow.old ≡ 512) }
-    ensures { ((x y : ℕ) → a ≤ x → x ≤ z → In (get_or allow.new (c * 64 + x) 0) y ↔ ((a ≤ y) × (y ≤ z) × MetAt (value_in values.now) n w y y x)) × ((p : ℕ) → p < c * 64 → get_or allow.new p 0 ≡ get_or allow.old p 0) × (length allow.new ≡ 512) }
+    requires { (c < 8) × (a ≤ z) × (z ≤ n) × (n < 64) }
+    ensures { ((x y : ℕ) → a ≤ x → x ≤ z → In (get_or allow.new (c * 64 + x) 0) y ↔ ((a ≤ y) × (y ≤ z) × MetAt (value_in values.now) n w y y x)) × ((p : ℕ) → p < c * 64 → get_or allow.new p 0 ≡ get_or allow.old p 0) }
 {
     let form = words::form_of(w);
     let first = words::condition_m(w) as u32;
     let last = words::condition_n(w) as u32;
     let fails = failing_for(values, form, words::condition_formula(w), last, a, z, n);
     let own = own_mask(form, fails, first, last, a, z, n);
-    let mut x = a;
-    while x <= z {
+    for x in a..=z {
         allow[c * MOMENTS + x as usize] = mask_at(form, fails, own, first, last, x, a, z);
-        x += 1;
     }
 }
 
@@ -210,12 +192,10 @@ pub fn fill_allowed(
     n: u32,
     allow: &mut [u64; MASKS],
 )
-    requires { (length conds.now ≤ 8) × (a ≤ z) × (z ≤ n) × (n < 64) × (length allow.old ≡ 512) }
+    requires { (length conds.now ≤ 8) × (a ≤ z) × (z ≤ n) × (n < 64) }
     ensures { Allowed (value_in values.now) conds.now n a z (length conds.now) allow.new }
 {
-    let mut c = 0;
-    while c < conds.len() {
-        fill_masks(values, conds[c], c, a, z, n, allow);
-        c += 1;
+    for (c, &w) in conds.iter().enumerate() {
+        fill_masks(values, w, c, a, z, n, allow);
     }
 }

@@ -1,13 +1,13 @@
 // The tables of a set for the moments a..z: the masks of its conditions, and by pairs of members the ends of i where j begins at y, the begins
 // of j where i begins at x, and the ends of i begun at x or later. They leave out what no placement has.
-ghost use Rattle.std.specs.Prelude.{◌≡◌, true, ◌↔◌, ℕ, ◌+◌, ◌*◌, ◌<◌, ◌≤◌, length, get_or};
+ghost use Rattle.std.specs.Prelude.{◌≡◌, true, ◌↔◌, ℕ, ◌+◌, ◌*◌, ◌<◌, ◌≤◌, length, get_or, MatchOption};
 ghost use Rattle.bitset.specs.Code.Members.{In};
 ghost use Rattle.words.specs.Fields.{member_node, condition_i, condition_j};
 ghost use Rattle.sets.specs.Code.Rows.{task_set_of};
 ghost use Rattle.model.specs.Code.Table.{InTable};
 ghost use Rattle.keeping.specs.Code.Tables.{pair_at};
 ghost use Rattle.ending.specs.Code.Ends.{MetAtMask, MetByMask};
-ghost use Rattle.sets.specs.Code.Tables.{Have, LeftOut, Cut, ConditionReady, ConditionsReady, InSpan, OwnRow, OwnRows, LaterReady, TablesReady, Tables};
+ghost use Rattle.sets.specs.Code.Tables.{Have, LeftOut, Cut, ConditionReady, ConditionsReady, InSpan, OwnRow, OwnRows, TablesReady, Tables};
 
 use crate::conditions;
 use keeping::{MASKS, PAIRS, ROWS, pair_at, pair_index};
@@ -28,10 +28,8 @@ fn cut(table: &mut [u64; PAIRS], p: usize, allow: &[u64; MASKS], c: usize, a: u3
     requires { (p < 16) × (c < 8) × (a ≤ z) × (z < 64) }
     ensures { Cut table.old p allow.now c a z table.new }
 {
-    let mut y = a as usize;
-    while y <= z as usize {
+    for y in a as usize..=z as usize {
         table[p * MOMENTS + y] = bitset::inter(table[p * MOMENTS + y], allow[c * MOMENTS + y]);
-        y += 1;
     }
 }
 
@@ -52,8 +50,7 @@ fn cut_for(
     let i = words::condition_i(w);
     let j = ending::ends::partner(form, i, words::condition_j(w));
     match form {
-        BEGIN_AFTER_BEGIN => cut(goes, j * MEMBERS + i, allow, c, a, z),
-        HOLDS_BEFORE => cut(goes, j * MEMBERS + i, allow, c, a, z),
+        BEGIN_AFTER_BEGIN | HOLDS_BEFORE => cut(goes, j * MEMBERS + i, allow, c, a, z),
         _ => cut(ends, i * MEMBERS + j, allow, c, a, z),
     }
 }
@@ -70,10 +67,8 @@ fn cut_all(
     requires { ConditionsReady conds.now a z }
     ensures { (count : ℕ) (bs es : ℕ → ℕ) → InSpan count a z bs es → count ≤ 4 → ((c : ℕ) → c < length conds.now → (condition_i (get_or conds.now c 0) < count) × (condition_j (get_or conds.now c 0) < count) × MetByMask conds.now allow.now bs c (es (condition_i (get_or conds.now c 0)))) → Have ends.old goes.old count bs es → Have ends.new goes.new count bs es }
 {
-    let mut c = 0;
-    while c < conds.len() {
-        cut_for(conds[c], c, allow, a, z, ends, goes);
-        c += 1;
+    for (c, &w) in conds.iter().enumerate() {
+        cut_for(w, c, allow, a, z, ends, goes);
     }
 }
 
@@ -110,11 +105,8 @@ fn fill_own_row(
     requires { (m * 64 + 64 ≤ length table.now) × (i < 4) × (a ≤ z) × (z < 64) }
     ensures { OwnRow (InTable table.now m) goes.now i a z ends.old ends.new (z + 1) }
 {
-    let mut x = a;
-    while x <= z {
-        let row = own_row(table, m, i, x, z, ends, goes);
-        ends[pair_index(i, i, x)] = row;
-        x += 1;
+    for x in a..=z {
+        ends[pair_index(i, i, x)] = own_row(table, m, i, x, z, ends, goes);
     }
 }
 
@@ -130,10 +122,8 @@ fn fill_own(
     requires { (length members.now ≤ 4) × ((i : ℕ) → i < length members.now → member_node (get_or members.now i 0) * 64 + 64 ≤ length table.now) × (a ≤ z) × (z < 64) }
     ensures { OwnRows members.now table.now goes.now a z ends.old ends.new (length members.now) }
 {
-    let mut i = 0;
-    while i < members.len() {
-        fill_own_row(table, words::member_node(members[i]), i, a, z, goes, ends);
-        i += 1;
+    for (i, &w) in members.iter().enumerate() {
+        fill_own_row(table, words::member_node(w), i, a, z, goes, ends);
     }
 }
 
@@ -191,56 +181,49 @@ fn cut_pair(i: usize, j: usize, a: u32, z: u32, ends: &mut [u64; PAIRS], goes: &
     requires { (i < 4) × (j < 4) × (a ≤ z) × (z < 64) }
     ensures { (count : ℕ) → i < count → j < count → count ≤ 4 → LeftOut count a z ends.old goes.old ends.new goes.new }
 {
-    let mut x = a;
-    while x <= z {
+    for x in a..=z {
         let begins = partners(ends, goes, i, x, j);
         goes[pair_index(i, j, x)] = begins;
         let p = pair_index(i, i, x);
         ends[p] = bitset::inter(ends[p], some_ends(ends, i, j, begins));
-        x += 1;
     }
 }
 
-// The pairs of members that some condition is on, i and j at i * MEMBERS + j.
-fn constrained(conds: &[u32]) -> u64 {
-    let mut pairs = 0;
-    let mut c = 0;
-    while c < conds.len() {
-        let w = conds[c];
-        let i = words::condition_i(w);
-        let j = ending::ends::partner(words::form_of(w), i, words::condition_j(w));
-        pairs = bitset::union(pairs, bitset::single((i * MEMBERS + j) as u32));
-        pairs = bitset::union(pairs, bitset::single((j * MEMBERS + i) as u32));
-        c += 1;
-    }
-    pairs
-}
-
-// Does so where i and j are different members of the set.
-fn cut_members(
-    count: usize,
-    i: usize,
-    j: usize,
-    a: u32,
-    z: u32,
-    ends: &mut [u64; PAIRS],
-    goes: &mut [u64; PAIRS],
-)
-    requires { (count ≤ 4) × (a ≤ z) × (z < 64) }
-    ensures { LeftOut count a z ends.old goes.old ends.new goes.new }
+// The pair of the members i and j, as a set of pairs: it stands at i * MEMBERS + j.
+pub fn pair(i: usize, j: usize) -> u64
+    requires { (i < 8) × (j < 8) }
 {
-    if count <= i {
-        return;
-    }
-    if count <= j {
-        return;
-    }
-    if i != j {
-        cut_pair(i, j, a, z, ends, goes);
+    bitset::single((i * MEMBERS + j) as u32)
+}
+
+// The members i and j of pair p, where these are different members of the set.
+pub fn members_of(p: u32, count: usize) -> Option<(usize, usize)>
+    ensures { MatchOption result (Unit {0}) (λ m. (m.0 < count) × (m.1 < count)) }
+{
+    let i = p as usize / MEMBERS;
+    let j = p as usize % MEMBERS;
+    if i < count && j < count && i != j {
+        Some((i, j))
+    } else {
+        None
     }
 }
 
-// Does so for each of these pairs.
+// The pairs of members that condition w is on.
+fn pairs_of(w: u32) -> u64 {
+    let i = words::condition_i(w);
+    let j = ending::ends::partner(words::form_of(w), i, words::condition_j(w));
+    bitset::union(pair(i, j), pair(j, i))
+}
+
+// The pairs of members that some condition is on.
+fn constrained(conds: &[u32]) -> u64 {
+    conds
+        .iter()
+        .fold(0, |pairs, &w| bitset::union(pairs, pairs_of(w)))
+}
+
+// Cuts each of these pairs of different members.
 fn cut_pairs(
     pairs: u64,
     count: usize,
@@ -254,8 +237,9 @@ fn cut_pairs(
 {
     let mut rest = pairs;
     while rest != 0 {
-        let p = bitset::lowest(rest) as usize;
-        cut_members(count, p / 4, p % 4, a, z, ends, goes);
+        if let Some((i, j)) = members_of(bitset::lowest(rest), count) {
+            cut_pair(i, j, a, z, ends, goes);
+        }
         rest = bitset::drop_lowest(rest);
     }
 }
@@ -280,26 +264,22 @@ fn cut_constrained(
 
 // The ends of member i begun at x or later, for each x from z down to a.
 fn fill_later_row(ends: &[u64; PAIRS], i: usize, a: u32, z: u32, later: &mut [u64; ROWS])
-    requires { (i < 4) × LaterReady a z later.old }
-    ensures { ((x y e : ℕ) → a ≤ x → x ≤ y → y ≤ z → In (pair_at ends.now i i y) e → In (get_or later.new (i * 64 + x) 0) e) × ((p : ℕ) → p < i * 64 → get_or later.new p 0 ≡ get_or later.old p 0) × (length later.new ≡ 256) }
+    requires { (i < 4) × (a ≤ z) × (z < 64) }
+    ensures { ((x y e : ℕ) → a ≤ x → x ≤ y → y ≤ z → In (pair_at ends.now i i y) e → In (get_or later.new (i * 64 + x) 0) e) × ((p : ℕ) → p < i * 64 → get_or later.new p 0 ≡ get_or later.old p 0) }
 {
     let mut all = 0;
-    let mut x = z + 1;
-    while a < x {
-        x -= 1;
+    for x in (a..=z).rev() {
         all = bitset::union(all, pair_at(ends, i, i, x));
         later[i * MOMENTS + x as usize] = all;
     }
 }
 
 fn fill_later(ends: &[u64; PAIRS], count: usize, a: u32, z: u32, later: &mut [u64; ROWS])
-    requires { (count ≤ 4) × LaterReady a z later.old }
+    requires { (count ≤ 4) × (a ≤ z) × (z < 64) }
     ensures { (i x y e : ℕ) → i < count → a ≤ x → x ≤ y → y ≤ z → In (pair_at ends.now i i y) e → In (get_or later.new (i * 64 + x) 0) e }
 {
-    let mut i = 0;
-    while i < count {
+    for i in 0..count {
         fill_later_row(ends, i, a, z, later);
-        i += 1;
     }
 }
 

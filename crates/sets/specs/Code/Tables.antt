@@ -64,12 +64,6 @@ pub record ConditionsReady (cs : List ℕ) (a z : ℕ) : Type 0 where
   pub forward : a ≤ z
   pub moments : z < 64
 
--- what filling the ends begun at a moment or later needs
-pub record LaterReady (a z : ℕ) (later : List ℕ) : Type 0 where
-  pub forward : a ≤ z
-  pub moments : z < 64
-  pub long : length later ≡ 256
-
 -- what filling the tables of a set for the moments a..z needs: tables that nothing is left out of, and arrays of their length
 pub record TablesReady (s : TaskSet) (table : List ℕ) (a z : ℕ) (allow ends goes later : List ℕ) : Type 0 where
   pub formed : Formed s

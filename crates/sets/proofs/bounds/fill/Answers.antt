@@ -7,30 +7,20 @@ use lib.ListN.{get_or}
 use Rattle.bitset.proofs.In.{in_zero}
 use Rattle.narrowing.specs.Code.Tables.{BoundsHave}
 use Rattle.sets.proofs.bounds.fill.Goals as goal
+use Rattle.sets.proofs.bounds.fill.Goals.{in-Some, in_default}
 
 -- bounds that are not filled leave nothing out
 unfilled : (bounds : List ℕ) → ((q : ℕ) → get_or bounds q 0 ≡ 0) → (count : ℕ) (bs es : ℕ → ℕ) → BoundsHave count bounds bs es
 unfilled bounds none count bs es w j f g t = in_zero (none (2048 + j)) t
 
 pub returns-then-is_short : goal.returns-then-is_short
-returns-then-is_short c = λ bs es within ends. unfilled c.args.bounds.now c.requires.1 c.args.count bs es
+returns-then-is_short c = λ bs es within ends. unfilled c.args.bounds.now c.requires.3 c.args.count bs es
 
 pub loop-rest-init : goal.loop-rest-init
-loop-rest-init c = record { long = c.requires.0.long; have = λ bs es within ends. unfilled c.args.bounds.now c.requires.1 c.args.count bs es }
-
-pub fill_members-requires : goal.fill_members-requires
-fill_members-requires c =
-    let p = c.requires.0 in
-    record { few = p.few; forward = p.forward; moments = p.moments; long = c.loop-rest.invariant.long }
-
-pub loop-rest-smaller : goal.loop-rest-smaller
-loop-rest-smaller c = omega (arith, c.drop_lowest-rest.ensures.fewer)
+loop-rest-init c = λ bs es within ends. unfilled c.args.bounds.now c.requires.3 c.args.count bs es
 
 pub loop-rest-preserved : goal.loop-rest-preserved
-loop-rest-preserved c =
-    let v = c.loop-rest.invariant in
-    let o = c.fill_members.ensures in
-    record { long = o.0; have = λ bs es within ends. o.1 bs es within ends (v.have bs es within ends) }
-
-pub returns : goal.returns
-returns c = c.loop-rest.invariant.have
+loop-rest-preserved c = λ bs es within ends. let have = c.loop-rest.invariant bs es within ends in elim c.match-members_of.branch [
+  | in-Some w ↦ rw w.bounds-is (w.fill_members.ensures c.args.count bs es w.in-Some.ensures.0 w.in-Some.ensures.1 within ends have)
+  | in_default w ↦ rw w.bounds-is have
+]

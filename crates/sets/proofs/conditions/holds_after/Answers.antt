@@ -18,13 +18,15 @@ inside c t = (
 )
 
 pub returns-then-n-y : goal.returns-then-n-y
-returns-then-n-y c = λ value k a z x l u f. (λ z. absurd (false≢true z), λ m. let g = m.0 in absurd (omega arith))
+returns-then-n-y c = record { met = λ value k a z x l u f. (λ z. absurd (false≢true z), λ m. let g = m.0 in absurd (omega arith)) }
 
 pub returns-then-last-first : goal.returns-then-last-first
-returns-then-last-first c = λ value k a z x l u f. (λ z. (omega arith, λ t g m. absurd (omega arith)), λ m. refl)
+returns-then-last-first c = record { met = λ value k a z x l u f. (λ z. (omega arith, λ t g m. absurd (omega arith)), λ m. refl) }
 
 pub returns : goal.returns
-returns c = λ value k a z x l u f.
-    let s = c.args in
-    let h = through value k _ f (s.y + s.first) (s.y + s.last) c.inter.type_inv (λ t v w. (omega arith, omega arith, omega arith)) (inside (goal.at.returns c).After-inter) in
-    (λ z. (omega arith, h.0 z), λ m. h.1 m.1)
+returns c = record {
+  met = λ value k a z x l u f.
+      let s = c.args in
+      let h = through value k _ f (s.y + s.first) (s.y + s.last) c.inter.type_inv (λ t v w. (omega arith, omega arith, omega arith)) (inside (goal.at.returns c).After-inter) in
+      (λ z. (omega arith, h.0 z), λ m. h.1 m.1);
+}

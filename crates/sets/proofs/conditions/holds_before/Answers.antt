@@ -18,15 +18,17 @@ inside c t = (
 )
 
 pub returns-then-y-last : goal.returns-then-y-last
-returns-then-y-last c = λ value k n a z x l u f. (λ z. absurd (false≢true z), λ m. let g = m.0 in absurd (omega arith))
+returns-then-y-last c = λ n. record { met = λ value k a z x l u f. (λ z. absurd (false≢true z), λ m. let g = m.0 in absurd (omega arith)) }
 
 pub returns-then-y-first : goal.returns-then-y-first
-returns-then-y-first c = λ value k n a z x l u f. (λ z. (omega arith, λ t g m. absurd (omega arith)), λ m. refl)
+returns-then-y-first c = λ n. record { met = λ value k a z x l u f. (λ z. (omega arith, λ t g m. absurd (omega arith)), λ m. refl) }
 
 pub returns : goal.returns
-returns c = λ value k n a z x l u f.
-    let s = c.args in
-    let h = through value k _ f (s.y - s.last) (s.y - s.first) c.inter.type_inv (λ t v w. (omega arith, omega arith)) (inside (goal.at.returns c).After-inter) in (
-      λ z. (omega arith, λ t g m. h.0 z t (omega arith) (omega arith)),
-      λ m. h.1 (λ t g u. m.1 t (omega arith) (omega arith)),
-    )
+returns c = λ n. record {
+  met = λ value k a z x l u f.
+      let s = c.args in
+      let h = through value k _ f (s.y - s.last) (s.y - s.first) c.inter.type_inv (λ t v w. (omega arith, omega arith)) (inside (goal.at.returns c).After-inter) in (
+        λ z. (omega arith, λ t g m. h.0 z t (omega arith) (omega arith)),
+        λ m. h.1 (λ t g u. m.1 t (omega arith) (omega arith)),
+      );
+}

@@ -53,7 +53,7 @@ fill-requires c =
     }
 
 pub fill-requires-2 : goal.fill-requires-2
-fill-requires-2 c = (record { few = few (goal.at.fill-requires-2 c).Start; forward = (moments (goal.at.fill-requires-2 c).Start).0; moments = omega (arith, moments (goal.at.fill-requires-2 c).Start); long = refl }, λ q. empty_entry 2052 q)
+fill-requires-2 c = (few (goal.at.fill-requires-2 c).Start, (moments (goal.at.fill-requires-2 c).Start).0, omega (arith, moments (goal.at.fill-requires-2 c).Start), λ q. empty_entry 2052 q)
 
 pub single-goal-requires : goal.single-goal-requires
 single-goal-requires c = omega (arith, moments (goal.at.single-goal-requires c).Start)

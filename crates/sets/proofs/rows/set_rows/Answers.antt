@@ -49,7 +49,7 @@ fill-requires c =
     }
 
 pub fill-requires-2 : goal.fill-requires-2
-fill-requires-2 c = (record { few = few (goal.at.fill-requires-2 c).Start; forward = omega arith; moments = c.requires.formed.moments; long = refl }, λ q. empty_entry 2052 q)
+fill-requires-2 c = (few (goal.at.fill-requires-2 c).Start, omega arith, c.requires.formed.moments, λ q. empty_entry 2052 q)
 
 pub loop-b-init : goal.loop-b-init
 loop-b-init c = (omega arith, no_rows_yet)

@@ -30,7 +30,7 @@ pub cut_constrained-requires : goal.cut_constrained-requires
 cut_constrained-requires c = (few (goal.at.cut_constrained-requires c).Start, c.requires.forward, small (goal.at.cut_constrained-requires c).Start)
 
 pub fill_later-requires : goal.fill_later-requires
-fill_later-requires c = (few (goal.at.fill_later-requires c).Start, record { forward = c.requires.forward; moments = small (goal.at.fill_later-requires c).Start; long = c.requires.later_long })
+fill_later-requires c = (few (goal.at.fill_later-requires c).Start, c.requires.forward, small (goal.at.fill_later-requires c).Start)
 
 pub returns : goal.returns
 returns c =
