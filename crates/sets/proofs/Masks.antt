@@ -2,7 +2,7 @@
 use Prim.Native.Nat.{ℕ, zero, suc, ◌+◌, ◌*◌, ◌^◌, ◌≤◌, ◌<◌}
 use mathlib.Core.Path.{◌≡◌, refl, sym, subst}
 use mathlib.Core.Bool.{Bool, true, false, ◌&&◌, ◌||◌}
-use mathlib.Core.Logic.{◌↔◌, ◌⊎◌, inl, inr, ⊎_elim, by_cases}
+use mathlib.Core.Logic.{◌↔◌, inl, inr, ⊎_elim, by_cases}
 use mathlib.Core.List.{List}
 use native.Mathlib.Decide.{dec_lt, ℕ_discrete}
 use native.Mathlib.Omega.{arith}
@@ -18,7 +18,6 @@ use Rattle.words.specs.Fields.{form, holds, condition_formula, condition_m, cond
 use Rattle.model.specs.Forms.{condition_number}
 use Rattle.sets.specs.Set.{MetAt}
 use Rattle.sets.specs.Code.Masks.{Picked, Allowed, Seen, MaskOf}
-use Rattle.covering.proofs.Laws.{gain, gain_yes, gain_no}
 
 -- a word without members is 0
 empty_zero : {r : ℕ} → r < 2 ^ 64 → ((t : ℕ) → In r t → ⊥) → r ≡ 0

@@ -7,8 +7,7 @@ ghost use Rattle.sets.specs.Code.Tables.{InSpan};
 ghost use Rattle.sets.specs.Code.Bounds.{Grows, EndMarked};
 
 use crate::tables::{is_short, members_of, pair};
-use keeping::PAIRS;
-use narrowing::bounds::{BOUNDS, FILLED, SOONER};
+use keeping::{BOUNDS, FILLED, PAIRS, SOONER};
 use words::forms::{BEGIN_AFTER_END, HOLDS_BETWEEN};
 use words::{MEMBERS, MOMENTS};
 

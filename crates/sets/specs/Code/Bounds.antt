@@ -1,6 +1,6 @@
 -- Between functions: how the bounds of begins by ends are filled. Row p is that of a pair of members: the later ends stand at p * 64, the sooner
 -- ones 1024 further.
-use Rattle.std.specs.Prelude.{ℕ, ◌+◌, ◌*◌, ◌≤◌, ◌<◌, ◌≡◌, List, length, get_or}
+use Rattle.std.specs.Prelude.{ℕ, ◌+◌, ◌*◌, ◌≤◌, ◌<◌, ◌≡◌, List, get_or}
 use Rattle.bitset.specs.Code.Members.{In}
 
 -- each entry keeps its members, and the entries from 2048 on are as they were

@@ -1,5 +1,5 @@
 -- `sets::bounds::join` meets its contract. The invariant: the entries of the first k turns are joined. Assumes nothing.
-use Rattle.std.proofs.Common.{◌≡◌, ap, ℕ, ◌+◌, ◌<◌, ◌≤◌, refl}
+use Rattle.std.proofs.Common.{◌≡◌, ap, ℕ, ◌+◌, ◌<◌}
 use native.Mathlib.Omega.{arith}
 use Rattle.bitset.proofs.In.{in_union}
 use Rattle.sets.proofs.Late.{grows_none, joined_more}
