@@ -77,6 +77,3 @@ lines_more ws i h = rw (add-one, take-suc ws i 0 h, lines_append (take i ws) (ge
 pub line_more : {old mid out : List ℕ} {start m end : ℕ} (ws : List ℕ) (i : ℕ) → i < length ws → Appended old start (hex_lines (take i ws)) mid m → Appended mid m (hex_line (get_or ws i 0)) out end → Appended old start (hex_lines (take (i + 1) ws)) out end
 line_more {old} {mid} {out} {start} {m} {end} ws i h first next =
     subst (λ (t : List ℕ). Appended old start t out end) (sym (lines_more ws i h)) (then first next)
-
-pub lines_all : {old out : List ℕ} {start end : ℕ} (ws : List ℕ) (i n : ℕ) → i ≡ n → Appended old start (hex_lines (take i ws)) out end → Appended old start (hex_lines (take n ws)) out end
-lines_all {old} {out} {start} {end} ws i n e h = subst (λ (k : ℕ). Appended old start (hex_lines (take k ws)) out end) e h

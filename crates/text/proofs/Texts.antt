@@ -1,25 +1,10 @@
 -- Laws of texts that are written one after the other. Assumes nothing.
-use Prim.Native.Nat.{ℕ, ◌+◌, ◌≤◌, ◌<◌}
-use native.Mathlib.Numerals.{add-one}
+use Prim.Native.Nat.{ℕ}
 use native.Mathlib.Omega.{arith}
 use mathlib.Core.Path.{◌≡◌, refl, sym, ap, ◌∙◌}
 use mathlib.Core.List.{List, [], ◌++◌, append_assoc, append-nil}
-use lib.ListN.{length, take, set, get_or, length-append, length-take}
-use lib.Seq.{paste, paste-suc, take-paste, length-paste, take_all}
+use lib.ListN.{length, take, length-append, length-take}
 use Rattle.text.specs.Code.Written.{Appended, WrittenText}
-
--- a copy of the whole text at `start`
-pub pasted : (old : List ℕ) (start : ℕ) (text out : List ℕ) (i : ℕ) → start + length text ≤ length old → i ≡ length text → out ≡ paste old start text i → Appended old start text out (start + i)
-pasted old start text out i room whole e =
-    record {
-      ends = ap (λ (k : ℕ). start + k) whole;
-      reads = rw e (take-paste old start text i (omega arith) (omega arith) ∙ rw (take_all i text (omega arith)));
-      same = rw e (length-paste old start text i (omega arith) (omega arith));
-    }
-
--- a turn of the loop that copies: its store takes i bytes to i + 1
-pub paste_more : (old : List ℕ) (start : ℕ) (text out : List ℕ) (i : ℕ) → out ≡ paste old start text i → start + i < length old → i < length text → set out (start + i) (get_or text i 0) ≡ paste old start text (i + 1)
-paste_more old start text out i e h t = rw (e, add-one) (paste-suc old start text i 0 h t)
 
 pub nothing : (old : List ℕ) (start : ℕ) → Appended old start [] old start
 nothing old start = record { ends = omega arith; reads = sym (append-nil (take start old)); same = refl }

@@ -36,7 +36,7 @@ fn accepted(out: &mut [u8], n: usize, count: u64, words: &[u32]) -> usize
     let a = field(out, 0, b"read ", n as u64);
     let b = field(out, a, b" triples ", count);
     let c = append(out, b, b"\n");
-    lines(out, c, words, n)
+    lines(out, c, &words[..n])
 }
 
 fn refused(out: &mut [u8], number: u64, position: usize, count: u64) -> usize
@@ -60,15 +60,13 @@ fn field(out: &mut [u8], at: usize, name: &[u8], n: u64) -> usize
     decimal(out, end, n)
 }
 
-fn lines(out: &mut [u8], at: usize, words: &[u32], n: usize) -> usize
-    requires { (n ≤ length words.now) × (at + n * 9 ≤ length out.old) }
-    ensures { Appended out.old at (hex_lines (take n words.now)) out.new result }
+fn lines(out: &mut [u8], at: usize, words: &[u32]) -> usize
+    requires { at + length words.now * 9 ≤ length out.old }
+    ensures { Appended out.old at (hex_lines words.now) out.new result }
 {
-    let mut i = 0;
     let mut end = at;
-    while i < n {
-        end = hex_line(out, end, words[i]);
-        i += 1;
+    for &word in words {
+        end = hex_line(out, end, word);
     }
     end
 }
@@ -97,10 +95,7 @@ fn append(out: &mut [u8], at: usize, text: &[u8]) -> usize
     requires { at + length text.now ≤ length out.old }
     ensures { Appended out.old at text.now out.new result }
 {
-    let mut i = 0;
-    while i < text.len() {
-        out[at + i] = text[i];
-        i += 1;
-    }
-    at + i
+    let end = at + text.len();
+    out[at..end].copy_from_slice(text);
+    end
 }

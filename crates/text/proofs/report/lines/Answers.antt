@@ -1,19 +1,18 @@
--- `report::lines` meets its contract: at i the lines of the first i words are written. Assumes nothing.
+-- `report::lines` meets its contract: at an index the lines of the words before it are written. Assumes nothing.
 use Rattle.std.proofs.Common.{arith, slice_index}
 use Rattle.text.specs.Report.{hex_lines}
 use Rattle.text.proofs.Texts.{nothing}
 use Rattle.text.proofs.Numbers.{length-hex_line, line_more}
 use Rattle.text.proofs.report.lines.Goals as goal
 
-pub loop-i-init : goal.loop-i-init
+pub loop-word-init : goal.loop-word-init
 unfolding hex_lines
-loop-i-init c = record { most = omega arith; nine = omega arith; lines = nothing _ _ }
+loop-word-init c = record { nine = omega arith; lines = nothing _ _ }
 
-pub loop-i-preserved : goal.loop-i-preserved
-loop-i-preserved c =
+pub loop-word-preserved : goal.loop-word-preserved
+loop-word-preserved c =
     let line = c.hex_line-end.ensures in
     record {
-      most = omega (arith, c.loop-i-test.true);
-      nine = omega (arith, line.ends, c.loop-i.invariant.nine, length-hex_line (slice_index c.args.words.now c.loop-i.i));
-      lines = line_more c.args.words.now c.loop-i.i (omega (arith, c.loop-i-test.true, c.requires.0)) c.loop-i.invariant.lines line;
+      nine = omega (arith, line.ends, c.loop-word.invariant.nine, length-hex_line (slice_index c.args.words.now c.loop-word.word-index));
+      lines = line_more c.args.words.now c.loop-word.word-index (omega (arith, c.loop-word-test.true)) c.loop-word.invariant.lines line;
     }
