@@ -1,5 +1,5 @@
 // The two files of planread: their size, their bytes as words, and where the starts of a plan end.
-ghost use Rattle.std.specs.Prelude.{◌≡◌, ◌+◌, ◌<◌, ◌≤◌, ◌/◌, length};
+ghost use Rattle.std.specs.Prelude.{◌≡◌, ◌≤◌, ◌/◌, length};
 ghost use Rattle.text.specs.Files.{sized, starts_of};
 ghost use Rattle.text.specs.Code.Decoded.{Decoded};
 

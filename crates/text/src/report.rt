@@ -1,5 +1,5 @@
 // The text that planread prints, written to a buffer of bytes.
-ghost use Rattle.std.specs.Prelude.{◌≡◌, ◌+◌, ◌*◌, ◌≤◌, length, take};
+ghost use Rattle.std.specs.Prelude.{◌+◌, ◌*◌, ◌≤◌, length};
 ghost use Rattle.answers.specs.Packed.{length_of};
 ghost use Rattle.text.specs.Report.{decimal_of, field_text, hex_line, hex_lines, accepted_text, refused_text, report_of};
 ghost use Rattle.text.specs.Code.Written.{Appended, WrittenText};
