@@ -61,7 +61,7 @@ overlaid_store n says fluent gives w old e r =
 
 -- 'some word passes' as a value
 pub any-gives : (test : ℕ → Bool) (v other : ℕ) (ws : List ℕ) → find_or test (λ w. v) other ws ≡ cond (any test ws) v other
-unfolding find_or any
+unfolding find_or
 any-gives test v other [] = refl
 any-gives test v other (w ∷ ws) = cases (test w) (any-gives test v other ws)
   where

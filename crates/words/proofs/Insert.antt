@@ -51,7 +51,7 @@ order_insert w (each_more {s} {ss} n ns) (pairs-more p ps) = cases (ltb w s) ref
 -- a word that fails a test changes nothing of what the test finds
 module _ (test : ℕ → Bool) (w : ℕ) (e : test w ≡ false) where
   pub any-insert : (S : List ℕ) → any test (insert w S) ≡ any test S
-  unfolding insert any
+  unfolding insert
   any-insert [] = rw e
   any-insert (s ∷ S) = cases (ltb w s) (any-insert S)
     where

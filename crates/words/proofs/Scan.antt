@@ -28,15 +28,12 @@ module _ (ws : List ℕ) (i : ℕ) where
 
   module _ (test : ℕ → Bool) where
     pub any-hit : i < length ws → test (get_or ws i 0) ≡ true → any test (drop i ws) ≡ true
-    unfolding any
     any-hit h e = rw (drop-next h, e)
 
     pub any-miss : i < length ws → test (get_or ws i 0) ≡ false → any test (drop i ws) ≡ any test (drop (i + 1) ws)
-    unfolding any
     any-miss h e = rw (drop-next h, e)
 
     pub any-end : length ws ≤ i → any test (drop i ws) ≡ false
-    unfolding any
     any-end h = rw (drop_of_length-le ws h)
 
 -- a loop at word i of a list: whether some word passes shows from there on
@@ -150,7 +147,7 @@ module _ (test : ℕ → Bool) (ws : List ℕ) (a r : ℕ) (e : r ≡ length (ta
   run_part = rw e (take_while-take test (drop a ws))
 
 pub every_true : (test : ℕ → Bool) (xs : List ℕ) → every test xs ≡ true → (q : ℕ) → 0 < count q xs → test q ≡ true
-unfolding every count
+unfolding count
 every_true test [] e q h = absurd (omega arith)
 every_true test (x ∷ xs) e q h =
     let b = both_true (test x) (every test xs) e in
@@ -163,7 +160,6 @@ every_true test (x ∷ xs) e q h =
 -- two tests that agree on each word
 module _ (f g : ℕ → Bool) where
   pub any-agree : {S : List ℕ} → Each (λ s. f s ≡ g s) S → any f S ≡ any g S
-  unfolding any
   any-agree each_none = refl
   any-agree (each_more e a) = rw (e, any-agree a)
 
