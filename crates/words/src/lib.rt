@@ -117,19 +117,18 @@ pub fn kind_of(w: u32) -> u32
     w >> 28
 }
 
-// How many words of kind `k` lead what stands from position `at` on.
+// How many words of kind `k` lead a list; and how many lead what stands in it from position `at` on.
+fn leading(ws: &[u32], k: u32) -> usize
+    ensures { result ≡ length (take_while (of_kind k) ws.now) }
+{
+    ws.iter().take_while(|&&w| kind_of(w) == k).count()
+}
+
 pub fn run_length(ws: &[u32], at: usize, k: u32) -> usize
     requires { at ≤ length ws.now }
     ensures { result ≡ length (take_while (of_kind k) (drop at ws.now)) }
 {
-    let mut i = at;
-    while i < ws.len() {
-        if kind_of(ws[i]) != k {
-            return i - at;
-        }
-        i += 1;
-    }
-    i - at
+    leading(&ws[at..], k)
 }
 
 pub fn form_of(w: u32) -> u32
