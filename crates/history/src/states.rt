@@ -72,7 +72,13 @@ impl Actions<'_> {
         ensures { AfterPass self.now.job.now hiding t (s ∷ []) state.old state.new }
     {
         if hiding | (finish_of(self.durations, s) == t) {
-            apply(self.effects, start_action(s), fluents_of(self.job[0]), hiding, state);
+            apply(
+                self.effects,
+                start_action(s),
+                fluents_of(self.job[0]),
+                hiding,
+                state,
+            );
         }
     }
 
