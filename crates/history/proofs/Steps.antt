@@ -5,9 +5,9 @@ use mathlib.Core.Path.{◌≡◌}
 use Prim.Native.Nat.{ℕ, ◌+◌, ◌-◌, ◌≤◌}
 use native.Mathlib.Omega.{arith}
 use lib.ListN.{length, take}
-use Rattle.history.specs.Held.{starting_at, Ascending, HeldList}
+use Rattle.history.specs.Held.{starting_at, Ascending, HeldList, HoldsNext}
 use Rattle.history.specs.Code.Tables.{Named, Walkable}
-use Rattle.history.specs.Code.Held.{HoldsNext, Steppable}
+use Rattle.history.specs.Code.Held.{Steppable}
 use Rattle.history.proofs.Carried.{each_lasts, each_timed, list_named, list_room, starting_few, hiding_walkable}
 
 module _ {job durations effects starting : List ℕ} {t : ℕ} {held : List ℕ} {count : ℕ} {bytes : List ℕ}

@@ -1,8 +1,8 @@
 // The starts in hand, in a list that a walk of the states carries: those that finish leave it, and those that begin join it.
 ghost use Rattle.std.specs.Prelude.{◌≡◌, List, ℕ, ◌+◌, ◌<◌, ◌≤◌, length, get_or, drop};
 ghost use Rattle.words.specs.Scan.{take_while};
-ghost use Rattle.history.specs.Held.{begins_at, Lasting, Ascending, HeldList};
-ghost use Rattle.history.specs.Code.Held.{unfinished_by, Filtered, HoldsNext};
+ghost use Rattle.history.specs.Held.{begins_at, Lasting, Ascending, HeldList, HoldsNext};
+ghost use Rattle.history.specs.Code.Held.{unfinished_by, Filtered};
 
 use crate::tables::finish_of;
 use words::{ACTIONS, copy_words, start_moment};

@@ -1,7 +1,7 @@
 -- Between functions: a walk of the states, which carries the list of starts in hand along with the state.
 use Rattle.std.specs.Prelude.{Bool, List, ◌≡◌, ℕ, ◌+◌, ◌<◌, ◌≤◌, ltb, length, take}
 use Rattle.words.specs.Scan.{filter}
-use Rattle.history.specs.Held.{starting_at, TimedBy, Lasting, Ascending, HeldList}
+use Rattle.history.specs.Held.{starting_at, Ascending, HeldList}
 use Rattle.history.specs.Code.Tables.{tabled_finish, Walkable, StateAt}
 
 -- `unfinished`, by a table of durations
@@ -12,11 +12,6 @@ unfinished_by durations t s = ltb t (tabled_finish durations s)
 pub record Filtered (test : ℕ → Bool) (count : ℕ) (old : List ℕ) (n : ℕ) (new : List ℕ) : Type 0 where
   pub few : n ≤ count
   pub words : take n new ≡ filter test (take count old)
-
--- the list of starts in hand is carried to the next moment, at which those in `starting` begin
-pub record HoldsNext (durations starting : List ℕ) (t : ℕ) (held : List ℕ) (count : ℕ) (new : List ℕ) (all : ℕ) : Type 0 where
-  pub next : (job starts : List ℕ) → TimedBy job durations starts → Lasting job starts → Ascending starts → starting ≡ starting_at starts (t + 1) → HeldList job starts t held count
-      → HeldList job starts (t + 1) new all
 
 -- a walk at moment t: its state and its held list are those of that moment
 pub record Carried (job starts : List ℕ) (t : ℕ) (held : List ℕ) (count : ℕ) (bytes : List ℕ) : Type 0 where
