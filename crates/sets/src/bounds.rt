@@ -8,8 +8,7 @@ ghost use Rattle.sets.specs.Code.Bounds.{Grows, EndMarked};
 
 use crate::span::Span;
 use crate::tables::{members_of, pair};
-use keeping::PAIRS;
-use narrowing::bounds::{BOUNDS, FILLED, SOONER};
+use keeping::{BOUNDS, FILLED, PAIRS, SOONER};
 use words::forms::{BEGIN_AFTER_END, HOLDS_BETWEEN};
 use words::{MEMBERS, MOMENTS};
 
@@ -97,14 +96,12 @@ pub fn fill(
     conds: &[u32],
     ends: &[u64; PAIRS],
     count: usize,
-    a: u32,
-    z: u32,
+    span: Span,
     bounds: &mut [u64; BOUNDS],
 )
-    requires { (count ≤ 4) × (a ≤ z) × (z < 64) × ((q : ℕ) → get_or bounds.old q 0 ≡ 0) }
-    ensures { (bs es : ℕ → ℕ) → InSpan count a z bs es → EndsHave count ends.now bs es → BoundsHave count bounds.new bs es }
+    requires { (count ≤ 4) × ((q : ℕ) → get_or bounds.old q 0 ≡ 0) }
+    ensures { (bs es : ℕ → ℕ) → InSpan count span.a span.z bs es → EndsHave count ends.now bs es → BoundsHave count bounds.new bs es }
 {
-    let span = Span { a, z };
     if span.is_short() {
         return;
     }

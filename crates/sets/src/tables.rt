@@ -7,11 +7,11 @@ ghost use Rattle.sets.specs.Code.Rows.{task_set_of};
 ghost use Rattle.model.specs.Code.Table.{InTable};
 ghost use Rattle.keeping.specs.Code.Tables.{pair_at};
 ghost use Rattle.ending.specs.Code.Ends.{MetAtMask, MetByMask};
-ghost use Rattle.sets.specs.Code.Tables.{Have, LeftOut, Cut, InSpan, OwnRow, OwnRows, TablesReady, Tables};
+ghost use Rattle.sets.specs.Code.Tables.{Have, LeftOut, Cut, InSpan, OwnRow, OwnRows, TablesReady, TablesOf};
 
-use crate::conditions;
 use crate::span::Span;
-use keeping::{MASKS, PAIRS, ROWS, pair_at, pair_index};
+use crate::{bounds, conditions};
+use keeping::{MASKS, PAIRS, ROWS, Tables, pair_at, pair_index};
 use words::forms::{BEGIN_AFTER_BEGIN, HOLDS_BEFORE};
 use words::{FORMULA_VALUES, MEMBERS, MOMENTS};
 
@@ -252,27 +252,32 @@ fn fill_later(ends: &[u64; PAIRS], count: usize, span: Span, later: &mut [u64; R
     }
 }
 
-// All tables of the set.
+// All tables of the set, from tables that nothing is left out of.
 pub fn fill(
     members: &[u32],
-    conds: &[u32],
     values: &[u8; FORMULA_VALUES],
     table: &[u64],
     a: u32,
     z: u32,
     n: u32,
-    allow: &mut [u64; MASKS],
-    ends: &mut [u64; PAIRS],
-    goes: &mut [u64; PAIRS],
-    later: &mut [u64; ROWS],
+    tables: &mut Tables,
 )
-    requires { TablesReady (task_set_of members.now conds.now values.now n) table.now a z allow.old ends.old goes.old later.old }
-    ensures { Tables (task_set_of members.now conds.now values.now n) (InTable table.now) a z allow.new ends.new goes.new later.new }
+    requires { TablesReady (task_set_of members.now tables.old.conditions.now values.now n) table.now a z tables.old }
+    ensures { TablesOf (task_set_of members.now tables.old.conditions.now values.now n) (InTable table.now) a z tables.new }
 {
     let span = Span { a, z };
-    conditions::fill_allowed(values, conds, span, n, allow);
-    cut_all(conds, allow, span, ends, goes);
-    fill_own(members, table, span, goes, ends);
-    cut_constrained(conds, members.len(), span, ends, goes);
-    fill_later(ends, members.len(), span, later);
+    let conds = tables.conditions;
+    let count = members.len();
+    conditions::fill_allowed(values, conds, span, n, &mut tables.allow);
+    cut_all(
+        conds,
+        &tables.allow,
+        span,
+        &mut tables.ends,
+        &mut tables.goes,
+    );
+    fill_own(members, table, span, &tables.goes, &mut tables.ends);
+    cut_constrained(conds, count, span, &mut tables.ends, &mut tables.goes);
+    fill_later(&tables.ends, count, span, &mut tables.later);
+    bounds::fill(conds, &tables.ends, count, span, &mut tables.bounds);
 }

@@ -12,10 +12,10 @@ unfilled : (bounds : List ℕ) → ((q : ℕ) → get_or bounds q 0 ≡ 0) → (
 unfilled bounds none count bs es w j f g t = in_zero (none (2048 + j)) t
 
 pub returns-then-is_short : goal.returns-then-is_short
-returns-then-is_short c = λ bs es within ends. unfilled c.args.bounds.now c.requires.3 c.args.count bs es
+returns-then-is_short c = λ bs es within ends. unfilled c.args.bounds.now c.requires.1 c.args.count bs es
 
 pub loop-p-init : goal.loop-p-init
-loop-p-init c = λ bs es within ends. unfilled c.args.bounds.now c.requires.3 c.args.count bs es
+loop-p-init c = λ bs es within ends. unfilled c.args.bounds.now c.requires.1 c.args.count bs es
 
 pub loop-p-preserved-in-Some-members_of : goal.loop-p-preserved-in-Some-members_of
 loop-p-preserved-in-Some-members_of c = λ bs es within ends.

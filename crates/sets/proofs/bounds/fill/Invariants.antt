@@ -5,4 +5,4 @@ use Rattle.sets.specs.Code.Tables.{InSpan}
 use Rattle.sets.proofs.bounds.fill.Given as goal
 
 abbrev pub invariant-loop-p : goal.invariant-loop-p
-invariant-loop-p l = (bs es : ℕ → ℕ) → InSpan l.count l.a l.z bs es → EndsHave l.count l.ends bs es → BoundsHave l.count l.bounds bs es
+invariant-loop-p l = (bs es : ℕ → ℕ) → InSpan l.count l.fn.span.a l.fn.span.z bs es → EndsHave l.count l.ends bs es → BoundsHave l.count l.bounds bs es

@@ -1,5 +1,6 @@
 -- `sets::tables::fill` meets its contract. Assumes nothing.
 use Prim.Native.Nat.{◌≤◌}
+use mathlib.Core.Path.{◌∙◌}
 use native.Mathlib.Omega.{arith}
 use lib.ListN.{length, length-map}
 use Rattle.words.specs.Fields.{member_node}
@@ -18,5 +19,5 @@ pub returns : goal.returns
 returns c =
     let a = c.args in
     let p = c.requires in
-    filled a.members.now a.conds.now a.values.now a.table.now a.n a.a a.z p.formed p.forward p.upto p.unpruned_ends
-    p.unpruned_goes c.fill_allowed.ensures c.cut_all.ensures c.fill_own.ensures c.cut_constrained.ensures c.fill_later.ensures
+    filled a.members.now a.values.now a.table.now a.n a.a a.z _ p.formed p.forward p.upto p.unpruned_ends
+    p.unpruned_goes c.fill_allowed.ensures c.cut_all.ensures c.fill_own.ensures c.cut_constrained.ensures (p.count ∙ length-map a.members.now member_node) c.fill_later.ensures c.fill.ensures
