@@ -22,10 +22,7 @@ fn window(first: usize, end: usize, last: usize) -> u64
     if last < first {
         return 0;
     }
-    if last < end {
-        return bitset::between(first as u32, last as u32);
-    }
-    bitset::between(first as u32, end as u32)
+    bitset::between(first as u32, end.min(last) as u32)
 }
 
 // The moments that lie a pause after some member of `ends`, none after `last`.
