@@ -31,12 +31,10 @@ fn windows(ends: u64, pause: Pause, last: usize) -> u64
     ensures { (m : ℕ) → In result m ↔ After ends pause last m }
 {
     let mut found = 0;
-    let mut left = ends;
-    while left != 0 {
-        let k = bitset::lowest(left) as usize;
-        let end = quiet_upto(pause, k);
-        found = bitset::union(found, window(k + pause.least, end, last));
-        left = bitset::drop_lowest(left);
+    for end in bitset::members(ends) {
+        let k = end as usize;
+        let begins = window(k + pause.least, quiet_upto(pause, k), last);
+        found = bitset::union(found, begins);
     }
     found
 }
