@@ -110,22 +110,17 @@ fn set_parts(source: &Source, place: usize, b: usize, e: usize) -> Parts
     requires { (place < length source.now.words.now) × Placeable (task_set_of (members_at source.now.words.now place) (conditions_at source.now.words.now place) source.now.arrays.now.values source.now.arrays.now.last) source.now.table.now b e }
     ensures { PlacedParts (task_set_of (members_at source.now.words.now place) (conditions_at source.now.words.now place) source.now.arrays.now.values source.now.arrays.now.last) source.now.table.now b e result }
 {
-    let words = source.words;
-    let counts = model::set_counts(words, place);
-    let first = place + 1;
-    let middle = first + counts.members;
-    let end = middle + counts.conditions;
-    let members = &words[first..middle];
+    let set = model::set_words(source.words, place);
     let placed = sets::placing::place(
-        members,
-        &words[middle..end],
+        set.members,
+        set.conditions,
         &source.arrays.values,
         source.table,
         b as u32,
         e as u32,
         source.arrays.last as u32,
     );
-    placed_parts(members, &placed)
+    placed_parts(set.members, &placed)
 }
 
 // The parts that a reading of the triple, which the table says there is, can be made of; its node is no loop.
