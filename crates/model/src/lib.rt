@@ -3,12 +3,13 @@
 #![tactic(auto)]
 
 ghost use Rattle.std.specs.Prelude.{◌≡◌, ◌<◌, length};
-ghost use Rattle.model.specs.Code.Arrays.{members_at, conditions_at};
+ghost use Rattle.model.specs.Code.Arrays.{value_in, members_at, conditions_at};
 
-use words::{ACTIONS, CONDITION, FORMULA_VALUES, MEMBER, NODES};
+use words::{ACTIONS, CONDITION, FORMULA_VALUES, MEMBER, MOMENTS, NODES};
 
 // Node p's word stands at places[p] of the job, and after it those of its members and conditions; starts[a] is the set of the moments at
 // which action a starts; values has the value of formula k at moment t at k * 64 + t.
+// There are `count` nodes: the number stands beside the places, since memory is fixed (there is no heap) and the arrays are filled in place.
 #[derive(Clone, Copy)]
 pub struct Arrays {
     pub count: usize,
@@ -17,6 +18,16 @@ pub struct Arrays {
     pub starts: [u64; ACTIONS],
     pub durations: [usize; ACTIONS],
     pub values: [u8; FORMULA_VALUES],
+}
+
+impl Arrays {
+    // The value of formula k at moment t.
+    pub fn value(&self, k: usize, t: usize) -> u8
+        requires { (k < 64) × (t < 64) }
+        ensures { result ≡ value_in self.now.values k t }
+    {
+        self.values[k * MOMENTS + t]
+    }
 }
 
 // A node, read from the moment `begin` to the moment `end`.

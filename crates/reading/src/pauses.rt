@@ -43,13 +43,9 @@ pub fn at_once() -> Pause
 pub fn all_starts(starts: &[u64]) -> u64
     ensures { AllStarts (start_in starts.now) result }
 {
-    let mut started = 0;
-    let mut a = 0;
-    while a < starts.len() {
-        started = bitset::union(started, starts[a]);
-        a += 1;
-    }
-    started
+    starts
+        .iter()
+        .fold(0, |started, &moments| bitset::union(started, moments))
 }
 
 // The latest moment to which a pause from k on may last: a start at that moment itself is after the pause.

@@ -7,7 +7,7 @@ use native.Mathlib.Omega.{arith}
 use Rattle.words.specs.Fields.{form}
 use Rattle.bitset.proofs.In.{in_none}
 use Rattle.model.specs.Forms.{form_number}
-use Rattle.model.specs.Code.Arrays.{trajectory_at}
+use Rattle.model.specs.Code.Arrays.{trajectory_in}
 use Rattle.model.proofs.Forms.{no_form}
 use Rattle.reading.proofs.Quiet.{ends_law}
 use Rattle.reading.proofs.rows.row.Goals as goal
@@ -17,7 +17,7 @@ returns-in-7 c = λ e.
     let form-is : form c.args.word ≡ 7 = sym c.form_of.ensures.0 ∙ c.in-7.is in
     rw (form-is, ← c.node_y-y.ensures.0, ← c.node_x-x.ensures.0)
     (Iff.trans (rw c.pause_of.ensures at (c.end_window_row.ensures e))
-    (ends_law (trajectory_at c.args.starts.now c.args.durations.now c.args.values.now c.args.timeline.last) c.requires.mask))
+    (ends_law (trajectory_in c.args.arrays.now) c.requires.mask))
 
 pub returns-in-8-to-4294967295 : goal.returns-in-8-to-4294967295
 returns-in-8-to-4294967295 c = λ e.
