@@ -143,7 +143,7 @@ pub fn choose_parts(source: &Source, triple: Triple) -> Parts
         TEST => parts_of(&[]),
         SEQUENCE => end_window_parts(table, x, y, at_once(), b, e),
         CHOICE => parts_of(&[part(search::choose(table, x, y, b, e), b, e)]),
-        IF => parts_of(&[part(taken(source.arrays.values[x * MOMENTS + b], y, m), b, e)]),
+        IF => parts_of(&[part(taken(source.arrays.value(x, b), y, m), b, e)]),
         // The passes of a loop are found one at a time.
         WHILE => parts_of(&[]),
         START_WINDOW => start_window_parts(table, x, y, m, most, b, e),

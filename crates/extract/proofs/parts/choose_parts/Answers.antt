@@ -87,7 +87,7 @@ returns-in-4 c =
     rw (c.parts_of-in-4.ensures, c.part-in-4.ensures) (
       omega arith,
       if_chosen h.prepared h.known h.within h.found (ap form_number (sym c.form_of.ensures.0 ∙ c.in-4.is))
-          (ap (λ (i : ℕ). get_or c.args.source.now.arrays.now.values (i * 64 + c.args.triple.begin) 0) c.node_x-x.ensures.0) c.node_y-y.ensures.0 c.node_m-m.ensures.0 c.taken.ensures,
+          (c.value.ensures ∙ ap (λ (i : ℕ). get_or c.args.source.now.arrays.now.values (i * 64 + c.args.triple.begin) 0) c.node_x-x.ensures.0) c.node_y-y.ensures.0 c.node_m-m.ensures.0 c.taken.ensures,
     )
 
 pub returns-in-6 : goal.returns-in-6
