@@ -10,14 +10,7 @@ fn place_of(list: &[u32], w: u32) -> usize
     requires { Pairs (λ s s'. s < s') list.now }
     ensures { (result ≡ length (take_while (not_above w) list.now)) × (result ≤ length list.now) }
 {
-    let mut i = list.len();
-    while 0 < i {
-        if list[i - 1] <= w {
-            return i;
-        }
-        i -= 1;
-    }
-    i
+    list.iter().rposition(|&s| s <= w).map_or(0, |i| i + 1)
 }
 
 // Writes the list to the buffer from position `at` on.
@@ -25,11 +18,7 @@ pub fn copy_words(list: &[u32], at: usize, buffer: &mut [u32])
     requires { at + length list.now ≤ length buffer.old }
     ensures { buffer.new ≡ sets buffer.old at list.now }
 {
-    let mut i = 0;
-    while i < list.len() {
-        buffer[at + i] = list[i];
-        i += 1;
-    }
+    buffer[at..at + list.len()].copy_from_slice(list);
 }
 
 // Writes the ascending list with `w` put in to the front of the buffer.
