@@ -8,8 +8,9 @@ ghost use Rattle.finder.specs.Find.{Searched, Outcome};
 ghost use Rattle.finder.specs.Code.Seek.{Seekable};
 
 use answers::{Answer, answer_of};
+use extract::Source;
 use model::Arrays;
-use reading::pauses::{Timeline, all_starts};
+use reading::pauses::all_starts;
 use theory::{arrays_of, buffer_refusal, judge_facts};
 use words::ENDS;
 
@@ -29,16 +30,13 @@ fn seek(job: &[u32], starts: &[u32], arrays: &Arrays, buffer: &mut [u32]) -> Ans
     let mut table = [0u64; ENDS];
     let count = reading::table::tabulate(job, arrays, started, &mut table);
     if reading::table::has_end(&table, arrays.count - 1, 0, last) {
-        let timeline = Timeline { last, started };
-        let length = extract::emit(
-            job,
-            &arrays.places,
-            arrays.count,
-            &arrays.values,
-            timeline,
-            &table,
-            buffer,
-        );
+        let source = Source {
+            words: job,
+            arrays,
+            started,
+            table: &table,
+        };
+        let length = extract::emit(&source, buffer);
         return Answer::Accepted { length, count };
     }
     Answer::Refused {

@@ -2,13 +2,6 @@
 ghost use Rattle.std.specs.Prelude.{◌≡◌, ◌<◌};
 ghost use Rattle.reading.specs.Code.Quiet.{start_in, AllStarts, QuietUpto, pause_of, at_once};
 
-// The last moment of a plan, and the set of the moments at which some action starts.
-#[derive(Clone, Copy)]
-pub struct Timeline {
-    pub last: usize,
-    pub started: u64,
-}
-
 // A pause of `least` to `most` moments, which no member of `started` may disturb.
 #[derive(Clone, Copy)]
 pub struct Pause {

@@ -1,8 +1,8 @@
--- `history::states::apply_starts` meets its contract. The invariant: once the starts that are left are applied too, all are. Assumes nothing.
+-- `history::states::Actions::apply_starts` meets its contract. The invariant: once the starts that are left are applied too, all are. Assumes nothing.
 use mathlib.Core.Path.{◌∙◌}
 use Rattle.history.proofs.Stores.{overlaid_none, overlaid_before}
 use Rattle.history.proofs.Moments.{walkable_last, walkable_before}
-use Rattle.history.proofs.states.apply_starts.Goals as goal
+use Rattle.history.proofs.states.Actions.apply_starts.Goals as goal
 
 pub apply_start-requires : goal.apply_start-requires
 apply_start-requires c =

@@ -1,4 +1,4 @@
--- `history::states::history` meets its contract. The invariant: the state and the held list are those of moment `t`, the first `next` starts
+-- `history::states::Actions::history` meets its contract. The invariant: the state and the held list are those of moment `t`, the first `next` starts
 -- are those up to `t`, and the rows of the moments up to `t` are stored. Assumes nothing.
 use mathlib.Core.Path.{◌∙◌}
 use Rattle.history.specs.Held.{HeldList}
@@ -8,16 +8,16 @@ use Rattle.history.proofs.Stores.{rows_none, rows_more}
 use Rattle.history.proofs.Moments.{state_start}
 use Rattle.history.proofs.Carried.{each_lasts, list_count}
 use native.Mathlib.Omega.{arith}
-use Rattle.history.proofs.states.history.Goals as goal
+use Rattle.history.proofs.states.Actions.history.Goals as goal
 
 pub hold_first-count-requires : goal.hold_first-count-requires
 hold_first-count-requires c = (c.requires.1, c.requires.2)
 
 pub loop-t-init : goal.loop-t-init
 loop-t-init c =
-    let first : HeldList c.args.job.now c.args.starts.now 0 c.hold_first-count.new.held c.hold_first-count.result = let p = c.requires in c.hold_first-count.ensures c.args.job.now (each_lasts p.0.well p.0.named) in
+    let first : HeldList c.args.self.now.job.now c.args.starts.now 0 c.hold_first-count.new.held c.hold_first-count.result = let p = c.requires in c.hold_first-count.ensures c.args.self.now.job.now (each_lasts p.0.well p.0.named) in
     let first-begun : Begun c.args.starts.now 1 c.hold_first-count.result = let p = c.requires in
-    let same = held_start c.args.job.now c.args.starts.now (each_lasts p.0.well p.0.named) in
+    let same = held_start c.args.self.now.job.now c.args.starts.now (each_lasts p.0.well p.0.named) in
     rw (list_count first, same, ← begun_starting p.1 begun_none) (begun_first p.1) in
     let state = c.initial_state-state.ensures in
     record {

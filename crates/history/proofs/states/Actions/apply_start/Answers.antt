@@ -1,4 +1,4 @@
--- `history::states::apply_start` meets its contract: by the tables it acts when its action does. Assumes nothing.
+-- `history::states::Actions::apply_start` meets its contract: by the tables it acts when its action does. Assumes nothing.
 use mathlib.Core.Bool.{◌||◌}
 use mathlib.Core.Path.{◌≡◌, sym, ap, ◌∙◌}
 use Prim.Native.Nat.{ℕ}
@@ -9,14 +9,14 @@ use Rattle.history.specs.Code.Passes.{acts, leaves}
 use Rattle.history.proofs.Stores.{overlaid_skip}
 use Rattle.history.proofs.Moments.{finish-tabled, start_applied}
 use native.Mathlib.Omega.{arith}
-use Rattle.history.proofs.states.apply_start.Goals as goal
+use Rattle.history.proofs.states.Actions.apply_start.Goals as goal
 
 pub finish_of-requires : goal.finish_of-requires
 finish_of-requires c = c.requires.0.tables.durations.small _
 
 pub returns-then-hiding-finish_of : goal.returns-then-hiding-finish_of
 returns-then-hiding-finish_of c =
-    let acts-here : let a = c.args in acts a.job.now a.hiding a.t a.s ≡ (a.hiding || eqb c.finish_of.result a.t) = let a = c.args in
+    let acts-here : let a = c.args in acts a.self.now.job.now a.hiding a.t a.s ≡ (a.hiding || eqb c.finish_of.result a.t) = let a = c.args in
     let p = c.requires.0 in
     ap (λ (end : ℕ). a.hiding || eqb end a.t) (sym (c.finish_of.ensures ∙ finish-tabled p.tables.durations a.s (p.named.action 0 (omega arith)))) in
     let a = c.args in
@@ -26,9 +26,9 @@ returns-then-hiding-finish_of c =
 
 pub returns-else-hiding-finish_of : goal.returns-else-hiding-finish_of
 returns-else-hiding-finish_of c =
-    let acts-here : let a = c.args in acts a.job.now a.hiding a.t a.s ≡ (a.hiding || eqb c.finish_of.result a.t) = let a = c.args in
+    let acts-here : let a = c.args in acts a.self.now.job.now a.hiding a.t a.s ≡ (a.hiding || eqb c.finish_of.result a.t) = let a = c.args in
     let p = c.requires.0 in
     ap (λ (end : ℕ). a.hiding || eqb end a.t) (sym (c.finish_of.ensures ∙ finish-tabled p.tables.durations a.s (p.named.action 0 (omega arith)))) in
     let a = c.args in
-    overlaid_skip (fluents a.job.now) (acts a.job.now a.hiding a.t) (affects a.job.now) (leaves a.job.now a.hiding) a.s
+    overlaid_skip (fluents a.self.now.job.now) (acts a.self.now.job.now a.hiding a.t) (affects a.self.now.job.now) (leaves a.self.now.job.now a.hiding) a.s
     (acts-here ∙ c.if-hiding-finish_of.false)

@@ -1,7 +1,7 @@
--- `formulas::form_value` meets its contract. The form that led to each arm picks its case. Assumes nothing.
+-- `formulas::Formulas::form_value` meets its contract. The form that led to each arm picks its case. Assumes nothing.
 use borrow.Author.Tests.{ne_eqb}
 use Rattle.formulas.specs.Values.{form_value}
-use Rattle.formulas.proofs.form_value.Goals as goal
+use Rattle.formulas.proofs.Formulas.form_value.Goals as goal
 
 pub returns-in-0 : goal.returns-in-0
 unfolding form_value
@@ -33,13 +33,13 @@ returns-in_default c =
     c.held_for.ensures
 
 pub overflow_sub-result : goal.overflow_sub-result
-overflow_sub-result c = c.requires.so_far.most _
+overflow_sub-result c = c.requires.ready.so_far.most _
 
 pub by_table-requires : goal.by_table-requires
-by_table-requires c = let small = c.requires.so_far in (small.most _, small.most _)
+by_table-requires c = let small = c.requires.ready.so_far in (small.most _, small.most _)
 
 pub by_table-requires-in-4 : goal.by_table-requires-in-4
-by_table-requires-in-4 c = let small = c.requires.so_far in (small.most _, small.most _)
+by_table-requires-in-4 c = let small = c.requires.ready.so_far in (small.most _, small.most _)
 
 pub held_for-requires : goal.held_for-requires
-held_for-requires c = record { form = c.requires; formula = c.formula_x-x.ensures.1 }
+held_for-requires c = record { form = c.requires.ready; formula = c.formula_x-x.ensures.1 }

@@ -1,4 +1,4 @@
--- `history::states::history` meets its contract. The invariant: the state and the held list are those of moment `t`, the first `next` starts
+-- `history::states::Actions::history` meets its contract. The invariant: the state and the held list are those of moment `t`, the first `next` starts
 -- are those up to `t`, and the rows of the moments up to `t` are stored. Assumes nothing.
 use mathlib.Core.List.{List}
 use mathlib.Core.Path.{◌≡◌}
@@ -9,7 +9,7 @@ use Rattle.history.specs.Values.{value_at}
 use Rattle.history.specs.Code.Held.{Carried}
 use Rattle.history.proofs.HeldList.{Begun}
 use Rattle.history.proofs.Stores.{Rows}
-use Rattle.history.proofs.states.history.Given as goal
+use Rattle.history.proofs.states.Actions.history.Given as goal
 
 pub record Walked (job starts : List ℕ) (last t next : ℕ) (state held : List ℕ) (count : ℕ) (table : List ℕ) : Type 0 where
   pub few : last ≤ 63
@@ -19,4 +19,4 @@ pub record Walked (job starts : List ℕ) (last t next : ℕ) (state held : List
   pub stored : Rows (value_at job starts) (fluents job) (t + 1) table
 
 abbrev pub invariant-loop-t : goal.invariant-loop-t
-invariant-loop-t l = Walked l.job l.starts l.last l.t l.next l.state l.held l.count l.table
+invariant-loop-t l = Walked l.self.job.now l.starts l.last l.t l.next l.state l.held l.count l.table
