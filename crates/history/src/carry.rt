@@ -7,19 +7,11 @@ ghost use Rattle.history.specs.Code.Held.{unfinished_by, Filtered};
 use crate::tables::finish_of;
 use words::{ACTIONS, copy_words, start_moment};
 
-// Returns how many starts from position `from` on begin at moment `t`, up to the first that does not.
-fn starting_count(starts: &[u32], from: usize, t: usize) -> usize
-    requires { from ≤ length starts.now }
-    ensures { result ≡ length (take_while (begins_at t) (drop from starts.now)) }
+// Returns how many of the first starts begin at moment `t`, up to the first that does not.
+fn starting_count(starts: &[u32], t: usize) -> usize
+    ensures { result ≡ length (take_while (begins_at t) starts.now) }
 {
-    let mut i = from;
-    while i < starts.len() {
-        if start_moment(starts[i]) != t {
-            return i - from;
-        }
-        i += 1;
-    }
-    i - from
+    starts.iter().take_while(|&&s| start_moment(s) == t).count()
 }
 
 // Returns the starts from position `from` on that begin at moment `t`, up to the first that does not.
@@ -27,8 +19,8 @@ pub(crate) fn starting_at<'a>(starts: &'a [u32], from: usize, t: usize) -> &'a [
     requires { from ≤ length starts.now }
     ensures { result.now ≡ take_while (begins_at t) (drop from starts.now) }
 {
-    let end = from + starting_count(starts, from, t);
-    &starts[from..end]
+    let rest = &starts[from..];
+    &rest[..starting_count(rest, t)]
 }
 
 // Keeps of the first `count` starts those that finish after moment `t`, in their order. Returns their number.
