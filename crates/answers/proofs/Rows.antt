@@ -1,14 +1,20 @@
 -- Laws of rows: which of several fits first. Assumes nothing.
-use mathlib.Core.Bool.{Bool, true, false, cond}
-use mathlib.Core.Path.{◌≡◌, refl, sym, ◌∙◌}
-use Prim.Native.Nat.{ℕ, zero, suc, ◌+◌, ◌<◌}
+use mathlib.Core.Bool.{Bool, true, false, cond, true≢false}
+use mathlib.Core.List.{List}
+use mathlib.Core.Path.{◌≡◌, refl, ap, sym, ◌∙◌}
+use Prim.Native.Nat.{ℕ, zero, suc, ◌+◌, ◌<◌, ◌≤◌}
 use native.Mathlib.Decide.{le_ind, dec_lt}
 use native.Mathlib.Numerals.{add-one}
 use native.Mathlib.Omega.{arith}
 use lib.Dec.{eqb}
-use borrow.Author.Tests.{eq-eqb, ne_eqb, eqb-true, eqb-false}
+use lib.ListN.{length, get_or}
+use Rattle.std.specs.Prelude.{Result, Ok, Err, position}
+use Rattle.std.specs.Result.{is_ok}
+use Rattle.std.specs.List.{position_or_len}
+use Rattle.std.proofs.lemmas.List.Sums.{fails_before_first, passes_at_first}
+use borrow.Author.Tests.{lt-ltb, le-ltb, eq-eqb, ne_eqb, eqb-true, eqb-false}
 use Rattle.answers.specs.Packed.{answer_of}
-use Rattle.answers.specs.Rows.{refusal, passed, row, first_refusal, refusal_at, first_of}
+use Rattle.answers.specs.Rows.{refusal, passed, row, first_refusal, refusal_at, first_of, ruled, refused_at}
 use Rattle.answers.specs.declared.Refusal.{Refusal}
 
 -- a number at a position
@@ -83,3 +89,58 @@ module _ (f : ℕ → ℕ) where
       cases : ((j : ℕ) → j < n → f j ≡ 0) → Dec (i < n) → f i ≡ 0
       cases ih (yes m) = ih i m
       cases ih (no m) = let e : i ≡ n = omega arith in rw e (sym (at-number n (f n)) ∙ split.1)
+
+-- results of rows: the first of two, one after the other, and a row alone
+pub ruled-passed : {T : Type 0} (r : Refusal) (x : T) → r.number ≡ 0 → ruled r x ≡ Ok x
+ruled-passed r x e = rw (eq-eqb r.number 0 e)
+
+pub ruled-refused : {T : Type 0} (r : Refusal) (x : T) → (r.number ≡ 0 → ⊥) → ruled r x ≡ Err r
+ruled-refused r x h = rw (ne_eqb r.number 0 h)
+
+-- the value of a result, the refusal of one
+abbrev value-or : {T E : Type 0} → T → Result T E → T
+value-or d (Ok x) = x
+value-or d (Err e) = d
+
+abbrev error-or : {T E : Type 0} → E → Result T E → E
+error-or d (Ok x) = d
+error-or d (Err e) = e
+
+-- what a result of rows tells of them
+module _ {T : Type 0} (r : Refusal) (x : T) where
+  pub ok-passed : {y : T} → Ok y ≡ ruled r x → (r.number ≡ 0) × (y ≡ x)
+  ok-passed {y} = go (eqb r.number 0) refl
+    where
+      go : (t : Bool) → eqb r.number 0 ≡ t → Ok y ≡ cond t (Ok x) (Err r) → (r.number ≡ 0) × (y ≡ x)
+      go true e h = (eqb-true r.number 0 e, ap (value-or y) h)
+      go false e h = absurd (true≢false (ap is_ok h))
+
+  pub err-refused : {e : Refusal} → Err e ≡ ruled r x → (r.number ≡ 0 → ⊥) × (e ≡ r)
+  err-refused {e} = go (eqb r.number 0) refl
+    where
+      go : (t : Bool) → eqb r.number 0 ≡ t → Err e ≡ cond t (Ok x) (Err r) → (r.number ≡ 0 → ⊥) × (e ≡ r)
+      go true q h = absurd (true≢false (sym (ap is_ok h)))
+      go false q h = (eqb-false r.number 0 q, ap (error-or e) h)
+
+-- the first row that fits at a word of a list, by the library's search for it
+module _ (number : ℕ) (test : ℕ → Bool) (ws : List ℕ) (some : 0 < number) where
+  abbrev at-word : ℕ → ℕ
+  at-word i = cond (test (get_or ws i 0)) number 0
+
+  passed-before : (n : ℕ) → n ≤ position_or_len test ws → first_of at-word n ≡ passed
+  passed-before zero l = first_start at-word
+  passed-before (suc n) l =
+      rw (add-one n) at (first_more at-word n (passed-before n (omega arith)) (rw (fails_before_first test ws n 0 (omega arith))))
+
+  pub position-first : refused_at number (position test ws) ≡ ruled (first_of at-word (length ws)) tt
+  position-first = cases (dec_lt at (length ws))
+    where
+      at : ℕ
+      at = position_or_len test ws
+
+      cases : Dec (at < length ws) → refused_at number (position test ws) ≡ ruled (first_of at-word (length ws)) tt
+      cases (yes l) =
+          let hit : at-word at ≡ number = rw (passes_at_first test ws 0 l) in
+          rw (lt-ltb at (length ws) l, first_found at-word at (length ws) (passed-before at (omega arith)) (λ e. omega (arith, hit, e)) l, hit, ne_eqb number 0 (λ e. omega arith))
+      cases (no h) =
+          rw (le-ltb at (length ws) (omega arith), passed-before (length ws) (omega arith))

@@ -2,11 +2,12 @@
 #![tactic(auto)]
 
 ghost use Rattle.std.specs.Prelude.{◌≡◌};
-ghost use Rattle.answers.specs.Rows.{refusal, passed, row, first_refusal};
-ghost use Rattle.answers.specs.Packed.{answer_of, packed, fields};
+ghost use Rattle.answers.specs.Rows.{refused_at, refusal, passed, row, first_refusal};
+ghost use Rattle.answers.specs.Packed.{answered, answer_of, packed, fields};
 ghost use Rattle.answers.specs.Code.Packed.{Fits, InRange};
 
-// The numbers of the refusals, by the names of the C header.
+// The numbers of the refusals, by the names of the C header. They are no enum: the definitions of the rows give a refusal by its number, which the
+// host in C gets.
 pub const JOB_LENGTH: u32 = 1;
 
 pub const JOB_SHAPE: u32 = 2;
@@ -53,6 +54,7 @@ pub struct Refusal {
     pub position: usize,
 }
 
+// What a call answers. It is not the library's `Result`: both cases have a count, and `packed` and `written` speak of the two by these names.
 #[derive(Clone, Copy)]
 pub enum Answer {
     // `length` words were written to the lent buffer.
@@ -110,6 +112,30 @@ pub fn answer_of(r: Refusal, length: usize, count: u64) -> Answer
             position: r.position,
             count: 0,
         }
+    }
+}
+
+// Refuses with a number the place that was found, if one was.
+pub fn refused_at(number: u32, found: Option<usize>) -> Result<(), Refusal>
+    ensures { result ≡ refused_at number found }
+{
+    match found {
+        Some(position) => Err(Refusal { number, position }),
+        None => Ok(()),
+    }
+}
+
+// The answer of a call that wrote so many words, or was refused.
+pub fn answered(outcome: Result<usize, Refusal>) -> Answer
+    ensures { result ≡ answered outcome }
+{
+    match outcome {
+        Ok(length) => Answer::Accepted { length, count: 0 },
+        Err(refusal) => Answer::Refused {
+            number: refusal.number as u64,
+            position: refusal.position,
+            count: 0,
+        },
     }
 }
 

@@ -27,12 +27,10 @@ module _ (test : ℕ → ℕ → ℕ → Bool) (ws : List ℕ) where
   -- one word more in front: it passes no test, or those of x and the numbers of a set
   module _ (i j : ℕ) {table : List ℕ} (h : SetTable test (drop j ws) table) (next : j ≡ i + 1) (l : i < length ws) where
     pub table-other : ((a k : ℕ) → test a k (get_or ws i 0) ≡ false) → SetTable test (drop i ws) table
-    unfolding any
     table-other none = record { size = h.size; entry = λ a k. rw (drop-next ws i l, ← next, none a k) (h.entry a k) }
 
     pub table_more : {x : ℕ} (add sum : ℕ) → x < 64 → ((a k : ℕ) → test a k (get_or ws i 0) ≡ (eqb a x && has add k))
         → IsSetOf sum (λ k. has (get_or table x 0) k || has add k) → SetTable test (drop i ws) (set table x sum)
-    unfolding any
     table_more {x} add sum small passes joined = record {
       size = length-set table x sum ∙ h.size;
       entry = λ a k. rw (drop-next ws i l, ← next, passes a k, ← (h.entry a k)) (cases a k (ℕ_discrete a x));

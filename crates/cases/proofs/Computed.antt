@@ -23,5 +23,5 @@ use Rattle.cases.proofs.Only.{on_members, on_form, on_passes, on_each}
 use Rattle.cases.proofs.Test.{decided, listed, distinct, sound, complete, exactly, fits, rooted, same_words, only, answers, passed, all_passed}
 
 pub computed : all_passed table ≡ true
-unfolding first_of any find_or filter take_while drop_while from_nth any_below every count before predecessor count_of_kind since latest named duration laws_of shift_windows_of limit_of in_group formula_word node_word member_words condition_words word_refusal_of word_refusal refusal_of name_refusal end_refusal job_refusal effect initially next_value value_at concat_below facts_at facts_upto facts_of form_value formula_below formula_at wrong_word ends_late in_hand_already clash together clashes may_start outside_windows over_limit group_exceeded needs_unmet rows_refusal starts_refusal plan_refusal facts_refusal check_refusal trajectory_of procedure_of all_below placingb tried setb ruleb reads decided listed distinct sound complete exactly fits rooted on_members on_form on_passes on_each same_words only answers passed all_passed
+unfolding first_of find_or drop_while from_nth any_below count before predecessor count_of_kind since latest named duration laws_of shift_windows_of limit_of in_group formula_word node_word member_words condition_words word_refusal_of word_refusal refusal_of name_refusal end_refusal job_refusal effect initially next_value value_at concat_below facts_at facts_upto facts_of form_value formula_below formula_at wrong_word ends_late in_hand_already clash together clashes may_start outside_windows over_limit group_exceeded needs_unmet rows_refusal starts_refusal plan_refusal facts_refusal check_refusal trajectory_of procedure_of all_below placingb tried setb ruleb reads decided listed distinct sound complete exactly fits rooted on_members on_form on_passes on_each same_words only answers passed all_passed
 computed = refl

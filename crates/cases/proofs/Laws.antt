@@ -70,7 +70,7 @@ same_words_lem (u ∷ us) (v ∷ vs) h = let (a, b) = both_true (eqb u v) (same_
 
 -- a start word names an action below 64
 few_actions : (job starts : List ℕ) → FewActions (plan_trajectory job starts)
-unfolding trajectory_of any
+unfolding trajectory_of
 few_actions job starts a t l = none starts
   where
     none : (ws : List ℕ) → any (is_start_of a t) ws ≡ false

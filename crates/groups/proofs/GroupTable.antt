@@ -46,7 +46,7 @@ module _ (job : List ℕ) where
   -- one word more in front
   pub groups_more : (i j : ℕ) {limits members limits' members' : List ℕ} → GroupsIn (drop j job) limits members → j ≡ i + 1 → i < length job
       → LimitStored (get_or job i 0) limits limits' → MemberStored (get_or job i 0) members members' → GroupsIn (drop i job) limits' members'
-  unfolding any find_or
+  unfolding find_or
   groups_more i j h next l limit member = record {
     limit_size = limit.size ∙ h.limit_size;
     member-size = member.size ∙ h.member-size;

@@ -39,7 +39,6 @@ pub record Carrying (job starts : List ℕ) (held : List ℕ) (count t i : ℕ) 
 
 module _ {job durations starts : List ℕ} {groups : Groups} (given : Grouped job durations starts groups) where
   pub carrying_none : Carrying job starts (replicate 4096 0) 0 0 0
-  unfolding filter
   carrying_none = record {
     tried = tried_start;
     few = omega arith;

@@ -94,7 +94,6 @@ held_start job starts lasting = filter-agree (in_hand job 0) (begins_at 0) (each
 -- the set at the next moment: of those in hand the ones that have not finished, and then the starts that begin then
 next_list : (job : List ℕ) (t : ℕ) {S : List ℕ} → Lasting job S → Ascending S
     → held_at job S (suc t) ≡ filter (unfinished job (suc t)) (held_at job S t) ++ starting_at S (suc t)
-unfolding filter
 next_list job t each_none pairs-none = refl
 next_list job t (each_more {s} {ss = S} lasts ls) (pairs-more p ps) = cases (dec_lt (suc t) (start_moment s)) (dec_lt (start_moment s) (suc t)) (next_list job t ls ps)
   where

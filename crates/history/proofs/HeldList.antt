@@ -79,7 +79,6 @@ pub record Kept (test : ℕ → Bool) (old : List ℕ) (i n : ℕ) (new : List �
 
 module _ {test : ℕ → Bool} {old : List ℕ} where
   pub kept_none : Kept test old 0 0 old
-  unfolding filter
   kept_none = record { few = omega arith; size = refl; words = refl; rest = λ k l. refl }
 
   module _ {i n : ℕ} {cur : List ℕ} (inside : i < length old) (h : Kept test old i n cur) where

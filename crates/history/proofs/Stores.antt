@@ -88,7 +88,7 @@ module _ (n : ℕ) (says : ℕ → Bool) (further : ℕ → ℕ → Bool) (gives
 
 -- 'some word passes' as a value
 pub any-gives : (test : ℕ → Bool) (v other : ℕ) (ws : List ℕ) → find_or test (λ w. v) other ws ≡ cond (any test ws) v other
-unfolding find_or any
+unfolding find_or
 any-gives test v other [] = refl
 any-gives test v other (w ∷ ws) = cases (test w) (any-gives test v other ws)
   where

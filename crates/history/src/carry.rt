@@ -1,7 +1,7 @@
 // The starts in hand, in a list that a walk of the states carries: those that finish leave it, and those that begin join it.
 ghost use Rattle.std.specs.Prelude.{◌≡◌, List, ℕ, ◌+◌, ◌<◌, ◌≤◌, length, get_or, drop};
 ghost use Rattle.words.specs.Scan.{take_while};
-ghost use Rattle.history.specs.Held.{begins_at, starting_at, Lasting, Ascending, TimedBy, HeldList};
+ghost use Rattle.history.specs.Held.{begins_at, Lasting, Ascending, HeldList, HoldsNext};
 ghost use Rattle.history.specs.Code.Held.{unfinished_by, Filtered};
 
 use crate::tables::finish_of;
@@ -72,7 +72,7 @@ pub(crate) fn hold_next(
     count: usize,
 ) -> usize
     requires { ((a : ℕ) → get_or durations.now a 0 < 64) × (t < 64) × (count + length starting.now ≤ length held.old) }
-    ensures { (job starts : List ℕ) → TimedBy job durations.now starts → Lasting job starts → Ascending starts → starting.now ≡ starting_at starts (t + 1) → HeldList job starts t held.old count → HeldList job starts (t + 1) held.new result }
+    ensures { HoldsNext durations.now starting.now t held.old count held.new result }
 {
     let kept = keep_unfinished(durations, t + 1, held, count);
     copy_words(starting, kept, held);

@@ -74,7 +74,6 @@ module _ (job : List ℕ) (i : ℕ) where
   latest-more k = rw (before_more job i)
 
   pub any-more : (t : ℕ → Bool) → any t (before job (i + 1)) ≡ (t (get_or job i 0) || any t (before job i))
-  unfolding any
   any-more t = rw (before_more job i)
 
   pub named_more : (v : ℕ) → named v (before job (i + 1)) ≡ named v (before job i) + count v (word_children (get_or job i 0))
@@ -98,7 +97,7 @@ count-grows k job i =
     (λ m h ih. rw (← (add-one m)) (omega (arith, count-more job m k)))
 
 pub tied_start : (job : List ℕ) → Tied (before job 0) (record { actions = 0; formulas = 0; nodes = 0; members = 0; conditions = 0; node = 0; groups = 0; names = record { named = 0; again = 0 } })
-unfolding before count_of_kind since latest any named
+unfolding before count_of_kind since latest named
 tied_start job = record { actions = refl; formulas = refl; nodes = refl; members = refl; conditions = refl; node = refl; groups = has-zero; names = record { named = has-zero; again = has-zero } }
 
 pub not_once : (p : List ℕ) (v : ℕ) → (named v p ≡ 1 → ⊥) → name_refusal p v ≡ 5

@@ -25,7 +25,6 @@ names_m f = eqb f 4
 -- a form's children are below n
 below : (w n f : ℕ) → every (λ q. ltb q n) (named_by_form (form_number f) w)
     ≡ (implies (names_x f) (ltb (node_x w) n) && implies (names_y f) (ltb (node_y w) n) && implies (names_m f) (ltb (node_m w) n))
-unfolding every
 below w n zero = refl
 below w n (suc zero) = refl
 below w n (suc (suc zero)) = sym (and_assoc (ltb (node_x w) n) (ltb (node_y w) n) true)

@@ -27,7 +27,7 @@ use Rattle.job.proofs.Parts.{follows, rule}
 -- the words since one of kind k have word j
 since-hit : (t : ℕ → Bool) (k : ℕ) (job : List ℕ) (i j : ℕ) → j < i → t (get_or job j 0) ≡ true → ((m : ℕ) → j ≤ m → m < i → kind (get_or job m 0) ≡ k → ⊥)
     → any t (since k (before job i)) ≡ true
-unfolding before since any
+unfolding before since
 since-hit t k job zero j l e n = absurd (omega arith)
 since-hit t k job (suc i) j l e n =
     rw (ne_eqb _ k (n i (omega arith) (omega arith)))

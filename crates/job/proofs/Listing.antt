@@ -104,12 +104,12 @@ run k v l f =
 
 -- the set before the first word, and after one word more, which may follow the others
 pub listed_none : (head : ℕ) (job : List ℕ) → Listed head (before job 0) (replicate 16 0)
-unfolding before since any
+unfolding before since
 listed_none head job = record { size = refl; entry = λ w l f. rw (empty_entry 16 (entry_of head w / 64)) (has-zero (entry_of head w % 64)) }
 
 module _ {head v : ℕ} {p old new : List ℕ} where
   pub listed_more : Listed head p old → may_follow (kind v) (predecessor p) ≡ true → Stored head v old new → Listed head (v ∷ p) new
-  unfolding since any
+  unfolding since
   listed_more h f stored = record {
     size = stored.size;
     entry = λ w l g. stored.entry (entry_of head w) ∙ cases w l (run (kind w) (predecessor (v ∷ p)) l g) (ℕ_discrete (kind v) (kind w));

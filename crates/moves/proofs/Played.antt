@@ -67,7 +67,6 @@ module _ (job : List ℕ) (T : Trial) (a : ℕ) (e : (start_refusal job T a).num
 
 module _ (job : List ℕ) where
   fresh-passes : Passing job fresh
-  unfolding filter
   fresh-passes = record {
     present = omega arith;
     past = each_none;

@@ -53,7 +53,6 @@ module _ {durations : List ℕ} (job : List ℕ) where
   -- one word more in front; it is no window, or one of action x, whose set gains the moments that it allows
   module _ (i j : ℕ) {windowed : ℕ} {inside : List ℕ} (h : ShiftsIn durations (drop j job) windowed inside) (next : j ≡ i + 1) (l : i < length job) where
     pub shifts_other : (kind (get_or job i 0) ≡ 12 → ⊥) → ShiftsIn durations (drop i job) windowed inside
-    unfolding any
     shifts_other n = record {
       some = λ a. rw (drop-next job i l, ← next, ne_eqb (kind (get_or job i 0)) 12 n) (h.some a);
       moments = table-other (allows durations) job i j h.moments next l (λ a u. rw (ne_eqb (kind (get_or job i 0)) 12 n));
@@ -63,7 +62,6 @@ module _ {durations : List ℕ} (job : List ℕ) where
         → IsSetOf one (λ a. eqb a x) → IsSetOf all (λ a. has windowed a || has one a)
         → IsSetOf add (λ u. inside_window (get_or durations x 0) u (get_or job i 0)) → IsSetOf sum (λ u. has (get_or inside x 0) u || has add u)
         → ShiftsIn durations (drop i job) all (set inside x sum)
-    unfolding any
     shifts_more {x} one all add sum k ex small is_one is_all is-add is_sum = record {
       some = λ a. rw (drop-next job i l, ← next, eq-eqb (kind (get_or job i 0)) 12 k, ← ex, is_all a, is_one a, ← (h.some a)) (or_comm (has windowed a) (eqb a x));
       moments = table_more (allows durations) job i j h.moments next l add sum small

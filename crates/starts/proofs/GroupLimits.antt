@@ -94,7 +94,6 @@ module _ (job : List ℕ) (group : ℕ → Bool) where
       Clear = (i : ℕ) → i < length S → exceeds job group limit (take (suc i) S) (get_or S i 0) ≡ false
 
       upto : Ascending S → Clear → (n : ℕ) → n ≤ length S → Within job group limit (take n S)
-      unfolding filter
       upto ascends clear zero l = λ t. omega arith
       upto ascends clear (suc n) l =
           within_more (get_or S n 0) (one_taken S n (omega arith)) (each_of (take n S) past) (upto ascends clear n (omega arith)) (clear n (omega arith))
@@ -128,7 +127,6 @@ pub within-exactly : WithinExactly
 within-exactly job group limit starts ascends = (rows_keep job group limit starts ascends, keeps_rows job group limit starts)
 
 pub zero_forbids : ZeroForbids
-unfolding filter
 zero_forbids job group starts lasting = (λ h. each_of starts (λ i l. is_false _ (λ e. used h i l e)), λ none t. rw (unused none t) (omega arith))
   where
     used : Within job group 0 starts → (i : ℕ) → i < length starts → group (start_action (get_or starts i 0)) ≡ true → ⊥

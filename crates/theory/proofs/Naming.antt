@@ -11,6 +11,7 @@ use lib.Dec.{eqb}
 use lib.ListN.{length, get_or}
 use Rattle.words.specs.Fields.{of_kind, kind, form, is_set, member_node}
 use Rattle.words.specs.Scan.{take_while, from_nth, count}
+use Rattle.std.proofs.lemmas.List.Sums.{take_while-cons}
 use Rattle.words.proofs.Choices.{both_true}
 use Rattle.bitset.specs.Code.Members.{sum_below}
 use Rattle.bitset.proofs.Sums.{sum-cong, sum-front}
@@ -48,7 +49,7 @@ Led ws = (i : ℕ) → suc i < length ws → kind (get_or ws (suc i) 0) ≡ 7 �
 
 -- no member leads words whose first is none
 leads_none : (v : ℕ) (ws : List ℕ) → (0 < length ws → kind (get_or ws 0 0) ≡ 7 → ⊥) → leads v ws ≡ 0
-unfolding take_while count
+unfolding count
 leads_none v [] h = refl
 leads_none v (w ∷ ws) h = rw (ne_eqb (kind w) 7 (h (omega arith)))
 
@@ -102,8 +103,8 @@ module _ (v w : ℕ) (ws : List ℕ) where
     other_same (suc p) = ap (count v) (same_children (procedure_of ws) (procedure_of (w ∷ ws)) (suc p) (suc p) (rw (ne_eqb (kind w) 6 no)) (λ f. rw (ne_eqb (kind w) 6 no)))
 
   member-leads : kind w ≡ 7 → leads v (w ∷ ws) ≡ count v (word_children w) + leads v ws
-  unfolding take_while count
-  member-leads h = rw h (omega arith)
+  unfolding count
+  member-leads h = rw (take_while-cons (of_kind 7) w ws, h) (omega arith)
 
   other_names : (kind w ≡ 6 → ⊥) → (kind w ≡ 7 → ⊥) → count v (word_children w) ≡ 0
   unfolding count
@@ -143,7 +144,7 @@ module _ (v w : ℕ) (ws : List ℕ) where
 
 -- the words name a node as often as the members that lead them and the nodes, each with its children
 by_words : (v : ℕ) (ws : List ℕ) → Led ws → named v (before ws (length ws)) ≡ leads v ws + sum_below (child_times ws v) (node_count ws)
-unfolding named count_of_kind before take_while count sum_below
+unfolding named count_of_kind before count sum_below
 by_words v [] led = refl
 by_words v (w ∷ ws) led = step v w ws led (by_words v ws (λ i l. led (suc i) (omega arith)))
 

@@ -18,7 +18,6 @@ use Rattle.words.proofs.Choices.{cond-all}
 
 module _ (test : ℕ → Bool) where
   filter-append : (vs ws : List ℕ) → filter test (vs ++ ws) ≡ filter test vs ++ filter test ws
-  unfolding filter
   filter-append [] ws = refl
   filter-append (v ∷ vs) ws = cases (test v) (filter-append vs ws)
     where
@@ -30,15 +29,12 @@ module _ (test : ℕ → Bool) where
   -- one word more of a list
   module _ (ws : List ℕ) (i : ℕ) (inside : i < length ws) where
     pub filter-hit : test (get_or ws i 0) ≡ true → filter test (take (i + 1) ws) ≡ filter test (take i ws) ++ (get_or ws i 0 ∷ [])
-    unfolding filter
     filter-hit e = rw (add-one i, take-suc ws i 0 inside, filter-append (take i ws) (get_or ws i 0 ∷ []), e)
 
     pub filter-miss : test (get_or ws i 0) ≡ false → filter test (take (i + 1) ws) ≡ filter test (take i ws)
-    unfolding filter
     filter-miss e = rw (add-one i, take-suc ws i 0 inside, filter-append (take i ws) (get_or ws i 0 ∷ []), e) (append-nil (filter test (take i ws)))
 
   pub each_filter : {P : ℕ → Type 0} {S : List ℕ} → Each P S → Each P (filter test S)
-  unfolding filter
   each_filter each_none = each_none
   each_filter {P} (each_more {s} {ss = S} p a) = cases (test s) (each_filter a)
     where
@@ -48,7 +44,6 @@ module _ (test : ℕ → Bool) where
 
   -- none passes where no word is kept
   pub none_kept : (S : List ℕ) → eqb (length (filter test S)) 0 ≡ not (any test S)
-  unfolding filter any
   none_kept [] = refl
   none_kept (s ∷ S) = cases (test s) (none_kept S)
     where
@@ -59,7 +54,6 @@ module _ (test : ℕ → Bool) where
 
   -- each word kept passes, and all are kept where each passes
   pub each_kept : (S : List ℕ) → Each (λ s. test s ≡ true) (filter test S)
-  unfolding filter
   each_kept [] = each_none
   each_kept (s ∷ S) = cases (test s) refl (each_kept S)
     where
@@ -68,12 +62,10 @@ module _ (test : ℕ → Bool) where
       cases false e a = a
 
   pub filter-all : {S : List ℕ} → Each (λ s. test s ≡ true) S → filter test S ≡ S
-  unfolding filter
   filter-all each_none = refl
   filter-all (each_more e a) = rw (e, filter-all a)
 
   pub filter_none : {S : List ℕ} → Each (λ s. test s ≡ false) S → filter test S ≡ []
-  unfolding filter
   filter_none each_none = refl
   filter_none (each_more e a) = rw (e, filter_none a)
 
@@ -81,7 +73,6 @@ module _ (test : ℕ → Bool) where
   pub filter-slice : (S : List ℕ) (i n : ℕ) → ((k : ℕ) → k < i → k < length S → test (get_or S k 0) ≡ false)
       → ((k : ℕ) → i ≤ k → k < i + n → k < length S → test (get_or S k 0) ≡ true)
       → ((k : ℕ) → i + n ≤ k → k < length S → test (get_or S k 0) ≡ false) → filter test S ≡ take n (drop i S)
-  unfolding filter
   filter-slice [] zero zero a b c = refl
   filter-slice [] zero (suc n) a b c = refl
   filter-slice [] (suc i) zero a b c = refl
@@ -99,7 +90,6 @@ module _ (test : ℕ → Bool) where
 
   -- a word passes and is in the list
   filter-mem : (s : ℕ) (S : List ℕ) → Memᴰ s (filter test S) → Memᴰ s S × (test s ≡ true)
-  unfolding filter
   filter-mem s [] m = absurd (Memᴰ.not-nil m)
   filter-mem s (w ∷ ws) m = cases (test w) refl m (filter-mem s ws)
     where
@@ -109,7 +99,6 @@ module _ (test : ℕ → Bool) where
       cases false e m ih = let r = ih m in (Memᴰ.tail r.0, r.1)
 
   mem_filtered : (s : ℕ) {S : List ℕ} → Memᴰ s S → test s ≡ true → Memᴰ s (filter test S)
-  unfolding filter
   mem_filtered s (Memᴰ.head {x} {xs} q) e = rw (← q, e) (Memᴰ.head refl)
   mem_filtered s (Memᴰ.tail {x} {xs} m) e = cond-all (λ l. Memᴰ s l) (test x) (Memᴰ.tail (mem_filtered s m e)) (mem_filtered s m e)
 
@@ -119,13 +108,11 @@ module _ (test : ℕ → Bool) where
 -- two tests that agree on each word
 module _ (f g : ℕ → Bool) where
   pub filter-agree : {S : List ℕ} → Each (λ s. f s ≡ g s) S → filter f S ≡ filter g S
-  unfolding filter
   filter-agree each_none = refl
   filter-agree (each_more e a) = rw (e, filter-agree a)
 
 -- two tests that no word passes both
 pub filter-apart : (f g : ℕ → Bool) → ((s : ℕ) → f s ≡ true → g s ≡ false) → (S : List ℕ) → length (filter f S) + length (filter g S) ≤ length S
-unfolding filter
 filter-apart f g h [] = omega arith
 filter-apart f g h (s ∷ S) = cases (f s) refl (g s) refl (filter-apart f g h S)
   where
@@ -139,7 +126,6 @@ filter-apart f g h (s ∷ S) = cases (f s) refl (g s) refl (filter-apart f g h S
 -- how many words pass
 module _ (test : ℕ → Bool) where
   pub count-cons : (s : ℕ) (S : List ℕ) → length (filter test (s ∷ S)) ≡ indicator (test s) + length (filter test S)
-  unfolding filter
   count-cons s S = cases (test s)
     where
       cases : (b : Bool) → length (cond b (s ∷ filter test S) (filter test S)) ≡ indicator b + length (filter test S)
@@ -148,13 +134,11 @@ module _ (test : ℕ → Bool) where
 
   -- of the first words of a list, of one word more of them, and of a list with one word put in
   pub count-take : (n : ℕ) (S : List ℕ) → length (filter test (take n S)) ≤ length (filter test S)
-  unfolding filter
   count-take zero S = omega arith
   count-take (suc n) [] = omega arith
   count-take (suc n) (s ∷ S) = omega (arith, count-cons s (take n S), count-cons s S, count-take n S)
 
   pub count_next : (n : ℕ) (S : List ℕ) → n < length S → length (filter test (take (suc n) S)) ≡ indicator (test (get_or S n 0)) + length (filter test (take n S))
-  unfolding filter
   count_next n [] l = absurd (omega arith)
   count_next zero (s ∷ S) l = count-cons s []
   count_next (suc n) (s ∷ S) l = omega (arith, count-cons s (take (suc n) S), count-cons s (take n S), count_next n S (omega arith))
@@ -171,7 +155,6 @@ module _ (test : ℕ → Bool) where
 
 -- as many or more, where each word that passes one test passes the other
 pub count-le : (f g : ℕ → Bool) {S : List ℕ} → Each (λ s. f s ≡ true → g s ≡ true) S → length (filter f S) ≤ length (filter g S)
-unfolding filter
 count-le f g each_none = omega arith
 count-le f g (each_more {s} {ss = S} h a) = cases (f s) (g s) h (count-le f g a)
   where
@@ -185,7 +168,6 @@ count-le f g (each_more {s} {ss = S} h a) = cases (f s) (g s) h (count-le f g a)
 -- a test on the words kept is one on all words
 module _ (test keeps : ℕ → Bool) where
   pub filter-filter : (S : List ℕ) → filter test (filter keeps S) ≡ filter (λ s. keeps s && test s) S
-  unfolding filter
   filter-filter [] = refl
   filter-filter (s ∷ S) = cases (keeps s) (filter-filter S)
     where
@@ -195,7 +177,6 @@ module _ (test keeps : ℕ → Bool) where
       cases false ih = ih
 
   pub any-filter : (S : List ℕ) → any test (filter keeps S) ≡ any (λ s. keeps s && test s) S
-  unfolding filter any
   any-filter [] = refl
   any-filter (s ∷ S) = cases (keeps s) (any-filter S)
     where
@@ -206,7 +187,7 @@ module _ (test keeps : ℕ → Bool) where
 
   pub find_or-filter : (gives : ℕ → ℕ) (other : ℕ) (S : List ℕ)
       → find_or test gives other (filter keeps S) ≡ find_or (λ s. keeps s && test s) gives other S
-  unfolding filter find_or
+  unfolding find_or
   find_or-filter gives other [] = refl
   find_or-filter gives other (s ∷ S) = cases (keeps s) (find_or-filter gives other S)
     where

@@ -9,6 +9,7 @@ use borrow.Author.Tests.{ltb-true, ltb-false, le-ltb}
 use lib.Dec.{ltb}
 use lib.ListN.{length, take, drop}
 use Rattle.words.specs.Scan.{any, find_or, take_while}
+use Rattle.std.proofs.lemmas.List.Sums.{take_while-cons}
 use Rattle.words.specs.Lists.{Each, each_none, each_more, Pairs, pairs-none, pairs-more, insert}
 use Rattle.words.specs.Code.Place.{not_above}
 use Rattle.words.proofs.Lists.{each_map}
@@ -51,7 +52,7 @@ order_insert w (each_more {s} {ss} n ns) (pairs-more p ps) = cases (ltb w s) ref
 -- a word that fails a test changes nothing of what the test finds
 module _ (test : ℕ → Bool) (w : ℕ) (e : test w ≡ false) where
   pub any-insert : (S : List ℕ) → any test (insert w S) ≡ any test S
-  unfolding insert any
+  unfolding insert
   any-insert [] = rw e
   any-insert (s ∷ S) = cases (ltb w s) (any-insert S)
     where
@@ -72,9 +73,9 @@ module _ (test : ℕ → Bool) (w : ℕ) (e : test w ≡ false) where
 module _ (w : ℕ) where
   -- it stands after the words that are not above it
   pub insert-split : (S : List ℕ) → insert w S ≡ take (length (take_while (not_above w) S)) S ++ (w ∷ drop (length (take_while (not_above w) S)) S)
-  unfolding insert take_while
+  unfolding insert
   insert-split [] = refl
-  insert-split (s ∷ S) = cases (ltb w s) (insert-split S)
+  insert-split (s ∷ S) = rw (take_while-cons (not_above w) s S) (cases (ltb w s) (insert-split S))
     where
       cases : (t : Bool) → insert w S ≡ take (length (take_while (not_above w) S)) S ++ (w ∷ drop (length (take_while (not_above w) S)) S)
           → cond t (w ∷ s ∷ S) (s ∷ insert w S)

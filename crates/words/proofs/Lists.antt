@@ -49,12 +49,10 @@ each_with f (each_more p a) (each_more q b) = each_more (f _ p q) (each_with f a
 -- a test that every word fails, and one that some word passes
 module _ (test : ℕ → Bool) where
   pub any_none : {S : List ℕ} → Each (λ s. test s ≡ false) S → any test S ≡ false
-  unfolding any
   any_none each_none = refl
   any_none (each_more e a) = rw (e, any_none a)
 
   pub none_any : (S : List ℕ) → any test S ≡ false → Each (λ s. test s ≡ false) S
-  unfolding any
   none_any [] e = each_none
   none_any (s ∷ S) e = cases (test s) refl e (none_any S)
     where

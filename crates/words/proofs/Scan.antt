@@ -11,6 +11,7 @@ use native.Mathlib.Omega.{arith}
 use lib.ListN.{length, get_or, take, drop, drop_of_length-le, length-drop}
 use lib.Seq.{drop-cons}
 use Rattle.words.specs.Scan.{any, every, find_or, take_while, drop_while, count}
+use Rattle.std.proofs.lemmas.List.Sums.{take_while-cons}
 use Rattle.words.specs.Lists.{Each, each_none, each_more}
 use Rattle.words.specs.Tests.{indicator}
 use Rattle.words.proofs.Choices.{both_true}
@@ -28,15 +29,12 @@ module _ (ws : List ℕ) (i : ℕ) where
 
   module _ (test : ℕ → Bool) where
     pub any-hit : i < length ws → test (get_or ws i 0) ≡ true → any test (drop i ws) ≡ true
-    unfolding any
     any-hit h e = rw (drop-next h, e)
 
     pub any-miss : i < length ws → test (get_or ws i 0) ≡ false → any test (drop i ws) ≡ any test (drop (i + 1) ws)
-    unfolding any
     any-miss h e = rw (drop-next h, e)
 
     pub any-end : length ws ≤ i → any test (drop i ws) ≡ false
-    unfolding any
     any-end h = rw (drop_of_length-le ws h)
 
 -- a loop at word i of a list: whether some word passes shows from there on
@@ -61,9 +59,8 @@ module _ (test : ℕ → Bool) where
   -- word i of the leading ones is word i of the list, and passes
   pub take_while-entry : (ws : List ℕ) (i : ℕ) → i < length (take_while test ws)
       → (get_or (take_while test ws) i 0 ≡ get_or ws i 0) × (test (get_or ws i 0) ≡ true) × (i < length ws)
-  unfolding take_while
   take_while-entry [] i h = absurd (omega arith)
-  take_while-entry (w ∷ ws) i h = cases (test w) refl i h (take_while-entry ws)
+  take_while-entry (w ∷ ws) i h = rw (take_while-cons test w ws) (cases (test w) refl i (rw (take_while-cons test w ws) at h) (take_while-entry ws))
     where
       Entry : List ℕ → ℕ → Type 0
       Entry l i = (get_or l i 0 ≡ get_or (w ∷ ws) i 0) × (test (get_or (w ∷ ws) i 0) ≡ true) × (i < suc (length ws))
@@ -77,9 +74,8 @@ module _ (test : ℕ → Bool) where
 
   -- the word after the leading ones fails, where there is one
   pub take_while-stop : (ws : List ℕ) → length (take_while test ws) < length ws → test (get_or ws (length (take_while test ws)) 0) ≡ false
-  unfolding take_while
   take_while-stop [] h = absurd (omega arith)
-  take_while-stop (w ∷ ws) h = cases (test w) refl h (take_while-stop ws)
+  take_while-stop (w ∷ ws) h = rw (take_while-cons test w ws) (cases (test w) refl (rw (take_while-cons test w ws) at h) (take_while-stop ws))
     where
       cases : (t : Bool) → test w ≡ t → length (cond t (w ∷ take_while test ws) []) < suc (length ws)
           → (length (take_while test ws) < length ws → test (get_or ws (length (take_while test ws)) 0) ≡ false)
@@ -90,18 +86,17 @@ module _ (test : ℕ → Bool) where
   -- so many lead as pass up to the first that fails
   pub lead_count : (ws : List ℕ) (i : ℕ) → i ≤ length ws → ((k : ℕ) → k < i → test (get_or ws k 0) ≡ true) → (i < length ws → test (get_or ws i 0) ≡ false)
       → i ≡ length (take_while test ws)
-  unfolding take_while
   lead_count [] zero l h stop = refl
   lead_count [] (suc i) l h stop = absurd (omega arith)
-  lead_count (w ∷ ws) zero l h stop = rw (stop (omega arith))
+  lead_count (w ∷ ws) zero l h stop = rw (take_while-cons test w ws, stop (omega arith))
   lead_count (w ∷ ws) (suc i) l h stop =
-      rw (h 0 (omega arith)) (ap suc (lead_count ws i (omega arith) (λ k m. h (suc k) (omega arith)) (λ m. stop (omega arith))))
+      rw (take_while-cons test w ws, h 0 (omega arith)) (ap suc (lead_count ws i (omega arith) (λ k m. h (suc k) (omega arith)) (λ m. stop (omega arith))))
 
   -- the words beyond them
   pub drop_while-drop : (ws : List ℕ) → drop_while test ws ≡ drop (length (take_while test ws)) ws
-  unfolding take_while drop_while
+  unfolding drop_while
   drop_while-drop [] = refl
-  drop_while-drop (w ∷ ws) = cases (test w) (drop_while-drop ws)
+  drop_while-drop (w ∷ ws) = rw (take_while-cons test w ws) (cases (test w) (drop_while-drop ws))
     where
       cases : (t : Bool) → drop_while test ws ≡ drop (length (take_while test ws)) ws
           → cond t (drop_while test ws) (w ∷ ws) ≡ drop (length (cond t (w ∷ take_while test ws) [])) (w ∷ ws)
@@ -110,9 +105,8 @@ module _ (test : ℕ → Bool) where
 
   -- they are the first of the list, as many as they are
   pub take_while-take : (ws : List ℕ) → take (length (take_while test ws)) ws ≡ take_while test ws
-  unfolding take_while
   take_while-take [] = refl
-  take_while-take (w ∷ ws) = cases (test w) (take_while-take ws)
+  take_while-take (w ∷ ws) = rw (take_while-cons test w ws) (cases (test w) (take_while-take ws))
     where
       cases : (t : Bool) → take (length (take_while test ws)) ws ≡ take_while test ws
           → take (length (cond t (w ∷ take_while test ws) [])) (w ∷ ws) ≡ cond t (w ∷ take_while test ws) []
@@ -122,15 +116,12 @@ module _ (test : ℕ → Bool) where
   -- how many lead, from a position on
   module _ (ws : List ℕ) (i : ℕ) where
     pub lead_hit : i < length ws → test (get_or ws i 0) ≡ true → length (take_while test (drop i ws)) ≡ 1 + length (take_while test (drop (i + 1) ws))
-    unfolding take_while
-    lead_hit h e = rw (drop-next ws i h, e) (omega arith)
+    lead_hit h e = rw (drop-next ws i h, take_while-cons test (get_or ws i 0) (drop (i + 1) ws), e) (omega arith)
 
     pub lead_miss : i < length ws → test (get_or ws i 0) ≡ false → length (take_while test (drop i ws)) ≡ 0
-    unfolding take_while
-    lead_miss h e = rw (drop-next ws i h, e)
+    lead_miss h e = rw (drop-next ws i h, take_while-cons test (get_or ws i 0) (drop (i + 1) ws), e)
 
     pub lead_end : length ws ≤ i → length (take_while test (drop i ws)) ≡ 0
-    unfolding take_while
     lead_end h = rw (drop_of_length-le ws h)
 
   -- there are no more of them than words
@@ -150,7 +141,7 @@ module _ (test : ℕ → Bool) (ws : List ℕ) (a r : ℕ) (e : r ≡ length (ta
   run_part = rw e (take_while-take test (drop a ws))
 
 pub every_true : (test : ℕ → Bool) (xs : List ℕ) → every test xs ≡ true → (q : ℕ) → 0 < count q xs → test q ≡ true
-unfolding every count
+unfolding count
 every_true test [] e q h = absurd (omega arith)
 every_true test (x ∷ xs) e q h =
     let b = both_true (test x) (every test xs) e in
@@ -163,7 +154,6 @@ every_true test (x ∷ xs) e q h =
 -- two tests that agree on each word
 module _ (f g : ℕ → Bool) where
   pub any-agree : {S : List ℕ} → Each (λ s. f s ≡ g s) S → any f S ≡ any g S
-  unfolding any
   any-agree each_none = refl
   any-agree (each_more e a) = rw (e, any-agree a)
 

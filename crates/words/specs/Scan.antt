@@ -1,31 +1,13 @@
 -- What a list of words has, by a test on a word.
-use Rattle.std.specs.Prelude.{Bool, true, false, cond, ◌&&◌, ◌||◌, List, [], ◌∷◌, ◌++◌, ℕ, zero, suc, ◌+◌, eqb}
+use Rattle.std.specs.Prelude.{Bool, false, cond, ◌||◌, List, [], ◌∷◌, ◌++◌, ℕ, zero, suc, ◌+◌, eqb}
 use Rattle.words.specs.Tests.{indicator}
-
--- some word passes
-unfoldable pub any : (ℕ → Bool) → List ℕ → Bool
-any test [] = false
-any test (w ∷ ws) = test w || any test ws
-
--- every word passes
-unfoldable pub every : (ℕ → Bool) → List ℕ → Bool
-every test [] = true
-every test (w ∷ ws) = test w && every test ws
+-- some word passes; every word does; the words that pass, in their order; the words up to the first that fails
+pub use Rattle.std.specs.List.{list_any as any, list_all as every, filter, take_while}
 
 -- what the first word that passes gives, or `other` where none does
 unfoldable pub find_or : (ℕ → Bool) → (ℕ → ℕ) → ℕ → List ℕ → ℕ
 find_or test gives other [] = other
 find_or test gives other (w ∷ ws) = cond (test w) (gives w) (find_or test gives other ws)
-
--- the words that pass, in their order
-unfoldable pub filter : (ℕ → Bool) → List ℕ → List ℕ
-filter test [] = []
-filter test (w ∷ ws) = cond (test w) (w ∷ filter test ws) (filter test ws)
-
--- the words up to the first that fails
-unfoldable pub take_while : (ℕ → Bool) → List ℕ → List ℕ
-take_while test [] = []
-take_while test (w ∷ ws) = cond (test w) (w ∷ take_while test ws) []
 
 -- the words from the first that fails
 unfoldable pub drop_while : (ℕ → Bool) → List ℕ → List ℕ

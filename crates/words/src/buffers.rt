@@ -18,11 +18,7 @@ pub fn copy_words(list: &[u32], at: usize, buffer: &mut [u32])
     requires { at + length list.now ≤ length buffer.old }
     ensures { buffer.new ≡ sets buffer.old at list.now }
 {
-    let mut i = 0;
-    while i < list.len() {
-        buffer[at + i] = list[i];
-        i += 1;
-    }
+    buffer[at..at + list.len()].copy_from_slice(list);
 }
 
 // Writes the ascending list with `w` put in to the front of the buffer.

@@ -10,7 +10,7 @@ pub mod forms;
 
 pub use buffers::{copy_words, insert_word};
 
-// The kinds of words.
+// The kinds of words. They are numbers and no enum: fields of the words that the host in C lends, which `may_follow` compares by their order.
 pub const HEAD: u32 = 1;
 
 pub const KNOWN: u32 = 2;
@@ -39,7 +39,7 @@ pub const GROUP: u32 = 13;
 
 pub const GROUP_MEMBER: u32 = 14;
 
-// The roles of a law, all four by name.
+// The roles of a law, all four by name: numbers, as a law's word has them, which `makes` compares by their order.
 pub const NEEDS_TRUE: u32 = 0;
 
 pub const NEEDS_FALSE: u32 = 1;
@@ -48,7 +48,7 @@ pub const MAKES_TRUE: u32 = 2;
 
 pub const MAKES_FALSE: u32 = 3;
 
-// The values of a fluent or a formula.
+// The values of a fluent or a formula. They are bytes and no enum: the tables of 'and' and 'or' hold them, and two of them make an index.
 pub const FAILS: u8 = 0;
 
 pub const OPEN: u8 = 1;
@@ -117,19 +117,18 @@ pub fn kind_of(w: u32) -> u32
     w >> 28
 }
 
-// How many words of kind `k` lead what stands from position `at` on.
+// How many words of kind `k` lead a list; and how many lead what stands in it from position `at` on.
+fn leading(ws: &[u32], k: u32) -> usize
+    ensures { result ≡ length (take_while (of_kind k) ws.now) }
+{
+    ws.iter().take_while(|&&w| kind_of(w) == k).count()
+}
+
 pub fn run_length(ws: &[u32], at: usize, k: u32) -> usize
     requires { at ≤ length ws.now }
     ensures { result ≡ length (take_while (of_kind k) (drop at ws.now)) }
 {
-    let mut i = at;
-    while i < ws.len() {
-        if kind_of(ws[i]) != k {
-            return i - at;
-        }
-        i += 1;
-    }
-    i - at
+    leading(&ws[at..], k)
 }
 
 pub fn form_of(w: u32) -> u32

@@ -12,7 +12,6 @@ use Rattle.groups.proofs.held_of.Goals as goal
 use Rattle.groups.proofs.held_of.Goals.{then-has, else-has}
 
 pub loop-i-init : goal.loop-i-init
-unfolding filter
 loop-i-init c = (omega arith, omega arith, omega arith)
 
 pub overflow_add-n : goal.overflow_add-n
