@@ -1,8 +1,9 @@
-// What passes from the theory to the reading layer: a procedure and a trajectory as arrays, a triple of a node and two moments, and the
-// words of a task set.
+// What passes from the theory to the reading layer: a procedure and a trajectory as arrays, a node's word taken apart, a triple of a node
+// and two moments, and the words of a task set.
 #![tactic(auto)]
 
 ghost use Rattle.std.specs.Prelude.{◌≡◌, ◌<◌, length};
+ghost use Rattle.words.specs.Fields.{form, node_x, node_y, node_m, node_n};
 ghost use Rattle.model.specs.Code.Arrays.{value_in, members_at, conditions_at};
 
 use words::{ACTIONS, CONDITION, FORMULA_VALUES, MEMBER, MOMENTS, NODES};
@@ -27,6 +28,33 @@ impl Arrays {
         ensures { result ≡ value_in self.now.values k t }
     {
         self.values[k * MOMENTS + t]
+    }
+}
+
+// The word of a node, taken apart: its form and its fields.
+#[derive(Clone, Copy)]
+pub struct Node {
+    pub form: u32,
+    pub x: usize,
+    pub y: usize,
+    pub m: usize,
+    pub n: usize,
+}
+
+// Returns the form and the fields of the node's word `w`.
+pub fn node_of(w: u32) -> Node
+    ensures form { (result.form ≡ form w) × (result.form < 16) }
+    ensures x { (result.x ≡ node_x w) × (result.x < 64) }
+    ensures y { (result.y ≡ node_y w) × (result.y < 64) }
+    ensures m { (result.m ≡ node_m w) × (result.m < 64) }
+    ensures n { (result.n ≡ node_n w) × (result.n < 64) }
+{
+    Node {
+        form: words::form_of(w),
+        x: words::node_x(w),
+        y: words::node_y(w),
+        m: words::node_m(w),
+        n: words::node_n(w),
     }
 }
 

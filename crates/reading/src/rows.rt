@@ -10,7 +10,7 @@ ghost use Rattle.reading.specs.Code.Quiet.{QuietIn};
 ghost use Rattle.reading.specs.Code.Table.{TwoRows, RowsThrough, WindowReady, After, RowReady, RowOf};
 
 use crate::pauses::{Pause, pause_of, quiet_upto};
-use model::Arrays;
+use model::{Arrays, Node};
 use words::forms::{ACT, CHOICE, END_WINDOW, IF, SEQUENCE, START_WINDOW, TASK_SET, TEST, WHILE};
 use words::{FAILS, HOLDS, MOMENTS};
 
@@ -31,12 +31,10 @@ fn windows(ends: u64, pause: Pause, last: usize) -> u64
     ensures { (m : ℕ) → In result m ↔ After ends pause last m }
 {
     let mut found = 0;
-    let mut left = ends;
-    while left != 0 {
-        let k = bitset::lowest(left) as usize;
-        let end = quiet_upto(pause, k);
-        found = bitset::union(found, window(k + pause.least, end, last));
-        left = bitset::drop_lowest(left);
+    for end in bitset::members(ends) {
+        let k = end as usize;
+        let begins = window(k + pause.least, quiet_upto(pause, k), last);
+        found = bitset::union(found, begins);
     }
     found
 }
@@ -112,24 +110,16 @@ fn while_row(guard: u8, last: usize, table: &[u64], p: usize, y: usize, b: usize
     0
 }
 
-// 6, start window: each end is the greater of one of X's and one of Y's.
-fn start_window_row(
-    last: usize,
-    table: &[u64],
-    x: usize,
-    y: usize,
-    least: usize,
-    most: usize,
-    b: usize,
-) -> u64
-    requires two_rows { TwoRows table.now x y b }
-    requires window_ready { WindowReady last least most }
-    ensures { (e : ℕ) → In result e ↔ StartsWithin (b + least) (b + most) last e (InTable table.now x b) (InTable table.now y) }
+// 6, start window: Y begins M to N after the begin, and each end is the greater of one of X's and one of Y's.
+fn start_window_row(last: usize, table: &[u64], node: Node, b: usize) -> u64
+    requires two_rows { TwoRows table.now node.x node.y b }
+    requires window_ready { WindowReady last node.m node.n }
+    ensures { (e : ℕ) → In result e ↔ StartsWithin (b + node.m) (b + node.n) last e (InTable table.now node.x b) (InTable table.now node.y) }
 {
-    let begins = window(b + least, b + most, last);
+    let begins = window(b + node.m, b + node.n, last);
     bitset::max_of(
-        table[x * MOMENTS + b],
-        bitset::join_rows(begins, table, y * MOMENTS),
+        table[node.x * MOMENTS + b],
+        bitset::join_rows(begins, table, node.y * MOMENTS),
     )
 }
 
@@ -149,18 +139,16 @@ pub fn row(word: u32, arrays: &Arrays, started: u64, table: &[u64], p: usize, b:
     ensures { RowOf (alone word) (trajectory_in arrays.now) table.now p b result }
 {
     let last = arrays.last;
-    let x = words::node_x(word);
-    let y = words::node_y(word);
-    let m = words::node_m(word);
-    let most = words::node_n(word);
-    match words::form_of(word) {
+    let node = model::node_of(word);
+    let (x, y) = (node.x, node.y);
+    match node.form {
         ACT => act_row(arrays.starts[x], arrays.durations[x], last, b),
         TEST => test_row(arrays.value(x, b), b),
         SEQUENCE => sequence_row(last, table, x, y, b),
         CHOICE => choice_row(table, x, y, b),
-        IF => if_row(arrays.value(x, b), table, y, m, b),
+        IF => if_row(arrays.value(x, b), table, y, node.m, b),
         WHILE => while_row(arrays.value(x, b), last, table, p, y, b),
-        START_WINDOW => start_window_row(last, table, x, y, m, most, b),
+        START_WINDOW => start_window_row(last, table, node, b),
         END_WINDOW => end_window_row(last, table, x, y, pause_of(word, started), b),
         // A task set never comes here (see `fill_node`). Forms 9 to 15 are reserved: a job that has one is refused, and nothing reads it.
         TASK_SET.. => 0,
