@@ -1,5 +1,5 @@
 -- The moments at which a formula fails, the masks that the conditions allow, and the masks of the members' ends as the conditions narrow them. Assumes nothing.
-use Prim.Native.Nat.{ℕ, zero, suc, ◌+◌, ◌*◌, ◌^◌, ◌≤◌, ◌<◌}
+use Prim.Native.Nat.{ℕ, ◌+◌, ◌*◌, ◌^◌, ◌≤◌, ◌<◌}
 use mathlib.Core.Path.{◌≡◌, refl, sym, subst}
 use mathlib.Core.Bool.{Bool, true, false, ◌&&◌, ◌||◌}
 use mathlib.Core.Logic.{◌↔◌, inl, inr, ⊎_elim, by_cases}
@@ -10,14 +10,14 @@ use lib.Dec.{eqb, leb}
 use lib.ListN.{get_or}
 use lib.Count.{count_trailing_zeros}
 use borrow.Author.Tests.{eqb-true, eq-eqb}
-use Rattle.bitset.specs.Code.Members.{has, IsSetOf, In, Highest}
+use Rattle.bitset.specs.Code.Members.{has, IsSetOf, In}
 use Rattle.bitset.proofs.Bools.{not_both}
 use Rattle.bitset.proofs.Ends.{lowest}
 use Rattle.bitset.proofs.In.{in_zero, in_both, in_between, in_single, in_union}
 use Rattle.words.specs.Fields.{form, holds, condition_formula, condition_m, condition_n}
 use Rattle.model.specs.Forms.{condition_number}
 use Rattle.sets.specs.Set.{MetAt}
-use Rattle.sets.specs.Code.Masks.{Picked, Allowed, Seen, MaskOf}
+use Rattle.sets.specs.Code.Masks.{Picked, Allowed, MaskOf}
 
 -- a word without members is 0
 empty_zero : {r : ℕ} → r < 2 ^ 64 → ((t : ℕ) → In r t → ⊥) → r ≡ 0
@@ -87,25 +87,6 @@ module _ (value : ℕ → ℕ → ℕ) (k : ℕ) {fails : ℕ} (P : ℕ → Type
     λ z t g h. held t (seen t g h) (λ u. in_zero (eqb-true r 0 z) ((is t).1 (u, (g, h)))),
     λ h. eq-eqb r 0 (empty_zero b (λ t u. let o = (is t).0 u in (f t (seen t o.1.0 o.1.1)).0 o.0 (h t o.1.0 o.1.1))),
   )
-
-  -- it holds from a moment on up to hi where the highest moment of the mask up to hi is before that
-  pub until : {g hi : ℕ} → Highest fails hi g → (lo : ℕ) → ((t : ℕ) → lo ≤ t → t ≤ hi → P t)
-      → (g < lo) ↔ ((t : ℕ) → lo ≤ t → t ≤ hi → value k t ≡ holds)
-  until {g} {hi} h lo seen = (
-    λ b t m u. held t (seen t m u) (λ i. not_both i.yes (h.last t (omega arith) u)),
-    λ m. by_cases (dec_lt g lo) (λ b. b) (λ b.
-        let l : lo ≤ g = omega arith in
-        absurd ((f g (seen g l h.upto)).0 (record { yes = h.member }) (m g l h.upto))),
-  )
-
--- other forms ask for no formula
-pub unseen : (f n N a z t : ℕ) → (f ≡ 2 → ⊥) → (f ≡ 3 → ⊥) → (f ≡ 4 → ⊥) → Seen (condition_number f) n N a z t → ⊥
-unseen zero n N a z t g h m s = s
-unseen (suc zero) n N a z t g h m s = s
-unseen (suc (suc zero)) n N a z t g h m s = g refl
-unseen (suc (suc (suc zero))) n N a z t g h m s = h refl
-unseen (suc (suc (suc (suc zero)))) n N a z t g h m s = m refl
-unseen (suc (suc (suc (suc (suc f))))) n N a z t g h m s = s
 
 -- ---- a mask cut to a..z
 

@@ -6,7 +6,8 @@ ghost use Rattle.narrowing.specs.Code.Tables.{EndsHave, BoundsHave, Bounded};
 ghost use Rattle.sets.specs.Code.Tables.{InSpan};
 ghost use Rattle.sets.specs.Code.Bounds.{Grows, EndMarked};
 
-use crate::tables::{is_short, members_of, pair};
+use crate::span::Span;
+use crate::tables::{members_of, pair};
 use keeping::{BOUNDS, FILLED, PAIRS, SOONER};
 use words::forms::{BEGIN_AFTER_END, HOLDS_BETWEEN};
 use words::{MEMBERS, MOMENTS};
@@ -26,13 +27,13 @@ fn mark(p: usize, y: u32, mask: u64, bounds: &mut [u64; BOUNDS])
     bounds[soon] = bitset::union(bounds[soon], begin);
 }
 
-// Does so for the begins from a to z, by the ends in row p of the table.
-fn mark_pair(ends: &[u64; PAIRS], p: usize, a: u32, z: u32, bounds: &mut [u64; BOUNDS])
-    requires { (p < 16) × (a ≤ z) × (z < 64) }
-    ensures { Grows bounds.old bounds.new × ((y e : ℕ) → a ≤ y → y ≤ z → a ≤ e → e ≤ z → In (get_or ends.now (p * 64 + y) 0) e → EndMarked bounds.new p y e) }
+// Does so for the begins in the span, by the ends in row p of the table.
+fn mark_pair(ends: &[u64; PAIRS], p: usize, span: Span, bounds: &mut [u64; BOUNDS])
+    requires { p < 16 }
+    ensures { Grows bounds.old bounds.new × ((y e : ℕ) → span.a ≤ y → y ≤ span.z → span.a ≤ e → e ≤ span.z → In (get_or ends.now (p * 64 + y) 0) e → EndMarked bounds.new p y e) }
 {
-    let window = bitset::between(a, z);
-    for y in a..=z {
+    let window = span.all();
+    for y in span.a..=span.z {
         let mask = bitset::inter(ends[p * MOMENTS + y as usize], window);
         mark(p, y, mask, bounds);
     }
@@ -57,11 +58,11 @@ fn join<F: Fn(usize) -> usize>(base: usize, order: F, bounds: &mut [u64; BOUNDS]
 }
 
 // The bounds of row p.
-fn fill_pair(ends: &[u64; PAIRS], p: usize, a: u32, z: u32, bounds: &mut [u64; BOUNDS])
-    requires { (p < 16) × (a ≤ z) × (z < 64) }
-    ensures { Grows bounds.old bounds.new × ((y e : ℕ) → a ≤ y → y ≤ z → a ≤ e → e ≤ z → In (get_or ends.now (p * 64 + y) 0) e → Bounded bounds.new p y e) }
+fn fill_pair(ends: &[u64; PAIRS], p: usize, span: Span, bounds: &mut [u64; BOUNDS])
+    requires { p < 16 }
+    ensures { Grows bounds.old bounds.new × ((y e : ℕ) → span.a ≤ y → y ≤ span.z → span.a ≤ e → e ≤ span.z → In (get_or ends.now (p * 64 + y) 0) e → Bounded bounds.new p y e) }
 {
-    mark_pair(ends, p, a, z, bounds);
+    mark_pair(ends, p, span, bounds);
     join(p * MOMENTS, |k| LAST - k, bounds);
     join(SOONER + p * MOMENTS, |k| k, bounds);
 }
@@ -82,11 +83,11 @@ fn tied(conds: &[u32]) -> u64 {
 }
 
 // The bounds of the pair (w, j).
-fn fill_members(ends: &[u64; PAIRS], w: usize, j: usize, a: u32, z: u32, bounds: &mut [u64; BOUNDS])
-    requires { (w < 4) × (j < 4) × (a ≤ z) × (z < 64) }
-    ensures { (count : ℕ) (bs es : ℕ → ℕ) → w < count → j < count → InSpan count a z bs es → EndsHave count ends.now bs es → BoundsHave count bounds.old bs es → BoundsHave count bounds.new bs es }
+fn fill_members(ends: &[u64; PAIRS], w: usize, j: usize, span: Span, bounds: &mut [u64; BOUNDS])
+    requires { (w < 4) × (j < 4) }
+    ensures { (count : ℕ) (bs es : ℕ → ℕ) → w < count → j < count → InSpan count span.a span.z bs es → EndsHave count ends.now bs es → BoundsHave count bounds.old bs es → BoundsHave count bounds.new bs es }
 {
-    fill_pair(ends, w * MEMBERS + j, a, z, bounds);
+    fill_pair(ends, w * MEMBERS + j, span, bounds);
     bounds[FILLED + j] = bitset::union(bounds[FILLED + j], bitset::single(w as u32));
 }
 
@@ -95,21 +96,18 @@ pub fn fill(
     conds: &[u32],
     ends: &[u64; PAIRS],
     count: usize,
-    a: u32,
-    z: u32,
+    span: Span,
     bounds: &mut [u64; BOUNDS],
 )
-    requires { (count ≤ 4) × (a ≤ z) × (z < 64) × ((q : ℕ) → get_or bounds.old q 0 ≡ 0) }
-    ensures { (bs es : ℕ → ℕ) → InSpan count a z bs es → EndsHave count ends.now bs es → BoundsHave count bounds.new bs es }
+    requires { (count ≤ 4) × ((q : ℕ) → get_or bounds.old q 0 ≡ 0) }
+    ensures { (bs es : ℕ → ℕ) → InSpan count span.a span.z bs es → EndsHave count ends.now bs es → BoundsHave count bounds.new bs es }
 {
-    if is_short(a, z) {
+    if span.is_short() {
         return;
     }
-    let mut rest = tied(conds);
-    while rest != 0 {
-        if let Some((w, j)) = members_of(bitset::lowest(rest), count) {
-            fill_members(ends, w, j, a, z, bounds);
+    for p in bitset::members(tied(conds)) {
+        if let Some((w, j)) = members_of(p, count) {
+            fill_members(ends, w, j, span, bounds);
         }
-        rest = bitset::drop_lowest(rest);
     }
 }

@@ -7,28 +7,20 @@ ghost use Rattle.sets.specs.Code.Rows.{task_set_of};
 ghost use Rattle.model.specs.Code.Table.{InTable};
 ghost use Rattle.keeping.specs.Code.Tables.{pair_at};
 ghost use Rattle.ending.specs.Code.Ends.{MetAtMask, MetByMask};
-ghost use Rattle.sets.specs.Code.Tables.{Have, LeftOut, Cut, ConditionReady, ConditionsReady, InSpan, OwnRow, OwnRows, TablesReady, TablesOf};
+ghost use Rattle.sets.specs.Code.Tables.{Have, LeftOut, Cut, InSpan, OwnRow, OwnRows, TablesReady, TablesOf};
 
+use crate::span::Span;
 use crate::{bounds, conditions};
 use keeping::{MASKS, PAIRS, ROWS, Tables, pair_at, pair_index};
 use words::forms::{BEGIN_AFTER_BEGIN, HOLDS_BEFORE};
 use words::{FORMULA_VALUES, MEMBERS, MOMENTS};
 
-const FEW: u32 = 4;
-
-// Whether a..z has up to `FEW` moments: there no pairs are cut and no bounds filled, since a search is quicker without.
-pub fn is_short(a: u32, z: u32) -> bool
-    requires { a < 64 }
+// Leaves out of row p of a table, at the moments of the span, what the masks of condition c leave out.
+fn cut(table: &mut [u64; PAIRS], p: usize, allow: &[u64; MASKS], c: usize, span: Span)
+    requires { (p < 16) × (c < 8) }
+    ensures { Cut table.old p allow.now c span.a span.z table.new }
 {
-    z < a + FEW
-}
-
-// Leaves out of row p of a table, from a to z, what the masks of condition c leave out.
-fn cut(table: &mut [u64; PAIRS], p: usize, allow: &[u64; MASKS], c: usize, a: u32, z: u32)
-    requires { (p < 16) × (c < 8) × (a ≤ z) × (z < 64) }
-    ensures { Cut table.old p allow.now c a z table.new }
-{
-    for y in a as usize..=z as usize {
+    for y in span.a as usize..=span.z as usize {
         table[p * MOMENTS + y] = bitset::inter(table[p * MOMENTS + y], allow[c * MOMENTS + y]);
     }
 }
@@ -38,20 +30,19 @@ fn cut_for(
     w: u32,
     c: usize,
     allow: &[u64; MASKS],
-    a: u32,
-    z: u32,
+    span: Span,
     ends: &mut [u64; PAIRS],
     goes: &mut [u64; PAIRS],
 )
-    requires { ConditionReady w c a z }
-    ensures { (count : ℕ) (bs es : ℕ → ℕ) → InSpan count a z bs es → count ≤ 4 → condition_i w < count → condition_j w < count → MetAtMask w allow.now bs c (es (condition_i w)) → Have ends.old goes.old count bs es → Have ends.new goes.new count bs es }
+    requires { (c < 8) × (condition_i w < 4) × (condition_j w < 4) }
+    ensures { (count : ℕ) (bs es : ℕ → ℕ) → InSpan count span.a span.z bs es → count ≤ 4 → condition_i w < count → condition_j w < count → MetAtMask w allow.now bs c (es (condition_i w)) → Have ends.old goes.old count bs es → Have ends.new goes.new count bs es }
 {
     let form = words::form_of(w);
     let i = words::condition_i(w);
     let j = ending::ends::partner(form, i, words::condition_j(w));
     match form {
-        BEGIN_AFTER_BEGIN | HOLDS_BEFORE => cut(goes, j * MEMBERS + i, allow, c, a, z),
-        _ => cut(ends, i * MEMBERS + j, allow, c, a, z),
+        BEGIN_AFTER_BEGIN | HOLDS_BEFORE => cut(goes, j * MEMBERS + i, allow, c, span),
+        _ => cut(ends, i * MEMBERS + j, allow, c, span),
     }
 }
 
@@ -59,54 +50,52 @@ fn cut_for(
 fn cut_all(
     conds: &[u32],
     allow: &[u64; MASKS],
-    a: u32,
-    z: u32,
+    span: Span,
     ends: &mut [u64; PAIRS],
     goes: &mut [u64; PAIRS],
 )
-    requires { ConditionsReady conds.now a z }
-    ensures { (count : ℕ) (bs es : ℕ → ℕ) → InSpan count a z bs es → count ≤ 4 → ((c : ℕ) → c < length conds.now → (condition_i (get_or conds.now c 0) < count) × (condition_j (get_or conds.now c 0) < count) × MetByMask conds.now allow.now bs c (es (condition_i (get_or conds.now c 0)))) → Have ends.old goes.old count bs es → Have ends.new goes.new count bs es }
+    requires { (length conds.now ≤ 8) × ((c : ℕ) → c < length conds.now → (condition_i (get_or conds.now c 0) < 4) × (condition_j (get_or conds.now c 0) < 4)) }
+    ensures { (count : ℕ) (bs es : ℕ → ℕ) → InSpan count span.a span.z bs es → count ≤ 4 → ((c : ℕ) → c < length conds.now → (condition_i (get_or conds.now c 0) < count) × (condition_j (get_or conds.now c 0) < count) × MetByMask conds.now allow.now bs c (es (condition_i (get_or conds.now c 0)))) → Have ends.old goes.old count bs es → Have ends.new goes.new count bs es }
 {
     for (c, &w) in conds.iter().enumerate() {
-        cut_for(w, c, allow, a, z, ends, goes);
+        cut_for(w, c, allow, span, ends, goes);
     }
 }
 
-// The row of member i, of node m, from x, as far as the tables and z allow.
+// The row of member i, of node m, from x, as far as the tables and the span allow.
 fn own_row(
     table: &[u64],
     m: usize,
     i: usize,
     x: u32,
-    z: u32,
+    span: Span,
     ends: &[u64; PAIRS],
     goes: &[u64; PAIRS],
 ) -> u64
-    requires { (m * 64 + 64 ≤ length table.now) × (i < 4) × (x ≤ z) × (z < 64) }
-    ensures { (e : ℕ) → In result e ↔ (InTable table.now m x e × (x ≤ e) × (e ≤ z) × In (pair_at ends.now i i x) e × In (pair_at goes.now i i x) x) }
+    requires { (m * 64 + 64 ≤ length table.now) × (i < 4) × (x ≤ span.z) }
+    ensures { (e : ℕ) → In result e ↔ (InTable table.now m x e × (x ≤ e) × (e ≤ span.z) × In (pair_at ends.now i i x) e × In (pair_at goes.now i i x) x) }
 {
     if !bitset::has(pair_at(goes, i, i, x), x) {
         return 0;
     }
-    let row = bitset::inter(table[m * MOMENTS + x as usize], bitset::between(x, z));
+    let row = bitset::inter(table[m * MOMENTS + x as usize], bitset::between(x, span.z));
     bitset::inter(row, pair_at(ends, i, i, x))
 }
 
-// Puts the row of member i, of node m, on the diagonal of `ends`, for its begins from a to z.
+// Puts the row of member i, of node m, on the diagonal of `ends`, for its begins in the span.
 fn fill_own_row(
     table: &[u64],
     m: usize,
     i: usize,
-    a: u32,
-    z: u32,
+    span: Span,
     goes: &[u64; PAIRS],
     ends: &mut [u64; PAIRS],
 )
-    requires { (m * 64 + 64 ≤ length table.now) × (i < 4) × (a ≤ z) × (z < 64) }
-    ensures { OwnRow (InTable table.now m) goes.now i a z ends.old ends.new (z + 1) }
+    requires { (m * 64 + 64 ≤ length table.now) × (i < 4) }
+    ensures { OwnRow (InTable table.now m) goes.now i span.a span.z ends.old ends.new (span.z + 1) }
 {
-    for x in a..=z {
-        ends[pair_index(i, i, x)] = own_row(table, m, i, x, z, ends, goes);
+    for x in span.a..=span.z {
+        ends[pair_index(i, i, x)] = own_row(table, m, i, x, span, ends, goes);
     }
 }
 
@@ -114,16 +103,15 @@ fn fill_own_row(
 fn fill_own(
     members: &[u32],
     table: &[u64],
-    a: u32,
-    z: u32,
+    span: Span,
     goes: &[u64; PAIRS],
     ends: &mut [u64; PAIRS],
 )
-    requires { (length members.now ≤ 4) × ((i : ℕ) → i < length members.now → member_node (get_or members.now i 0) * 64 + 64 ≤ length table.now) × (a ≤ z) × (z < 64) }
-    ensures { OwnRows members.now table.now goes.now a z ends.old ends.new (length members.now) }
+    requires { (length members.now ≤ 4) × ((i : ℕ) → i < length members.now → member_node (get_or members.now i 0) * 64 + 64 ≤ length table.now) }
+    ensures { OwnRows members.now table.now goes.now span.a span.z ends.old ends.new (length members.now) }
 {
     for (i, &w) in members.iter().enumerate() {
-        fill_own_row(table, words::member_node(w), i, a, z, goes, ends);
+        fill_own_row(table, words::member_node(w), i, span, goes, ends);
     }
 }
 
@@ -150,13 +138,10 @@ fn partners(ends: &[u64; PAIRS], goes: &[u64; PAIRS], i: usize, x: u32, j: usize
         return 0;
     }
     let mut r = 0;
-    let mut rest = pair_at(goes, i, j, x);
-    while rest != 0 {
-        let y = bitset::lowest(rest);
+    for y in bitset::members(pair_at(goes, i, j, x)) {
         if together(ends, goes, i, x, j, y) {
             r = bitset::union(r, bitset::single(y));
         }
-        rest = bitset::drop_lowest(rest);
     }
     r
 }
@@ -166,22 +151,16 @@ fn some_ends(ends: &[u64; PAIRS], i: usize, j: usize, begins: u64) -> u64
     requires { (i < 4) × (j < 4) }
     ensures { (y e : ℕ) → In begins y → In (pair_at ends.now i j y) e → In result e }
 {
-    let mut r = 0;
-    let mut rest = begins;
-    while rest != 0 {
-        r = bitset::union(r, pair_at(ends, i, j, bitset::lowest(rest)));
-        rest = bitset::drop_lowest(rest);
-    }
-    r
+    bitset::join_rows(begins, ends, pair_index(i, j, 0))
 }
 
 // Leaves out, for the pair of members i and j, the begins of j with which no ends of both are left, and the ends of i with which no begin of j
 // is left.
-fn cut_pair(i: usize, j: usize, a: u32, z: u32, ends: &mut [u64; PAIRS], goes: &mut [u64; PAIRS])
-    requires { (i < 4) × (j < 4) × (a ≤ z) × (z < 64) }
-    ensures { (count : ℕ) → i < count → j < count → count ≤ 4 → LeftOut count a z ends.old goes.old ends.new goes.new }
+fn cut_pair(i: usize, j: usize, span: Span, ends: &mut [u64; PAIRS], goes: &mut [u64; PAIRS])
+    requires { (i < 4) × (j < 4) }
+    ensures { (count : ℕ) → i < count → j < count → count ≤ 4 → LeftOut count span.a span.z ends.old goes.old ends.new goes.new }
 {
-    for x in a..=z {
+    for x in span.a..=span.z {
         let begins = partners(ends, goes, i, x, j);
         goes[pair_index(i, j, x)] = begins;
         let p = pair_index(i, i, x);
@@ -224,62 +203,52 @@ fn constrained(conds: &[u32]) -> u64 {
 }
 
 // Cuts each of these pairs of different members.
-fn cut_pairs(
-    pairs: u64,
-    count: usize,
-    a: u32,
-    z: u32,
-    ends: &mut [u64; PAIRS],
-    goes: &mut [u64; PAIRS],
-)
-    requires { (count ≤ 4) × (a ≤ z) × (z < 64) }
-    ensures { LeftOut count a z ends.old goes.old ends.new goes.new }
+fn cut_pairs(pairs: u64, count: usize, span: Span, ends: &mut [u64; PAIRS], goes: &mut [u64; PAIRS])
+    requires { count ≤ 4 }
+    ensures { LeftOut count span.a span.z ends.old goes.old ends.new goes.new }
 {
-    let mut rest = pairs;
-    while rest != 0 {
-        if let Some((i, j)) = members_of(bitset::lowest(rest), count) {
-            cut_pair(i, j, a, z, ends, goes);
+    for p in bitset::members(pairs) {
+        if let Some((i, j)) = members_of(p, count) {
+            cut_pair(i, j, span, ends, goes);
         }
-        rest = bitset::drop_lowest(rest);
     }
 }
 
-// Cuts each pair that some condition is on, but none where a..z is short.
+// Cuts each pair that some condition is on, but none where the span is short.
 fn cut_constrained(
     conds: &[u32],
     count: usize,
-    a: u32,
-    z: u32,
+    span: Span,
     ends: &mut [u64; PAIRS],
     goes: &mut [u64; PAIRS],
 )
-    requires { (count ≤ 4) × (a ≤ z) × (z < 64) }
-    ensures { LeftOut count a z ends.old goes.old ends.new goes.new }
+    requires { count ≤ 4 }
+    ensures { LeftOut count span.a span.z ends.old goes.old ends.new goes.new }
 {
-    if is_short(a, z) {
+    if span.is_short() {
         return;
     }
-    cut_pairs(constrained(conds), count, a, z, ends, goes);
+    cut_pairs(constrained(conds), count, span, ends, goes);
 }
 
-// The ends of member i begun at x or later, for each x from z down to a.
-fn fill_later_row(ends: &[u64; PAIRS], i: usize, a: u32, z: u32, later: &mut [u64; ROWS])
-    requires { (i < 4) × (a ≤ z) × (z < 64) }
-    ensures { ((x y e : ℕ) → a ≤ x → x ≤ y → y ≤ z → In (pair_at ends.now i i y) e → In (get_or later.new (i * 64 + x) 0) e) × ((p : ℕ) → p < i * 64 → get_or later.new p 0 ≡ get_or later.old p 0) }
+// The ends of member i begun at x or later, for each x of the span from the last down.
+fn fill_later_row(ends: &[u64; PAIRS], i: usize, span: Span, later: &mut [u64; ROWS])
+    requires { i < 4 }
+    ensures { ((x y e : ℕ) → span.a ≤ x → x ≤ y → y ≤ span.z → In (pair_at ends.now i i y) e → In (get_or later.new (i * 64 + x) 0) e) × ((p : ℕ) → p < i * 64 → get_or later.new p 0 ≡ get_or later.old p 0) }
 {
     let mut all = 0;
-    for x in (a..=z).rev() {
+    for x in (span.a..=span.z).rev() {
         all = bitset::union(all, pair_at(ends, i, i, x));
         later[i * MOMENTS + x as usize] = all;
     }
 }
 
-fn fill_later(ends: &[u64; PAIRS], count: usize, a: u32, z: u32, later: &mut [u64; ROWS])
-    requires { (count ≤ 4) × (a ≤ z) × (z < 64) }
-    ensures { (i x y e : ℕ) → i < count → a ≤ x → x ≤ y → y ≤ z → In (pair_at ends.now i i y) e → In (get_or later.new (i * 64 + x) 0) e }
+fn fill_later(ends: &[u64; PAIRS], count: usize, span: Span, later: &mut [u64; ROWS])
+    requires { count ≤ 4 }
+    ensures { (i x y e : ℕ) → i < count → span.a ≤ x → x ≤ y → y ≤ span.z → In (pair_at ends.now i i y) e → In (get_or later.new (i * 64 + x) 0) e }
 {
     for i in 0..count {
-        fill_later_row(ends, i, a, z, later);
+        fill_later_row(ends, i, span, later);
     }
 }
 
@@ -296,19 +265,19 @@ pub fn fill(
     requires { TablesReady (task_set_of members.now tables.old.conditions.now values.now n) table.now a z tables.old }
     ensures { TablesOf (task_set_of members.now tables.old.conditions.now values.now n) (InTable table.now) a z tables.new }
 {
+    let span = Span { a, z };
     let conds = tables.conditions;
     let count = members.len();
-    conditions::fill_allowed(values, conds, a, z, n, &mut tables.allow);
+    conditions::fill_allowed(values, conds, span, n, &mut tables.allow);
     cut_all(
         conds,
         &tables.allow,
-        a,
-        z,
+        span,
         &mut tables.ends,
         &mut tables.goes,
     );
-    fill_own(members, table, a, z, &tables.goes, &mut tables.ends);
-    cut_constrained(conds, count, a, z, &mut tables.ends, &mut tables.goes);
-    fill_later(&tables.ends, count, a, z, &mut tables.later);
-    bounds::fill(conds, &tables.ends, count, a, z, &mut tables.bounds);
+    fill_own(members, table, span, &tables.goes, &mut tables.ends);
+    cut_constrained(conds, count, span, &mut tables.ends, &mut tables.goes);
+    fill_later(&tables.ends, count, span, &mut tables.later);
+    bounds::fill(conds, &tables.ends, count, span, &mut tables.bounds);
 }

@@ -1,7 +1,7 @@
 -- Between functions: how the tables of a set are filled, and what they say. bs and es are begins and ends of all members.
 use Rattle.std.specs.Prelude.{ℕ, ◌+◌, ◌*◌, ◌≤◌, ◌<◌, ◌≡◌, List, length, get_or}
 use Rattle.bitset.specs.Code.Members.{In}
-use Rattle.words.specs.Fields.{member_node, condition_i, condition_j}
+use Rattle.words.specs.Fields.{member_node}
 use Rattle.model.specs.Code.Table.{InTable}
 use Rattle.keeping.specs.Code.Tables.{pair_at}
 use Rattle.keeping.specs.declared.Tables.{Tables}
@@ -50,20 +50,6 @@ pub record OwnRows (members table goes : List ℕ) (a z : ℕ) (old new : List �
   pub own : (i x e : ℕ) → i < k → a ≤ x → x ≤ z → In (pair_at new i i x) e → InTable table (member_node (get_or members i 0)) x e × (x ≤ e) × (e ≤ z)
   pub kept : (bs es : ℕ → ℕ) → InSpan (length members) a z bs es → ((i : ℕ) → i < length members → InTable table (member_node (get_or members i 0)) (bs i) (es i))
       → GoesHave (length members) goes bs → EndsHave (length members) old bs es → EndsHave (length members) new bs es
-
--- what cutting the tables by condition c, of word w, needs, and by all conditions
-pub record ConditionReady (w c a z : ℕ) : Type 0 where
-  pub number : c < 8
-  pub first : condition_i w < 4
-  pub second : condition_j w < 4
-  pub forward : a ≤ z
-  pub moments : z < 64
-
-pub record ConditionsReady (cs : List ℕ) (a z : ℕ) : Type 0 where
-  pub few : length cs ≤ 8
-  pub named : (c : ℕ) → c < length cs → (condition_i (get_or cs c 0) < 4) × (condition_j (get_or cs c 0) < 4)
-  pub forward : a ≤ z
-  pub moments : z < 64
 
 -- what filling the tables of a set for the moments a..z needs: tables that nothing is left out of, no bounds, and arrays of their length
 pub record TablesReady (s : TaskSet) (table : List ℕ) (a z : ℕ) (t : Tables) : Type 0 where

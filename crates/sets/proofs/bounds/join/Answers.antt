@@ -2,7 +2,7 @@
 use Rattle.std.proofs.Common.{◌≡◌, ap, ℕ, ◌+◌, ◌<◌}
 use native.Mathlib.Omega.{arith}
 use Rattle.bitset.proofs.In.{in_union}
-use Rattle.sets.proofs.Late.{grows_none, joined_more}
+use Rattle.sets.proofs.Late.{joined_more}
 use Rattle.sets.proofs.bounds.join.Given.{Over}
 use Rattle.sets.proofs.bounds.join.Goals as goal
 use Rattle.sets.proofs.bounds.join.Goals.{After-order}
@@ -26,14 +26,8 @@ offset_bounds-bounds-q-in-loop-k g c = omega (arith, c.requires.1.0, turned g (g
 pub bounds-bounds-q-in-loop-k : goal.bounds-bounds-q-in-loop-k
 bounds-bounds-q-in-loop-k g c = omega (arith, c.requires.1.0, turned g (goal.at.bounds-bounds-q-in-loop-k g c).After-order)
 
-pub loop-k-init : goal.loop-k-init
-loop-k-init g c = record { long = c.told-bounds; grows = grows_none; reached = λ j y l. absurd (omega arith); joined = λ i j y m l. absurd (omega arith) }
-
 pub loop-k-preserved : goal.loop-k-preserved
 loop-k-preserved g c =
     let t = turned g (goal.at.loop-k-preserved g c).After-order in
     joined_more c.loop-k.k (c.args.base + c.order.result) c.union-all.result (ap (λ (e : ℕ). c.args.base + e) t.0) (omega (arith, c.requires.1.0))
     (in_union c.union-all.ensures) c.loop-k.invariant
-
-pub returns : goal.returns
-returns g c = (c.loop-k.invariant.grows, λ k l y m n. c.loop-k.invariant.joined k l y m (omega arith))

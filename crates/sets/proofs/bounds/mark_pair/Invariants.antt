@@ -12,4 +12,4 @@ pub record MarkedTo (ends : List ℕ) (p a z : ℕ) (old bounds : List ℕ) (y :
   pub marked : (v e : ℕ) → a ≤ v → v < y → a ≤ e → e ≤ z → In (get_or ends (p * 64 + v) 0) e → EndMarked bounds p v e
 
 abbrev pub invariant-loop-y : goal.invariant-loop-y
-invariant-loop-y l = MarkedTo l.ends l.p l.a l.z l.initial.bounds l.bounds l.y
+invariant-loop-y l = MarkedTo l.ends l.p l.fn.span.a l.fn.span.z l.initial.bounds l.bounds l.y

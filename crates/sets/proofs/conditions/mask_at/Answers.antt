@@ -10,8 +10,8 @@ use Rattle.sets.proofs.conditions.mask_at.Goals as goal
 
 pub returns-in-0 : goal.returns-in-0
 returns-in-0 c = λ value n k f g h. by_cases (ℕ_discrete c.args.form 0)
-    (λ q. rw q (cut _ c.inter.ensures c.between.ensures (λ y l. c.window.ensures y)))
-    (λ q. let r : c.args.form ≡ 1 = omega arith in rw r (cut _ c.inter.ensures c.between.ensures (λ y l. c.window.ensures y)))
+    (λ q. rw q (cut _ c.inter.ensures c.all.ensures (λ y l. c.window.ensures y)))
+    (λ q. let r : c.args.form ≡ 1 = omega arith in rw r (cut _ c.inter.ensures c.all.ensures (λ y l. c.window.ensures y)))
 
 pub returns-in-2 : goal.returns-in-2
 returns-in-2 c = λ value n k f g h. by_cases (ℕ_discrete c.args.form 2)

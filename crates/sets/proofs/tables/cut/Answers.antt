@@ -11,20 +11,14 @@ use Rattle.sets.proofs.tables.cut.Goals as goal
 use Rattle.sets.proofs.tables.cut.Goals.{After-inter}
 
 -- nor is entry y
-stepped : (c : After-inter) → let a = c.args in Cut a.table.now a.p a.allow.now a.c a.a a.z (set c.loop-y.table (a.p * 64 + c.loop-y.y) c.inter.result)
+stepped : (c : After-inter) → let a = c.args in Cut a.table.now a.p a.allow.now a.c a.span.a a.span.z (set c.loop-y.table (a.p * 64 + c.loop-y.y) c.inter.result)
 stepped c q e t h =
     let l = c.loop-y in
     in_kept l.table (c.args.p * 64 + l.y) c.inter.result (l.invariant q e t h)
     (λ k. (in_both c.inter.ensures e).1 (subst (λ (q : ℕ). In (get_or l.table q 0) e) k (l.invariant q e t h), h l.y k (omega arith) (omega arith)))
 
-pub loop-y-init : goal.loop-y-init
-loop-y-init c = λ q e t h. t
-
 pub loop-y-preserved : goal.loop-y-preserved
 loop-y-preserved c = stepped (goal.at.loop-y-preserved c).After-inter
-
-pub returns : goal.returns
-returns c = c.loop-y.invariant
 
 pub returns-2 : goal.returns-2
 returns-2 c = stepped (goal.at.returns-2 c).After-inter

@@ -5,4 +5,4 @@ use Rattle.sets.proofs.tables.cut_pair.Given as goal
 
 -- the tables have what they had of each placement, and no end more
 abbrev pub invariant-loop-x : goal.invariant-loop-x
-invariant-loop-x l = (count : ℕ) → l.i < count → l.j < count → count ≤ 4 → LeftOut count l.a l.z l.initial.ends l.initial.goes l.ends l.goes
+invariant-loop-x l = (count : ℕ) → l.i < count → l.j < count → count ≤ 4 → LeftOut count l.fn.span.a l.fn.span.z l.initial.ends l.initial.goes l.ends l.goes

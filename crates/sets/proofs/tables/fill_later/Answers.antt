@@ -20,6 +20,3 @@ loop-i-preserved c =
     (λ b.
     let q : l.i ≡ k = omega arith in
     subst (λ (k : ℕ). In (get_or new (k * 64 + x) 0) e) q (o.0 x y e h m n (subst (λ (k : ℕ). In (pair_at E k k y) e) (sym q) t)))
-
-pub returns : goal.returns
-returns c = λ i x y e l. c.loop-i.invariant i x y e (omega arith)

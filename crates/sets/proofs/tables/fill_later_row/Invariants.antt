@@ -16,4 +16,4 @@ pub record Later (ends : List ℕ) (i z : ℕ) (old later : List ℕ) (all x : �
   pub others : (p : ℕ) → p < i * 64 → get_or later p 0 ≡ get_or old p 0
 
 abbrev pub invariant-loop-x : goal.invariant-loop-x
-invariant-loop-x l = Later l.ends l.i l.z l.initial.later l.later l.all l.x
+invariant-loop-x l = Later l.ends l.i l.fn.span.z l.initial.later l.later l.all l.x

@@ -1,6 +1,5 @@
 -- `sets::tables::fill_own_row` meets its contract. The invariant: the row is right before x. Assumes nothing.
 use Prim.Native.Nat.{◌+◌}
-use mathlib.Core.Path.{refl}
 use native.Mathlib.Omega.{arith}
 use lib.ListN.{set}
 use Rattle.model.specs.Code.Table.{InTable}
@@ -11,16 +10,12 @@ use Rattle.sets.proofs.tables.fill_own_row.Goals.{After-pair_index}
 
 -- and at x
 stepped : (c : After-pair_index) → let a = c.args in
-    OwnRow (InTable a.table.now a.m) a.goes.now a.i a.a a.z a.ends.now (set c.loop-x.ends c.pair_index.result c.own_row.result) (c.loop-x.x + 1)
+    OwnRow (InTable a.table.now a.m) a.goes.now a.i a.span.a a.span.z a.ends.now (set c.loop-x.ends c.pair_index.result c.own_row.result) (c.loop-x.x + 1)
 stepped c =
     let a = c.args in
     let x = c.loop-x.x in
     rw c.pair_index.ensures.0
-    (own_more a.i x a.a a.z c.own_row.result c.requires.1 (omega arith) (omega arith) c.requires.3 c.own_row.ensures c.loop-x.invariant)
-
-pub loop-x-init : goal.loop-x-init
-loop-x-init c =
-    record { own = λ y e l g. absurd (omega arith); others = λ q l. refl; kept = λ count bs es one few within reads begins have. have }
+    (own_more a.i x a.span.a a.span.z c.own_row.result c.requires.1 (omega arith) (omega arith) c.args.span.moments c.own_row.ensures c.loop-x.invariant)
 
 pub loop-x-preserved : goal.loop-x-preserved
 loop-x-preserved c = stepped (goal.at.loop-x-preserved c).After-pair_index
