@@ -19,5 +19,5 @@ pub returns : goal.returns
 returns c =
     let a = c.args in
     let p = c.requires in
-    filled a.members.now a.values.now a.table.now a.n a.a a.z _ p.formed p.forward p.upto p.unpruned_ends
-    p.unpruned_goes c.fill_allowed.ensures c.cut_all.ensures c.fill_own.ensures c.cut_constrained.ensures (p.count ∙ length-map a.members.now member_node) c.fill_later.ensures c.fill.ensures
+    filled a.members.now a.values.now a.table.now a.n a.a a.z _ p.formed p.forward p.upto p.unpruned.ends
+    p.unpruned.goes c.fill_allowed.ensures c.cut_all.ensures c.fill_own.ensures c.cut_constrained.ensures (p.unpruned.count ∙ length-map a.members.now member_node) c.fill_later.ensures c.fill.ensures
