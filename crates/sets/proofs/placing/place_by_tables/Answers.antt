@@ -4,10 +4,8 @@ use Prim.Native.Nat.{ℕ, ◌≤◌, ◌<◌}
 use mathlib.Core.Path.{refl, sym, subst}
 use native.Mathlib.Nat.{le_refl}
 use native.Mathlib.Omega.{arith}
-use lib.ListN.{length-map}
-use Rattle.words.specs.Fields.{member_node}
 use Rattle.bitset.specs.Code.Members.{In}
-use Rattle.bitset.proofs.In.{in_single, in_zero, empty_entry}
+use Rattle.bitset.proofs.In.{in_single, in_zero}
 use Rattle.covering.specs.Code.Cover.{entry_at}
 use Rattle.ending.specs.Code.Search.{ReadsWith}
 use Rattle.ending.proofs.Leaves.{ends_ready, top_ends}

@@ -1,13 +1,12 @@
 -- `sets::rows::set_rows` meets its contract. The invariant: the rows before b are right. Assumes nothing.
 use Prim.Native.Nat.{ℕ, ◌+◌, ◌*◌, ◌≤◌, ◌<◌}
-use mathlib.Core.Path.{refl, sym}
+use mathlib.Core.Path.{refl}
 use mathlib.Core.Logic.{◌↔◌}
 use native.Mathlib.Omega.{arith}
 use native.Mathlib.Nat.{le_refl}
-use lib.ListN.{length, set, length-map}
-use Rattle.words.specs.Fields.{member_node}
+use lib.ListN.{length, set}
 use Rattle.bitset.specs.Code.Members.{In}
-use Rattle.bitset.proofs.In.{in_between, empty_entry}
+use Rattle.bitset.proofs.In.{in_between}
 use Rattle.model.specs.Code.Table.{InTable}
 use Rattle.sets.specs.Code.Set.{SetRule}
 use Rattle.sets.specs.Code.Rows.{task_set_of}
