@@ -2,13 +2,13 @@
 -- nothing.
 use mathlib.Core.List.{List}
 use mathlib.Core.Path.{◌≡◌}
-use Prim.Native.Nat.{ℕ, ◌+◌, ◌-◌, ◌≤◌}
+use Prim.Native.Nat.{ℕ, ◌+◌, ◌≤◌}
 use native.Mathlib.Omega.{arith}
 use lib.ListN.{length, take}
 use Rattle.history.specs.Held.{starting_at, Ascending, HeldList, HoldsNext}
 use Rattle.history.specs.Code.Tables.{Named, Walkable}
 use Rattle.history.specs.Code.Held.{Steppable}
-use Rattle.history.proofs.Carried.{each_lasts, each_timed, list_named, list_room, starting_few, hiding_walkable}
+use Rattle.history.proofs.Carried.{each_lasts, each_timed, list_named, list_room, hiding_walkable}
 
 module _ {job durations effects starting : List ℕ} {t : ℕ} {held : List ℕ} {count : ℕ} {bytes : List ℕ}
     (p : Steppable job durations effects starting t held count bytes) where
@@ -26,8 +26,6 @@ module _ {job durations effects starting : List ℕ} {t : ℕ} {held : List ℕ}
     pub step_planned : HeldList job p.plan (t + 1) new all
     step_planned = step_next p.plan p.walk.named p.ascends p.begin p.carried.list
 
-    pub step_few : length starting ≤ all
-    step_few = starting_few t p.begin (each_lasts p.walk.well p.walk.named) p.ascends step_planned
-
-    pub step_hiding : Walkable job durations effects (take (all - length starting) new)
-    step_hiding = hiding_walkable t p.begin (each_lasts p.walk.well p.walk.named) p.ascends step_planned p.walk
+    -- those before the starts that begin
+    pub step_hiding : (kept : ℕ) → kept + length starting ≡ all → Walkable job durations effects (take kept new)
+    step_hiding kept e = hiding_walkable t p.begin (each_lasts p.walk.well p.walk.named) p.ascends step_planned kept e p.walk

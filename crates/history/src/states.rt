@@ -12,7 +12,7 @@ ghost use Rattle.history.specs.Code.Stores.{Overlaid, Mapped};
 ghost use Rattle.history.specs.Code.Lent.{WalkableBy, SteppableBy};
 ghost use Rattle.history.specs.Code.Passes.{changed, changed_by, AfterPass};
 
-use crate::carry::{hold_first, hold_next, starting_at};
+use crate::carry::{Held, starting_at};
 use crate::tables::{finish_of, row_of, store_row};
 use words::{
     ACTIONS, EFFECTS, FLUENTS, KNOWN, MOST_STARTS, OPEN, STATES, fluent_of, fluents_of, kind_of,
@@ -92,26 +92,17 @@ impl Actions<'_> {
         }
     }
 
-    // Carries the walk from moment `t` to the next, at which the starts in `starting` begin. Of the starts in hand, the first `count` words
-    // of `held`, those that finish then give their effects and leave the list, and the others hide. Those that begin join the list and do not
-    // hide yet. Returns the number of starts in hand at the next moment.
-    fn step(
-        &self,
-        starting: &[u32],
-        t: usize,
-        held: &mut [u32],
-        count: usize,
-        state: &mut [u8; FLUENTS],
-    ) -> usize
-        requires { SteppableBy self.now starting.now t held.old count state.old }
+    // Carries the walk from moment `t` to the next, at which the starts in `starting` begin. Of the starts in hand, those that finish then
+    // give their effects and leave the list, and the others hide. Those that begin join the list and do not hide yet.
+    fn step(&self, starting: &[u32], t: usize, held: &mut Held, state: &mut [u8; FLUENTS])
+        requires { SteppableBy self.now starting.now t held.old state.old }
         ensures { (S : List ℕ) → Named self.now.job.now S → Ascending S → starting.now ≡ starting_at S (t + 1)
-            → Carried self.now.job.now S t held.old count state.old → Carried self.now.job.now S (t + 1) held.new result state.new }
+            → Carried self.now.job.now S t held.old.words held.old.count state.old
+            → Carried self.now.job.now S (t + 1) held.new.words held.new.count state.new }
     {
-        self.apply_starts(&held[..count], false, t + 1, state);
-        let all = hold_next(self.durations, starting, t, held, count);
-        let kept = all - starting.len();
-        self.apply_starts(&held[..kept], true, t + 1, state);
-        all
+        self.apply_starts(&held.words[..held.count], false, t + 1, state);
+        let kept = held.hold_next(self.durations, starting, t);
+        self.apply_starts(&held.words[..kept], true, t + 1, state);
     }
 
     // The one walk of the states, up to moment `last`. The first `next` starts have begun.
@@ -122,12 +113,15 @@ impl Actions<'_> {
         let mut table = [OPEN; STATES];
         let mut state = initial_state(self.job);
         store_row(&state, 0, &mut table);
-        let mut held = [0u32; MOST_STARTS];
-        let mut count = hold_first(starts, &mut held);
-        let mut next = count;
+        let mut held = Held {
+            words: [0; MOST_STARTS],
+            count: 0,
+        };
+        held.hold_first(starts);
+        let mut next = held.count;
         for t in 0..last {
             let starting = starting_at(starts, next, t + 1);
-            count = self.step(starting, t, &mut held, count, &mut state);
+            self.step(starting, t, &mut held, &mut state);
             next += starting.len();
             store_row(&state, t + 1, &mut table);
         }
