@@ -51,6 +51,10 @@ pub record OwnRows (members table goes : List ℕ) (a z : ℕ) (old new : List �
   pub kept : (bs es : ℕ → ℕ) → InSpan (length members) a z bs es → ((i : ℕ) → i < length members → InTable table (member_node (get_or members i 0)) (bs i) (es i))
       → GoesHave (length members) goes bs → EndsHave (length members) old bs es → EndsHave (length members) new bs es
 
+-- but for the ends of i where j begins, and the begins of j where i begins, the tables are as they were
+abbrev pub SameElse : Tables → Tables → Type 0
+SameElse old new = new ≡ record old { ends = new.ends; goes = new.goes }
+
 -- what filling the tables of a set for the moments a..z needs: tables that nothing is left out of, no bounds, and arrays of their length
 pub record TablesReady (s : TaskSet) (table : List ℕ) (a z : ℕ) (t : Tables) : Type 0 where
   pub formed : Formed s
