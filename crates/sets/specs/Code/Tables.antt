@@ -59,6 +59,10 @@ pub record UnprunedTables (cs : List ℕ) (members : ℕ) (t : Tables) : Type 0 
   pub goes : Unpruned t.goes
   pub bounds : (q : ℕ) → get_or t.bounds q 0 ≡ 0
 
+-- but for the ends of i where j begins, and the begins of j where i begins, the tables are as they were
+abbrev pub SameElse : Tables → Tables → Type 0
+SameElse old new = new ≡ record old { ends = new.ends; goes = new.goes }
+
 -- what filling the tables of a set for the moments a..z needs
 pub record TablesReady (s : TaskSet) (table : List ℕ) (a z : ℕ) (t : Tables) : Type 0 where
   pub formed : Formed s
