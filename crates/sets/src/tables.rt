@@ -7,11 +7,11 @@ ghost use Rattle.sets.specs.Code.Rows.{task_set_of};
 ghost use Rattle.model.specs.Code.Table.{InTable};
 ghost use Rattle.keeping.specs.Code.Tables.{pair_at};
 ghost use Rattle.ending.specs.Code.Ends.{MetAtMask, MetByMask};
-ghost use Rattle.sets.specs.Code.Tables.{Have, LeftOut, Cut, InSpan, OwnRow, OwnRows, SameElse, TablesReady, TablesOf};
+ghost use Rattle.sets.specs.Code.Tables.{Have, LeftOut, Cut, InSpan, OwnRow, OwnRows, SameElse, UnprunedTables, TablesReady, TablesOf};
 
 use crate::span::Span;
 use crate::{bounds, conditions};
-use keeping::{MASKS, PAIRS, ROWS, Tables, pair_at, pair_index};
+use keeping::{BOUNDS, MASKS, PAIRS, ROWS, Tables, pair_at, pair_index};
 use words::forms::{BEGIN_AFTER_BEGIN, HOLDS_BEFORE};
 use words::{FORMULA_VALUES, MEMBERS, MOMENTS};
 
@@ -214,6 +214,22 @@ fn fill_later(ends: &[u64; PAIRS], count: usize, span: Span, later: &mut [u64; R
 {
     for i in 0..count {
         fill_later_row(ends, i, span, later);
+    }
+}
+
+// Tables that nothing is left out of, with no bounds.
+pub fn unpruned(conditions: &[u32], count: usize) -> Tables
+    ensures { UnprunedTables conditions.now count result }
+{
+    let every = bitset::from(0);
+    Tables {
+        conditions,
+        count,
+        allow: [0; MASKS],
+        ends: [every; PAIRS],
+        goes: [every; PAIRS],
+        later: [0; ROWS],
+        bounds: [0; BOUNDS],
     }
 }
 

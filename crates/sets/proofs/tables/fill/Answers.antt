@@ -23,7 +23,7 @@ pub cut_constrained-requires : goal.cut_constrained-requires
 cut_constrained-requires c =
     let start : Tables = record c.args.tables.now { allow = c.fill_allowed.new.allow } in
     let count = ap (λ (t : Tables). t.count) (same_more start c.cut_all.ensures.0 c.fill_own.ensures.1) in
-    omega (arith, count, c.requires.count, c.requires.formed.few)
+    omega (arith, count, c.requires.unpruned.count, c.requires.formed.few)
 
 pub returns : goal.returns
 returns c =
@@ -35,12 +35,12 @@ returns c =
     let done = c.cut_constrained.new.tables in
     let start : Tables = record a.tables.now { allow = c.fill_allowed.new.allow } in
     let owned = same_more start cut.0 own.1 in
-    let count = p.count ∙ length-map a.members.now member_node in
+    let count = p.unpruned.count ∙ length-map a.members.now member_node in
     let same = same_more start owned pairs.0 in
     subst (λ (t : Tables). TablesOf (task_set_of a.members.now a.tables.now.conditions.now a.values.now a.n) (InTable a.table.now) a.a a.z
     (record t { later = c.fill_later.new.later; bounds = c.fill.new.bounds }))
     (sym same)
     (filled a.members.now a.values.now a.table.now a.n a.a a.z
     (record a.tables.now { allow = c.fill_allowed.new.allow; ends = done.ends; goes = done.goes; later = c.fill_later.new.later; bounds = c.fill.new.bounds })
-    p.formed p.forward p.upto p.unpruned_ends p.unpruned_goes c.fill_allowed.ensures cut.1 own.0 (rw (ap (λ (t : Tables). t.count) owned ∙ count, own.2) at pairs.1) count
+    p.formed p.forward p.upto p.unpruned.ends p.unpruned.goes c.fill_allowed.ensures cut.1 own.0 (rw (ap (λ (t : Tables). t.count) owned ∙ count, own.2) at pairs.1) count
     c.fill_later.ensures c.fill.ensures)
