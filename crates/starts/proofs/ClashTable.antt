@@ -1,16 +1,20 @@
 -- The table of the pairs of actions that clash: how it grows with the actions that have starts, and what it tells. Assumes nothing.
-use mathlib.Core.Bool.{Bool, true, false, ◌&&◌, ◌||◌}
-use mathlib.Core.List.{List}
+use mathlib.Core.Bool.{Bool, true, false, ◌&&◌, ◌||◌, or-false}
+use mathlib.Core.List.{List, [], ◌∷◌, ◌++◌}
 use mathlib.Core.Logic.{by_cases}
 use mathlib.Core.Path.{◌≡◌, refl, ap, sym, ◌∙◌}
-use Prim.Native.Nat.{ℕ, ◌+◌, ◌*◌, ◌≤◌, ◌<◌}
+use Prim.Native.Nat.{ℕ, zero, suc, ◌+◌, ◌*◌, ◌≤◌, ◌<◌}
 use native.Mathlib.Decide.{ℕ_discrete}
 use native.Mathlib.Omega.{arith}
 use borrow.Author.Tests.{ltb-true}
 use lib.Dec.{eqb, ltb}
 use lib.ListN.{length, get_or, set, replicate, length-set, length-replicate}
 use lib.Seq.{get_or-set_same, get_or-set_other}
+use Rattle.std.specs.List.{range_with_len}
+use Rattle.std.proofs.lemmas.List.Folds.{list_any-append}
 use Rattle.words.specs.Tests.{indicator}
+use Rattle.words.specs.Scan.{any, any_below}
+use Rattle.words.proofs.AnyBelow.{some_cong}
 use Rattle.words.proofs.Entries.{entry_set, entries_alike}
 use Rattle.job.specs.Parts.{fluents, actions}
 use Rattle.job.specs.Code.WellFormed.{WellFormed}
@@ -39,6 +43,23 @@ clash_read {job} {latest} {table} {b} given u a l = cases (ltb u (get_or latest 
     cases true e =
         let finish = ltb-true u (get_or latest a 0) e in
         clash-swap job a b ∙ rw (given.told a l (omega arith)) (sym (is_one (clash job b a)))
+
+-- so does a search of all actions
+range-more : (a n : ℕ) → range_with_len a (suc n) ≡ range_with_len a n ++ ((a + n) ∷ [])
+range-more a zero = let e : a + 0 ≡ a = omega arith in rw e
+range-more a (suc n) = let e : a + suc n ≡ (a + 1) + n = omega arith in rw e (ap (λ (l : List ℕ). a ∷ l) (range-more (a + 1) n))
+
+any-range : (test : ℕ → Bool) (n : ℕ) → any test (range_with_len 0 n) ≡ any_below test n
+unfolding any_below
+any-range test zero = refl
+any-range test (suc n) =
+    let e : 0 + n ≡ n = omega arith in
+    ap (any test) (range-more 0 n) ∙ list_any-append test (range_with_len 0 n) ((0 + n) ∷ []) ∙ rw (any-range test n, e, or-false (test n))
+
+pub clash_sought : {job latest table : List ℕ} {b : ℕ} → Compared job latest table b → (u : ℕ)
+    → any (λ a. ltb u (get_or latest a 0) && eqb (get_or table (b * 64 + a) 0) 1) (range_with_len 0 (actions job)) ≡ any_below (clashes_after job latest b u) (actions job)
+clash_sought {job} {latest} {table} {b} given u =
+    any-range _ (actions job) ∙ some_cong _ _ (actions job) (λ a l. sym (clash_read given u a l))
 
 -- a store of what is so
 module _ {job : List ℕ} (formed : WellFormed job) {a b v : ℕ} (ha : a < actions job) (hb : b < actions job) (ev : v ≡ indicator (clash job a b))
