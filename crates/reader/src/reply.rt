@@ -1,9 +1,7 @@
 // What planread prints for the bytes of its two files. The program only reads the files and writes this text.
-ghost use Rattle.std.specs.Prelude.{◌&&◌, ◌≡◌, ◌≤◌, length, take};
+ghost use Rattle.std.specs.Prelude.{◌≡◌, ◌≤◌, length, take};
 ghost use Rattle.io.specs.Counts.{IsPrefixLen};
-ghost use Rattle.text.specs.Files.{sized, words_of};
 ghost use Rattle.reader.specs.Reply.{bad_file, text_room, lent, Answered, Reply};
-ghost use Rattle.reader.specs.Code.Buffers.{ReplyRoom};
 
 use text::{files, report};
 use words::BUFFER_WORDS;
@@ -14,13 +12,15 @@ pub fn reply(job: &[u8], plan: &[u8], out: &mut [u8]) -> usize
     ensures counts { IsPrefixLen result out.new }
     ensures text { Reply job.now plan.now (take result out.new) }
 {
-    if !are_sized(job.len(), plan.len()) {
+    if !(files::is_sized(job.len()) && files::is_sized(plan.len())) {
         return bad_file(out);
     }
     let mut job_words = file_words();
     let mut plan_words = file_words();
+    let n = files::decode(job, &mut job_words);
+    let m = files::decode(plan, &mut plan_words);
     let mut buffer = lent_words();
-    reply_in(job, plan, &mut job_words, &mut plan_words, &mut buffer, out)
+    reply_words(&job_words[..n], &plan_words[..m], &mut buffer, out)
 }
 
 pub fn bad_file(out: &mut [u8]) -> usize
@@ -29,16 +29,6 @@ pub fn bad_file(out: &mut [u8]) -> usize
     ensures text { take result out.new ≡ bad_file }
 {
     report::line(out, b"bad file\n")
-}
-
-fn are_sized(job: usize, plan: usize) -> bool
-    ensures { result ≡ (sized job && sized plan) }
-{
-    if files::is_sized(job) {
-        files::is_sized(plan)
-    } else {
-        false
-    }
 }
 
 const FILE_WORDS: usize = files::MAX_BYTES / 4;
@@ -50,28 +40,11 @@ fn file_words() -> [u32; FILE_WORDS]
     [0; FILE_WORDS]
 }
 
+#[tactic(auto, unfolding(crate::specs::Reply::lent))]
 fn lent_words() -> [u32; BUFFER_WORDS]
     ensures { result ≡ lent }
 {
     [0; BUFFER_WORDS]
-}
-
-// The same for files of a good size, with the room that it needs.
-fn reply_in(
-    job: &[u8],
-    plan: &[u8],
-    job_words: &mut [u32],
-    plan_words: &mut [u32],
-    buffer: &mut [u32],
-    out: &mut [u8],
-) -> usize
-    requires { ReplyRoom job.now plan.now job_words.old plan_words.old buffer.old out.old }
-    ensures counts { IsPrefixLen result out.new }
-    ensures text { Answered (words_of job.now) (words_of plan.now) (take result out.new) }
-{
-    let n = files::decode(job, job_words);
-    let m = files::decode(plan, plan_words);
-    reply_words(&job_words[..n], &plan_words[..m], buffer, out)
 }
 
 fn reply_words(job: &[u32], plan: &[u32], buffer: &mut [u32], out: &mut [u8]) -> usize
@@ -79,7 +52,7 @@ fn reply_words(job: &[u32], plan: &[u32], buffer: &mut [u32], out: &mut [u8]) ->
     ensures counts { IsPrefixLen result out.new }
     ensures text { Answered job.now plan.now (take result out.new) }
 {
-    let s = files::starts_length(plan);
-    let answer = finder::find_reading(job, &plan[..s], &plan[s..], buffer);
+    let (starts, facts) = plan.split_at(files::starts_length(plan));
+    let answer = finder::find_reading(job, starts, facts, buffer);
     report::report(answer, buffer, out)
 }

@@ -15,6 +15,5 @@ module _ (plan : List ℕ) (s : ℕ) (ends : s ≡ length (starts_of plan)) wher
   pub starts_before : take s plan ≡ starts_of plan
   starts_before = rw ends (take_while-take is_start_word plan)
 
-  -- the part `&plan[s..]`
-  pub facts_after_lem : take (length plan - s) (drop s plan) ≡ given_facts plan
-  facts_after_lem = take_all (length plan - s) (drop s plan) (omega (arith, length-drop s plan)) ∙ rw ends (sym (drop_while-drop is_start_word plan))
+  pub facts_after : drop s plan ≡ given_facts plan
+  facts_after = rw ends (sym (drop_while-drop is_start_word plan))
