@@ -133,15 +133,10 @@ fn set_parts(
     requires { (place < length words.now) × Placeable (task_set_of (members_at words.now place) (conditions_at words.now place) values.now last) table.now b e }
     ensures { PlacedParts (task_set_of (members_at words.now place) (conditions_at words.now place) values.now last) table.now b e result }
 {
-    let counts = model::set_counts(words, place);
-    let count = counts.members;
-    let first = place + 1;
-    let middle = first + count;
-    let end = middle + counts.conditions;
-    let members = &words[first..middle];
+    let set = model::set_words(words, place);
     let placed = sets::placing::place(
-        members,
-        &words[middle..end],
+        set.members,
+        set.conditions,
         values,
         table,
         b as u32,
@@ -150,9 +145,9 @@ fn set_parts(
     );
     let begins = placed.begins;
     let ends = placed.ends;
-    let nodes = member_nodes(members);
+    let nodes = member_nodes(set.members);
     Parts {
-        count,
+        count: set.members.len(),
         nodes,
         begins,
         ends,

@@ -34,10 +34,8 @@ fn write_facts(
     ensures { Written buffer.old at (row_facts history.now head t n) result buffer.new }
 {
     let mut end = at;
-    let mut f = 0;
-    while f < n {
+    for f in 0..n {
         end = write_fact(head, t, f, history[t * FLUENTS + f], buffer, end);
-        f += 1;
     }
     end
 }
@@ -60,10 +58,8 @@ pub fn fill_upto(job: &[u32], history: &[u8; STATES], last: usize, buffer: &mut 
     let head = job[0];
     let n = fluents_of(head);
     let mut at = 0;
-    let mut t = 0;
-    while t <= last {
+    for t in 0..=last {
         at = write_facts(history, head, t, n, buffer, at);
-        t += 1;
     }
     at
 }

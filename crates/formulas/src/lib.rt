@@ -45,10 +45,8 @@ fn held_for(and: &[u8; ENTRIES], values: &[u8; FORMULA_VALUES], x: usize, y: usi
     requires { HeldReady and.now values.now x t }
     ensures { result ≡ held_for and.now (tabulated values.now x) y t }
 {
-    let mut k = y;
-    let mut r = ago(values, x, t, k);
-    while 0 < k {
-        k -= 1;
+    let mut r = ago(values, x, t, y);
+    for k in (0..y).rev() {
         r = by_table(and, r, ago(values, x, t, k));
     }
     r
@@ -96,12 +94,9 @@ fn fill_moment(
     ensures { ColumnsBefore and.now or.now job.now (tabled history.now) (t + 1) values.new }
 {
     let head = job[0];
-    let mut k = 0;
-    while k < count {
-        let at = formulas[k];
-        let value = form_value(and, or, head, job[at], history, values, t);
+    for k in 0..count {
+        let value = form_value(and, or, head, job[formulas[k]], history, values, t);
         values[k * MOMENTS + t] = value;
-        k += 1;
     }
 }
 
@@ -120,10 +115,8 @@ pub fn formula_values(
 {
     let last = last_of(job[0]);
     let mut values = [FAILS; FORMULA_VALUES];
-    let mut t = 0;
-    while t <= last {
+    for t in 0..=last {
         fill_moment(and, or, job, formulas, count, history, t, &mut values);
-        t += 1;
     }
     values
 }

@@ -1,11 +1,12 @@
 -- The state at the next moment: what starts that finish make, and over that what starts that hide leave open. Assumes nothing.
 use mathlib.Core.Bool.{Bool, true, false}
-use mathlib.Core.List.{List, [], ◌∷◌}
+use mathlib.Core.List.{List, [], ◌∷◌, ◌++◌}
 use mathlib.Core.Path.{◌≡◌, ◌∙◌}
 use Prim.Native.Nat.{ℕ, zero, suc, ◌+◌, ◌<◌}
 use native.Mathlib.Numerals.{add-one}
 use native.Mathlib.Omega.{arith}
-use lib.ListN.{length, get_or, replicate}
+use lib.ListN.{length, get_or, replicate, length-append, get_or-append}
+use lib.Seq.{get_or-append_seam}
 use Rattle.words.specs.Fields.{unknown, start_action}
 use Rattle.words.specs.Scan.{filter}
 use Rattle.job.specs.Parts.{head_word, fluents, actions, laws_of}
@@ -52,10 +53,18 @@ start_applied {job} hiding t s e h q m =
     overlaid_hit (fluents job) (acts job hiding t) (affects job) (leaves job hiding) s q m.size
     (λ f l. rw (← e.entry (start_action s) f h l) (m.value f l))
 
-pub walkable_one : {job durations effects starts : List ℕ} → Walkable job durations effects starts → (i : ℕ) → i < length starts
-    → Walkable job durations effects (get_or starts i 0 ∷ [])
-walkable_one {job} {starts = starts} w i l = record { well = w.well; tables = w.tables; named = record { action = one } }
-  where
-    one : (k : ℕ) → k < 1 → start_action (get_or (get_or starts i 0 ∷ []) k 0) < actions job
-    one zero m = w.named.action i l
-    one (suc k) m = absurd (omega arith)
+-- of starts that can be walked, the last, and those before it
+module _ {job durations effects starts : List ℕ} (before : List ℕ) (s : ℕ) (e : starts ≡ before ++ (s ∷ [])) (w : Walkable job durations effects starts) where
+  pub walkable_last : Walkable job durations effects (s ∷ [])
+  walkable_last = record { well = w.well; tables = w.tables; named = record { action = one } }
+    where
+      one : (k : ℕ) → k < 1 → start_action (get_or (s ∷ []) k 0) < actions job
+      one zero m = rw (e, get_or-append_seam before s [] 0) at (w.named.action (length before) (rw (e, length-append) (omega arith)))
+      one (suc k) m = absurd (omega arith)
+
+  pub walkable_before : Walkable job durations effects before
+  walkable_before = record {
+    well = w.well;
+    tables = w.tables;
+    named = record { action = λ i l. rw (e, get_or-append before (s ∷ []) 0 i l) at (w.named.action i (rw (e, length-append) (omega arith))) };
+  }

@@ -42,14 +42,12 @@ pub fn keep_unfinished(
     ensures { Filtered (unfinished_by durations.now t) count held.old result held.new }
 {
     let mut n = 0;
-    let mut i = 0;
-    while i < count {
+    for i in 0..count {
         let s = held[i];
         if t < finish_of(durations, s) {
             held[n] = s;
             n += 1;
         }
-        i += 1;
     }
     n
 }

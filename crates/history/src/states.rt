@@ -12,35 +12,25 @@ ghost use Rattle.history.specs.Code.Stores.{Overlaid, Mapped};
 ghost use Rattle.history.specs.Code.Passes.{changed, changed_by, AfterPass};
 
 use crate::carry::{hold_first, hold_next, starting_at};
-use crate::tables::{finish_of, store_row};
+use crate::tables::{finish_of, row_of, store_row};
 use words::{
     ACTIONS, EFFECTS, FLUENTS, KNOWN, MOST_STARTS, OPEN, STATES, fluent_of, fluents_of, kind_of,
     known_value, start_action,
 };
 
-// Stores what the word `w` says that is initially known.
-fn store_known(head: u32, w: u32, state: &mut [u8; FLUENTS])
-    requires { length state.old ≡ 256 }
-    ensures { Overlaid 256 (lists head) (λ f. known_value head) state.old (w ∷ []) state.new }
-{
-    if kind_of(w) == KNOWN {
-        state[fluent_of(head, w)] = known_value(head, w);
-    }
-}
-
-// The state at moment 0: from the last word to the first, so that the first on a fluent prevails.
+// The state at moment 0: what the words say that is initially known.
 fn initial_state(job: &[u32]) -> [u8; FLUENTS]
     requires { WellFormed job.now }
     ensures { StateAt job.now [] 0 result }
 {
     let head = job[0];
-    let mut state = [OPEN; FLUENTS];
-    let mut i = job.len();
-    while 0 < i {
-        i -= 1;
-        store_known(head, job[i], &mut state);
-    }
-    state
+    row_of(job, |w| {
+        if kind_of(w) == KNOWN {
+            Some((fluent_of(head, w), known_value(head, w)))
+        } else {
+            None
+        }
+    })
 }
 
 // The value of a fluent that had `old`, after an action that makes `value` of it finishes, or while that action hides it.
@@ -61,10 +51,8 @@ fn apply(effects: &[u8; EFFECTS], a: usize, n: usize, hiding: bool, state: &mut 
     requires { (a < 64) × (n ≤ 256) × (n ≤ length state.old) }
     ensures { Mapped n (changed_by effects.now a hiding) state.old state.new }
 {
-    let mut f = 0;
-    while f < n {
+    for f in 0..n {
         state[f] = changed(hiding, effects[a * FLUENTS + f], state[f]);
-        f += 1;
     }
 }
 
@@ -99,10 +87,8 @@ fn apply_starts(
     requires { Walkable job.now durations.now effects.now starts.now × (fluents job.now ≤ length state.old) }
     ensures { AfterPass job.now hiding t starts.now state.old state.new }
 {
-    let mut i = starts.len();
-    while 0 < i {
-        i -= 1;
-        apply_start(job, durations, effects, starts[i], hiding, t, state);
+    for &s in starts.iter().rev() {
+        apply_start(job, durations, effects, s, hiding, t, state);
     }
 }
 
@@ -146,15 +132,13 @@ pub fn history(
     let mut held = [0u32; MOST_STARTS];
     let mut count = hold_first(starts, &mut held);
     let mut next = count;
-    let mut t = 0;
-    while t < last {
+    for t in 0..last {
         let starting = starting_at(starts, next, t + 1);
         count = step(
             job, durations, effects, starting, t, &mut held, count, &mut state,
         );
         next += starting.len();
-        t += 1;
-        store_row(&state, t, &mut table);
+        store_row(&state, t + 1, &mut table);
     }
     table
 }

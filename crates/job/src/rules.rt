@@ -106,10 +106,10 @@ fn formula_shape(head: u32, w: u32) -> bool
     ensures { result ≡ formula_shape head w }
 {
     let f = words::form_of(w);
-    let none = words::spare_23_0(w);
+    let none = words::spare::<23, 0>(w);
     let atom = words::atom_spare(head, w);
-    let high = words::spare_23_12(w);
-    let low = words::spare_5_0(w);
+    let high = words::spare::<23, 12>(w);
+    let low = words::spare::<5, 0>(w);
     ((f == forms::ALWAYS) & none)
         | ((f == forms::FLUENT) & atom)
         | ((f == forms::NOT) & (high & low))
@@ -143,10 +143,10 @@ fn node_shape(w: u32) -> bool
     ensures { result ≡ node_shape w }
 {
     let f = words::form_of(w);
-    let none = words::spare_23_0(w);
-    let x = words::spare_17_0(w);
-    let xy = words::spare_11_0(w);
-    let xym = words::spare_5_0(w);
+    let none = words::spare::<23, 0>(w);
+    let x = words::spare::<17, 0>(w);
+    let xy = words::spare::<11, 0>(w);
+    let xym = words::spare::<5, 0>(w);
     ((f <= forms::TEST) & x)
         | (((forms::SEQUENCE <= f) & (f <= forms::CHOICE) | (f == forms::WHILE)) & xy)
         | ((f == forms::IF) & xym)

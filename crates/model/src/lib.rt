@@ -1,9 +1,9 @@
-// What passes from the theory to the reading layer: a procedure and a trajectory as arrays, a triple of a node and two moments, and how
-// many words of a task set follow its node's own.
+// What passes from the theory to the reading layer: a procedure and a trajectory as arrays, a triple of a node and two moments, and the
+// words of a task set.
 #![tactic(auto)]
 
-ghost use Rattle.std.specs.Prelude.{◌<◌, length};
-ghost use Rattle.model.specs.Code.Arrays.{SetWords};
+ghost use Rattle.std.specs.Prelude.{◌≡◌, ◌<◌, length};
+ghost use Rattle.model.specs.Code.Arrays.{members_at, conditions_at};
 
 use words::{ACTIONS, CONDITION, FORMULA_VALUES, MEMBER, NODES};
 
@@ -27,22 +27,23 @@ pub struct Triple {
     pub end: usize,
 }
 
-// How many members and conditions a task set has.
+// The words of a task set: those of its members, and after them those of its conditions.
 #[derive(Clone, Copy)]
-pub struct SetCounts {
-    pub members: usize,
-    pub conditions: usize,
+pub struct SetWords<'a> {
+    pub members: &'a [u32],
+    pub conditions: &'a [u32],
 }
 
-// Returns how many members and conditions the task set has whose node's word stands at `place`.
-pub fn set_counts(words: &[u32], place: usize) -> SetCounts
+// Returns the words of the task set whose node's word stands at `place`.
+pub fn set_words(words: &[u32], place: usize) -> SetWords<'_>
     requires { place < length words.now }
-    ensures { SetWords words.now place result }
+    ensures members { result.members.now ≡ members_at words.now place }
+    ensures conditions { result.conditions.now ≡ conditions_at words.now place }
 {
-    let first = place + 1;
-    let members = words::run_length(words, first, MEMBER);
-    let conditions = words::run_length(words, first + members, CONDITION);
-    SetCounts {
+    let after = &words[place + 1..];
+    let (members, rest) = after.split_at(words::run_length(after, 0, MEMBER));
+    let conditions = &rest[..words::run_length(rest, 0, CONDITION)];
+    SetWords {
         members,
         conditions,
     }

@@ -45,18 +45,8 @@ fn fill_set(
     requires { (place < length words.now) × SetReady (task_set_of (members_at words.now place) (conditions_at words.now place) values.now last) p (length table.old) }
     ensures { SetRows (task_set_of (members_at words.now place) (conditions_at words.now place) values.now last) p table.old table.new }
 {
-    let counts = model::set_counts(words, place);
-    let first = place + 1;
-    let middle = first + counts.members;
-    let end = middle + counts.conditions;
-    sets::rows::set_rows(
-        &words[first..middle],
-        &words[middle..end],
-        values,
-        p,
-        last as u32,
-        table,
-    );
+    let set = model::set_words(words, place);
+    sets::rows::set_rows(set.members, set.conditions, values, p, last as u32, table);
 }
 
 // Fills the rows of node p.

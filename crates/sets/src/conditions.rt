@@ -156,14 +156,8 @@ fn holds_until(fails: u64, first: u32, last: u32, x: u32, a: u32, z: u32) -> u64
         return all;
     }
     match bitset::highest_upto(fails, x - last) {
-        bitset::Member::At(g) => {
-            if g < first {
-                all
-            } else {
-                bitset::minus(all, bitset::upto(g - first))
-            }
-        }
-        bitset::Member::Nothing => all,
+        Some(g) if first <= g => bitset::minus(all, bitset::upto(g - first)),
+        _ => all,
     }
 }
 

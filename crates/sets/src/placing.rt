@@ -21,10 +21,7 @@ fn greatest_upto(x: u64, e: u32) -> u32
     requires { (e < 64) × ((y : ℕ) × In x y × (y ≤ e)) }
     ensures { Highest x e result }
 {
-    match bitset::highest_upto(x, e) {
-        bitset::Member::At(m) => m,
-        bitset::Member::Nothing => 0,
-    }
+    bitset::highest_upto(x, e).unwrap_or(0)
 }
 
 // The greatest end up to e of each of the first count masks.

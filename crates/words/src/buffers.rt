@@ -10,14 +10,7 @@ fn place_of(list: &[u32], w: u32) -> usize
     requires { Pairs (λ s s'. s < s') list.now }
     ensures { (result ≡ length (take_while (not_above w) list.now)) × (result ≤ length list.now) }
 {
-    let mut i = list.len();
-    while 0 < i {
-        if list[i - 1] <= w {
-            return i;
-        }
-        i -= 1;
-    }
-    i
+    list.iter().rposition(|&s| s <= w).map_or(0, |i| i + 1)
 }
 
 // Writes the list to the buffer from position `at` on.

@@ -1,8 +1,8 @@
 // The fields of the words, each read here alone, by the definitions of specs/Fields.antt; the kinds and the values by name.
 #![tactic(auto)]
 
-ghost use Rattle.std.specs.Prelude.{cond, ◌≡◌, ◌<◌, ◌≤◌, length, drop};
-ghost use Rattle.words.specs.Fields.{kind, of_kind, form, spare, head_shape, wide, most_fluents, fact_room, action_number, action_spare, is_set, member_spare, start_spare, fluents_of, actions_of, last_of, fluent_of, known_spare, law_spare, known_value, duration_of, role_of, makes, made_value, formula_x, formula_y, atom_fluent, atom_spare, node_x, node_y, node_m, node_n, member_node, condition_formula, condition_i, condition_j, condition_m, condition_n, start_moment, start_action, start_word, fact_word, reading_word, shift_window_spare, shift_window_action, shift_window_from, shift_window_to, group_spare, group_number, group_limit, group_action};
+ghost use Rattle.std.specs.Prelude.{cond, ◌≡◌, ◌+◌, ◌<◌, ◌≤◌, length, drop};
+ghost use Rattle.words.specs.Fields.{field, kind, of_kind, form, spare, head_shape, wide, most_fluents, fact_room, action_number, action_spare, is_set, member_spare, start_spare, fluents_of, actions_of, last_of, fluent_of, known_spare, law_spare, known_value, duration_of, role_of, makes, made_value, formula_x, formula_y, atom_fluent, atom_spare, node_x, node_y, node_m, node_n, member_node, condition_formula, condition_i, condition_j, condition_m, condition_n, start_moment, start_action, start_word, fact_word, reading_word, shift_window_spare, shift_window_action, shift_window_from, shift_window_to, group_spare, group_number, group_limit, group_action};
 ghost use Rattle.words.specs.Scan.{take_while};
 
 pub mod buffers;
@@ -95,6 +95,22 @@ pub const FORMULA_VALUES: usize = FORMULAS * MOMENTS;
 
 pub const ENDS: usize = NODES * MOMENTS;
 
+// The bits `HI` to `LO` of a word, fewer than all. There is no `usize::from` of a u32, so that the fields that are indexes are cast.
+fn field<const HI: u32, const LO: u32>(w: u32) -> u32
+    requires { (LO ≤ HI) × (HI < LO + 31) × (HI < 32) }
+    ensures { result ≡ field w HI LO }
+{
+    (w >> LO) % (1 << (HI + 1 - LO))
+}
+
+// Whether they are zero, as those are that a word leaves spare.
+pub fn spare<const HI: u32, const LO: u32>(w: u32) -> bool
+    requires { (LO ≤ HI) × (HI < LO + 31) × (HI < 32) }
+    ensures { result ≡ spare w HI LO }
+{
+    field::<HI, LO>(w) == 0
+}
+
 pub fn kind_of(w: u32) -> u32
     ensures { (result ≡ kind w) × (result < 16) }
 {
@@ -118,38 +134,7 @@ pub fn run_length(ws: &[u32], at: usize, k: u32) -> usize
 pub fn form_of(w: u32) -> u32
     ensures { (result ≡ form w) × (result < 16) }
 {
-    (w >> 24) % 16
-}
-
-// Forms leave fields unused: whether the bits from one to another are zero.
-pub fn spare_23_0(w: u32) -> bool
-    ensures { result ≡ spare w 23 0 }
-{
-    (w >> 0) % (1 << 24) == 0
-}
-
-pub fn spare_23_12(w: u32) -> bool
-    ensures { result ≡ spare w 23 12 }
-{
-    (w >> 12) % (1 << 12) == 0
-}
-
-pub fn spare_17_0(w: u32) -> bool
-    ensures { result ≡ spare w 17 0 }
-{
-    (w >> 0) % (1 << 18) == 0
-}
-
-pub fn spare_11_0(w: u32) -> bool
-    ensures { result ≡ spare w 11 0 }
-{
-    (w >> 0) % (1 << 12) == 0
-}
-
-pub fn spare_5_0(w: u32) -> bool
-    ensures { result ≡ spare w 5 0 }
-{
-    (w >> 0) % 64 == 0
+    field::<27, 24>(w)
 }
 
 // Head: whether its form is 0 or 1, and whether it is 1, a wide head.
@@ -165,14 +150,8 @@ fn is_wide(head: u32) -> bool
     form_of(head) == 1
 }
 
-// What a wide head has, or what the other has: of numbers, and of tests.
-fn by_head(head: u32, a: u32, b: u32) -> u32
-    ensures { result ≡ cond (wide head) a b }
-{
-    if is_wide(head) { a } else { b }
-}
-
-fn test_by_head(head: u32, a: bool, b: bool) -> bool
+// What a wide head has, or what the other has.
+fn by_head<T: Copy>(head: u32, a: T, b: T) -> T
     ensures { result ≡ cond (wide head) a b }
 {
     if is_wide(head) { a } else { b }
@@ -182,19 +161,19 @@ fn test_by_head(head: u32, a: bool, b: bool) -> bool
 pub fn most_fluents(head: u32) -> usize
     ensures { result ≡ most_fluents head }
 {
-    by_head(head, FLUENTS as u32, NARROW_FLUENTS as u32) as usize
+    by_head(head, FLUENTS, NARROW_FLUENTS)
 }
 
 pub fn fact_room(head: u32) -> usize
     ensures { result ≡ fact_room head }
 {
-    by_head(head, WIDE_FACTS as u32, NARROW_FACTS as u32) as usize
+    by_head(head, WIDE_FACTS, NARROW_FACTS)
 }
 
 pub fn fluents_of(head: u32) -> usize
     ensures { (result ≡ fluents_of head) × (result ≤ 256) }
 {
-    let field = ((head >> 16) % 256) as usize;
+    let field = field::<23, 16>(head) as usize;
     if is_wide(head) & (field == 0) {
         FLUENTS
     } else {
@@ -205,64 +184,64 @@ pub fn fluents_of(head: u32) -> usize
 pub fn actions_of(head: u32) -> usize
     ensures { (result ≡ actions_of head) × (result < 256) }
 {
-    ((head >> 8) % 256) as usize
+    field::<15, 8>(head) as usize
 }
 
 pub fn last_of(head: u32) -> usize
     ensures { (result ≡ last_of head) × (result < 256) }
 {
-    (head % 256) as usize
+    field::<7, 0>(head) as usize
 }
 
 // Initially known word, and law: the fluent, and whether the bits that each leaves spare are zero.
 pub fn fluent_of(head: u32, w: u32) -> usize
     ensures { (result ≡ fluent_of head w) × (result < 256) }
 {
-    by_head(head, (w >> 0) % 256, (w >> 0) % 64) as usize
+    by_head(head, field::<7, 0>(w), field::<5, 0>(w)) as usize
 }
 
 pub fn known_spare(head: u32, w: u32) -> bool
     ensures { result ≡ known_spare head w }
 {
-    test_by_head(head, (w >> 9) % (1 << 19) == 0, (w >> 7) % (1 << 21) == 0)
+    by_head(head, spare::<27, 9>(w), spare::<27, 7>(w))
 }
 
 pub fn law_spare(head: u32, w: u32) -> bool
     ensures { result ≡ law_spare head w }
 {
-    test_by_head(head, (w >> 10) % (1 << 18) == 0, (w >> 8) % (1 << 20) == 0)
+    by_head(head, spare::<27, 10>(w), spare::<27, 8>(w))
 }
 
 pub fn known_value(head: u32, w: u32) -> u8
     ensures { result ≡ known_value head w }
 {
-    holds_or_fails(by_head(head, (w >> 8) % 2, (w >> 6) % 2) == 0)
+    holds_or_fails(by_head(head, field::<8, 8>(w), field::<6, 6>(w)) == 0)
 }
 
 // Action: its number, its duration, and whether the bits that it leaves spare are zero.
 pub fn action_number(w: u32) -> usize
     ensures { (result ≡ action_number w) × (result < 64) }
 {
-    ((w >> 6) % 64) as usize
+    field::<11, 6>(w) as usize
 }
 
 pub fn action_spare(w: u32) -> bool
     ensures { result ≡ action_spare w }
 {
-    (w >> 12) % (1 << 16) == 0
+    spare::<27, 12>(w)
 }
 
 pub fn duration_of(w: u32) -> usize
     ensures { (result ≡ duration_of w) × (result < 64) }
 {
-    (w % 64) as usize
+    field::<5, 0>(w) as usize
 }
 
 // Law: the role, whether it makes a value, and which.
 pub fn role_of(head: u32, w: u32) -> u32
     ensures { (result ≡ role_of head w) × (result < 4) }
 {
-    by_head(head, (w >> 8) % 4, (w >> 6) % 4)
+    by_head(head, field::<9, 8>(w), field::<7, 6>(w))
 }
 
 pub fn makes_value(role: u32) -> bool
@@ -277,6 +256,7 @@ pub fn made_value(role: u32) -> u8
     holds_or_fails(role == MAKES_TRUE)
 }
 
+// The two values are named, since `u8::from(t)` would give 1, which is OPEN.
 fn holds_or_fails(t: bool) -> u8
     ensures { result ≡ cond t 2 0 }
 {
@@ -287,16 +267,16 @@ fn holds_or_fails(t: bool) -> u8
 pub fn atom_fluent(head: u32, w: u32) -> usize
     ensures { (result ≡ atom_fluent head w) × (result < 256) }
 {
-    by_head(head, (w >> 0) % 256, (w >> 6) % 64) as usize
+    by_head(head, field::<7, 0>(w), field::<11, 6>(w)) as usize
 }
 
 pub fn atom_spare(head: u32, w: u32) -> bool
     ensures { result ≡ atom_spare head w }
 {
-    test_by_head(
+    by_head(
         head,
-        (w >> 8) % (1 << 16) == 0,
-        ((w >> 12) % (1 << 12) == 0) & ((w >> 0) % 64 == 0),
+        spare::<23, 8>(w),
+        spare::<23, 12>(w) & spare::<5, 0>(w),
     )
 }
 
@@ -304,108 +284,108 @@ pub fn atom_spare(head: u32, w: u32) -> bool
 pub fn formula_x(w: u32) -> usize
     ensures { (result ≡ formula_x w) × (result < 64) }
 {
-    ((w >> 6) % 64) as usize
+    field::<11, 6>(w) as usize
 }
 
 pub fn formula_y(w: u32) -> usize
     ensures { (result ≡ formula_y w) × (result < 64) }
 {
-    (w % 64) as usize
+    field::<5, 0>(w) as usize
 }
 
 // Node: X, Y, M, N.
 pub fn node_x(w: u32) -> usize
     ensures { (result ≡ node_x w) × (result < 64) }
 {
-    ((w >> 18) % 64) as usize
+    field::<23, 18>(w) as usize
 }
 
 pub fn node_y(w: u32) -> usize
     ensures { (result ≡ node_y w) × (result < 64) }
 {
-    ((w >> 12) % 64) as usize
+    field::<17, 12>(w) as usize
 }
 
 pub fn node_m(w: u32) -> usize
     ensures { (result ≡ node_m w) × (result < 64) }
 {
-    ((w >> 6) % 64) as usize
+    field::<11, 6>(w) as usize
 }
 
 pub fn node_n(w: u32) -> usize
     ensures { (result ≡ node_n w) × (result < 64) }
 {
-    (w % 64) as usize
+    field::<5, 0>(w) as usize
 }
 
 // A node of form 8, a task set.
 pub fn is_set(w: u32) -> bool
     ensures { result ≡ is_set w }
 {
-    ((w >> 28) % 16 == NODE) & ((w >> 24) % 16 == forms::TASK_SET)
+    (kind_of(w) == NODE) & (form_of(w) == forms::TASK_SET)
 }
 
 // Member of a task set: its node, and whether the bits that it leaves spare are zero.
 pub fn member_spare(w: u32) -> bool
     ensures { result ≡ member_spare w }
 {
-    (w >> 6) % (1 << 22) == 0
+    spare::<27, 6>(w)
 }
 
 pub fn member_node(w: u32) -> usize
     ensures { (result ≡ member_node w) × (result < 64) }
 {
-    (w % 64) as usize
+    field::<5, 0>(w) as usize
 }
 
 // Condition of a task set: the formula, members i and j, M, N.
 pub fn condition_formula(w: u32) -> usize
     ensures { (result ≡ condition_formula w) × (result < 64) }
 {
-    ((w >> 18) % 64) as usize
+    field::<23, 18>(w) as usize
 }
 
 pub fn condition_i(w: u32) -> usize
     ensures { (result ≡ condition_i w) × (result < 8) }
 {
-    ((w >> 15) % 8) as usize
+    field::<17, 15>(w) as usize
 }
 
 pub fn condition_j(w: u32) -> usize
     ensures { (result ≡ condition_j w) × (result < 8) }
 {
-    ((w >> 12) % 8) as usize
+    field::<14, 12>(w) as usize
 }
 
 pub fn condition_m(w: u32) -> usize
     ensures { (result ≡ condition_m w) × (result < 64) }
 {
-    ((w >> 6) % 64) as usize
+    field::<11, 6>(w) as usize
 }
 
 pub fn condition_n(w: u32) -> usize
     ensures { (result ≡ condition_n w) × (result < 64) }
 {
-    (w % 64) as usize
+    field::<5, 0>(w) as usize
 }
 
 // Start: the moment, the action, and whether the bits that it leaves spare are zero.
 pub fn start_spare(s: u32) -> bool
     ensures { result ≡ start_spare s }
 {
-    (s >> 12) % (1 << 16) == 0
+    spare::<27, 12>(s)
 }
 
 pub fn start_moment(s: u32) -> usize
     ensures { (result ≡ start_moment s) × (result < 64) }
 {
-    ((s >> 6) % 64) as usize
+    field::<11, 6>(s) as usize
 }
 
 pub fn start_action(s: u32) -> usize
     ensures { (result ≡ start_action s) × (result < 64) }
 {
-    (s % 64) as usize
+    field::<5, 0>(s) as usize
 }
 
 // The word that action `a` starts at moment `u`.
@@ -438,48 +418,48 @@ pub fn reading_word(p: usize, b: usize, e: usize) -> u32
 pub fn shift_window_spare(w: u32) -> bool
     ensures { result ≡ shift_window_spare w }
 {
-    (w >> 18) % (1 << 10) == 0
+    spare::<27, 18>(w)
 }
 
 pub fn shift_window_action(w: u32) -> usize
     ensures { (result ≡ shift_window_action w) × (result < 64) }
 {
-    ((w >> 12) % 64) as usize
+    field::<17, 12>(w) as usize
 }
 
 pub fn shift_window_from(w: u32) -> usize
     ensures { (result ≡ shift_window_from w) × (result < 64) }
 {
-    ((w >> 6) % 64) as usize
+    field::<11, 6>(w) as usize
 }
 
 pub fn shift_window_to(w: u32) -> usize
     ensures { (result ≡ shift_window_to w) × (result < 64) }
 {
-    (w % 64) as usize
+    field::<5, 0>(w) as usize
 }
 
 // Group and action in a group: the group's number, its limit or the action, and whether the bits that both leave spare are zero.
 pub fn group_spare(w: u32) -> bool
     ensures { result ≡ group_spare w }
 {
-    (w >> 6) % (1 << 18) == 0
+    spare::<23, 6>(w)
 }
 
 pub fn group_number(w: u32) -> usize
     ensures { (result ≡ group_number w) × (result < 16) }
 {
-    ((w >> 24) % 16) as usize
+    field::<27, 24>(w) as usize
 }
 
 pub fn group_limit(w: u32) -> usize
     ensures { (result ≡ group_limit w) × (result < 64) }
 {
-    (w % 64) as usize
+    field::<5, 0>(w) as usize
 }
 
 pub fn group_action(w: u32) -> usize
     ensures { (result ≡ group_action w) × (result < 64) }
 {
-    (w % 64) as usize
+    field::<5, 0>(w) as usize
 }

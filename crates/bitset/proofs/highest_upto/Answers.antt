@@ -1,10 +1,9 @@
 -- The members of x that are at most e are cut out first: the highest of those is the answer. Assumes nothing.
 use Rattle.std.proofs.Common.{ℕ}
 use mathlib.Core.Bool.{◌&&◌}
-use native.Mathlib.Omega.{arith}
 use lib.Dec.{leb}
 use Rattle.bitset.specs.Code.Members.{has, IsSetOf}
-use Rattle.bitset.proofs.Ends.{none_upto, highest}
+use Rattle.bitset.proofs.Ends.{none_upto, highest_within}
 use Rattle.bitset.proofs.highest_upto.Goals as goal
 
 -- the members of x that are at most e
@@ -15,4 +14,4 @@ pub returns-then-low-eq0 : goal.returns-then-low-eq0
 returns-then-low-eq0 c = none_upto c.args.x c.args.e c.inter-low.result (is c.args.x c.args.e c.upto.result c.inter-low.result c.upto.ensures c.inter-low.ensures) c.if-low-eq0.true
 
 pub returns : goal.returns
-returns c = highest c.args.x c.args.e c.inter-low.result (is c.args.x c.args.e c.upto.result c.inter-low.result c.upto.ensures c.inter-low.ensures) (omega arith) c.inter-low.type_inv
+returns c = highest_within c.args.x c.args.e c.inter-low.result (is c.args.x c.args.e c.upto.result c.inter-low.result c.upto.ensures c.inter-low.ensures) c.requires c.highest.ensures

@@ -1,8 +1,6 @@
 -- Between functions: a word as a set of numbers: k is a member where the word's binary digit k is 1. A u64 has members below 64 alone.
-use Rattle.std.specs.Prelude.{◌≡◌, Bool, true, false, not, ◌&&◌, ℕ, zero, suc, ◌+◌, ◌/◌, ◌%◌, ◌^◌, ◌≤◌, ◌<◌, max, List, length, get_or, eqb}
+use Rattle.std.specs.Prelude.{◌≡◌, Bool, true, false, not, ◌&&◌, ℕ, zero, suc, ◌+◌, ◌/◌, ◌%◌, ◌^◌, ◌≤◌, ◌<◌, max, Option, Some, None, List, length, get_or, eqb}
 use Rattle.words.specs.Tests.{indicator}
-use Rattle.bitset.specs.declared.Member.{Member}
-use Rattle.bitset.specs.declared.Member.TheVariants.{At, Nothing}
 
 -- k is a member of x
 unfoldable pub has : ℕ → ℕ → Bool
@@ -32,6 +30,11 @@ pub record Dropped (x r : ℕ) : Type 0 where
   pub rest : (m : ℕ) → Lowest x m → IsSetOf r (λ k. has x k && not (eqb k m))
   pub fewer : pop_count r + 1 ≡ pop_count x
 
+-- a walk of the members of x, the lowest first, gives r and leaves y
+abbrev pub GivesLowest : ℕ → Option ℕ → ℕ → Type 0
+GivesLowest x (Some m) y = Lowest x m × Dropped x y
+GivesLowest x None y = (x ≡ 0) × (y ≡ 0)
+
 -- m is the highest member of x that is at most e
 pub record Highest (x e m : ℕ) : Type 0 where
   pub upto : m ≤ e
@@ -39,9 +42,9 @@ pub record Highest (x e m : ℕ) : Type 0 where
   pub last : (k : ℕ) → m < k → k ≤ e → has x k ≡ false
 
 -- there is such an m, or no member that is at most e
-abbrev pub HighestUpto : ℕ → ℕ → Member → Type 0
-HighestUpto x e (At m) = Highest x e m
-HighestUpto x e Nothing = (k : ℕ) → k ≤ e → has x k ≡ false
+abbrev pub HighestUpto : ℕ → ℕ → Option ℕ → Type 0
+HighestUpto x e (Some m) = Highest x e m
+HighestUpto x e None = (k : ℕ) → k ≤ e → has x k ≡ false
 
 -- k is max i j for a member i of a and a member j of b
 pub record Max (a b k : ℕ) : Type 0 where

@@ -4,14 +4,17 @@ use Rattle.formulas.proofs.Laws.{table_same}
 use native.Mathlib.Omega.{arith}
 use Rattle.formulas.proofs.formula_values.Goals as goal
 
+pub loop-t-init : goal.loop-t-init
+loop-t-init c = columns_none
+
 pub returns : goal.returns
 returns c starts h =
     let a = c.args in
     table_same a.and.now a.or.now c.requires.1.well h
-    (columns_all c.loop-t.invariant.1 (omega (arith, c.last_of-last.ensures.0)))
+    (columns_all c.loop-t.invariant (omega (arith, c.last_of-last.ensures.0)))
 
-pub loop-t-init : goal.loop-t-init
-loop-t-init c = (omega arith, columns_none)
-
-pub loop-t-preserved : goal.loop-t-preserved
-loop-t-preserved c = (omega arith, c.fill_moment.ensures)
+pub returns-2 : goal.returns-2
+returns-2 c starts h =
+    let a = c.args in
+    table_same a.and.now a.or.now c.requires.1.well h
+    (columns_all c.fill_moment.ensures (omega (arith, c.last_of-last.ensures.0)))

@@ -1,14 +1,13 @@
 -- Between functions: the two records as the code has them, in arrays: node p's word stands at places p of the job's words, and after it
 -- those of its members and conditions; starts a is the set of the moments at which action a starts; values has the value of formula k at
 -- moment t at k * 64 + t.
-use Rattle.std.specs.Prelude.{ℕ, ◌+◌, ◌*◌, ◌≤◌, ◌≡◌, List, [], map, length, get_or, take, drop}
+use Rattle.std.specs.Prelude.{ℕ, ◌+◌, ◌*◌, List, [], map, get_or, drop}
 use Rattle.words.specs.Fields.{of_kind, member_node}
 use Rattle.words.specs.Scan.{take_while, drop_while}
 use Rattle.bitset.specs.Code.Members.{has}
 use Rattle.model.specs.Trajectory.{Trajectory}
 use Rattle.model.specs.Procedure.{Procedure}
 use Rattle.model.specs.declared.Arrays.{Arrays}
-use Rattle.model.specs.declared.SetCounts.{SetCounts}
 
 -- the words of the members and of the conditions of a task set whose node's word stands at `place`
 abbrev pub members_at : List ℕ → ℕ → List ℕ
@@ -47,9 +46,3 @@ trajectory_in a = trajectory_at a.starts a.durations a.values a.last
 -- a procedure in which every node has this word, and no task set a member: what a node that is no task set is read by
 abbrev pub alone : ℕ → Procedure
 alone w = record { count = 0; node = λ p. w; members = λ p. []; conditions = λ p. [] }
-
--- these are the counts of the task set at `place`: its words are there, so many of each
-pub record SetWords (words : List ℕ) (place : ℕ) (r : SetCounts) : Type 0 where
-  pub inside : place + 1 + r.members + r.conditions ≤ length words
-  pub members : take r.members (drop (place + 1) words) ≡ members_at words place
-  pub conditions : take r.conditions (drop (place + 1 + r.members) words) ≡ conditions_at words place

@@ -8,19 +8,19 @@ pub write_fact-end-requires : goal.write_fact-end-requires
 write_fact-end-requires c =
     let a = c.args in
     let turn = c.loop-f in
-    omega (arith, turn.invariant.1.next, written-size turn.invariant.1, row-most a.history.now a.head a.t turn.f)
+    omega (arith, turn.invariant.next, written-size turn.invariant, row-most a.history.now a.head a.t turn.f)
 
 pub loop-f-preserved : goal.loop-f-preserved
 loop-f-preserved c =
     let a = c.args in
     let turn = c.loop-f in
-    (omega arith, written-more (row_more a.history.now a.head a.t turn.f) turn.invariant.1 c.write_fact-end.ensures)
+    written-more (row_more a.history.now a.head a.t turn.f) turn.invariant c.write_fact-end.ensures
 
 pub loop-f-init : goal.loop-f-init
-loop-f-init c = let a = c.args in (omega arith, row-start a.history.now a.head a.t)
+loop-f-init c = let a = c.args in row-start a.history.now a.head a.t
 
 pub shape_of-buffer : goal.shape_of-buffer
-shape_of-buffer c = written-size c.loop-f.invariant.1
+shape_of-buffer c = written-size c.loop-f.invariant
 
 pub returns : goal.returns
-returns c = let e : c.loop-f.f ≡ c.args.n = omega arith in rw e at c.loop-f.invariant.1
+returns c = let e : c.loop-f.f ≡ c.args.n = omega arith in rw e at c.loop-f.invariant

@@ -10,7 +10,7 @@ use Rattle.history.proofs.carry.keep_unfinished.Goals as goal
 use Rattle.history.proofs.carry.keep_unfinished.Goals.{then-t-finish_of, else-t-finish_of}
 
 pub loop-i-init : goal.loop-i-init
-loop-i-init c = (omega arith, kept_none)
+loop-i-init c = kept_none
 
 pub finish_of-requires : goal.finish_of-requires
 finish_of-requires c = c.requires.0 _
@@ -18,16 +18,14 @@ finish_of-requires c = c.requires.0 _
 pub loop-i-preserved : goal.loop-i-preserved
 loop-i-preserved c =
     let inside : c.loop-i.i < length c.args.held.now = omega (arith, c.loop-i-test.true, c.requires.1) in
-    let old = c.loop-i.invariant.1 in (
-      omega arith,
-      elim c.if-t-finish_of.branch [
-        | then-t-finish_of w ↦ rw (w.held-is, w.n-is) (kept_hit inside old (rw (← c.finish_of.ensures) (lt-ltb _ _ w.if-t-finish_of.true)))
-        | else-t-finish_of w ↦ rw (w.held-is, w.n-is) (kept_miss inside old (rw (← c.finish_of.ensures) (le-ltb _ _ w.if-t-finish_of.false)))
-      ],
-    )
+    let old = c.loop-i.invariant in
+    elim c.if-t-finish_of.branch [
+      | then-t-finish_of w ↦ rw (w.held-is, w.n-is) (kept_hit inside old (rw (← c.finish_of.ensures) (lt-ltb _ _ w.if-t-finish_of.true)))
+      | else-t-finish_of w ↦ rw (w.held-is, w.n-is) (kept_miss inside old (rw (← c.finish_of.ensures) (le-ltb _ _ w.if-t-finish_of.false)))
+    ]
 
 pub returns : goal.returns
 returns c =
-    let k = c.loop-i.invariant.1 in
+    let k = c.loop-i.invariant in
     let e : c.loop-i.i ≡ c.args.count = omega arith in
     record { few = rw e at k.few; words = rw e at k.words }

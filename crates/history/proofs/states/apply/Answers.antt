@@ -5,12 +5,12 @@ use native.Mathlib.Omega.{arith}
 use Rattle.history.proofs.states.apply.Goals as goal
 
 pub loop-f-init : goal.loop-f-init
-loop-f-init c = (omega arith, mapped_none)
+loop-f-init c = mapped_none
 
 pub loop-f-preserved : goal.loop-f-preserved
 loop-f-preserved c =
-    let old = c.loop-f.invariant.1 in
-    (omega arith, mapped_more _ (omega (arith, old.size)) old c.changed.ensures)
+    let old = c.loop-f.invariant in
+    mapped_more _ (omega (arith, old.size)) old c.changed.ensures
 
 pub returns : goal.returns
-returns c = let e : c.loop-f.f ≡ c.args.n = omega arith in rw e at c.loop-f.invariant.1
+returns c = let e : c.loop-f.f ≡ c.args.n = omega arith in rw e at c.loop-f.invariant

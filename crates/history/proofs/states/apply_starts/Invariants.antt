@@ -1,11 +1,15 @@
--- `history::states::apply_starts` meets its contract. The invariant: the starts from `i` on are applied. Assumes nothing.
-use Prim.Native.Nat.{◌≤◌}
-use lib.ListN.{length, drop}
+-- `history::states::apply_starts` meets its contract. The invariant: once the starts that are left are applied too, all are. Assumes nothing.
+use mathlib.Core.List.{List}
+use mathlib.Core.Path.{◌≡◌}
+use Prim.Native.Nat.{ℕ}
+use lib.ListN.{length}
+use Rattle.history.specs.Code.Tables.{Walkable}
 use Rattle.history.specs.Code.Passes.{AfterPass}
 use Rattle.history.proofs.states.apply_starts.Given as goal
 
-abbrev pub invariant-loop-i : goal.invariant-loop-i
-invariant-loop-i l = (l.i ≤ length l.starts) × AfterPass l.job l.hiding l.t (drop l.i l.starts) l.initial.state l.state
-
-abbrev pub decreases-loop-i : goal.decreases-loop-i
-decreases-loop-i l = l.i
+abbrev pub invariant-loop-s : goal.invariant-loop-s
+invariant-loop-s l = record {
+  walk : Walkable l.job l.durations l.effects l.s-iterator.iter.rest.now;
+  size : length l.state ≡ length l.initial.state;
+  left : (new : List ℕ) → AfterPass l.job l.hiding l.t l.s-iterator.iter.rest.now l.state new → AfterPass l.job l.hiding l.t l.starts l.initial.state new;
+}

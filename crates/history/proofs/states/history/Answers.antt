@@ -21,7 +21,6 @@ loop-t-init c =
     rw (list_count first, same, ← begun_starting p.1 begun_none) (begun_first p.1) in
     let state = c.initial_state-state.ensures in
     record {
-      bound = omega arith;
       few = omega (arith, c.requires.3);
       size = c.hold_first-count.auto.held;
       carried = record { state = state_start state; list = first };
@@ -38,7 +37,7 @@ step-count-requires c =
       ascends = c.requires.1;
       begin = c.starting_at-starting.ensures ∙ begun_starting c.requires.1 inv.begun;
       carried = inv.carried;
-      soon = omega (arith, inv.bound, inv.few);
+      soon = omega (arith, inv.few);
       room = rw inv.size c.requires.2;
     }
 
@@ -48,7 +47,6 @@ loop-t-preserved c =
     let ascends = c.requires.1 in
     let new = c.step-count.ensures c.args.starts.now c.requires.0.named ascends (c.starting_at-starting.ensures ∙ begun_starting ascends inv.begun) inv.carried in
     record {
-      bound = omega (arith, c.loop-t-test.true);
       few = inv.few;
       size = c.step-count.auto.held ∙ inv.size;
       carried = new;
@@ -59,4 +57,4 @@ loop-t-preserved c =
 pub returns : goal.returns
 returns c =
     let rows = c.loop-t.invariant.stored in
-    record { size = rows.size; entry = λ t f l m. rows.entry t f (omega (arith, c.loop-t.invariant.bound)) m }
+    record { size = rows.size; entry = λ t f l m. rows.entry t f (omega arith) m }

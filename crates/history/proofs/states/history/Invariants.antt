@@ -3,7 +3,7 @@
 use mathlib.Core.List.{List}
 use mathlib.Core.Path.{◌≡◌}
 use lib.ListN.{length}
-use Prim.Native.Nat.{ℕ, ◌+◌, ◌-◌, ◌≤◌}
+use Prim.Native.Nat.{ℕ, ◌+◌, ◌≤◌}
 use Rattle.job.specs.Parts.{fluents}
 use Rattle.history.specs.Values.{value_at}
 use Rattle.history.specs.Code.Held.{Carried}
@@ -12,7 +12,6 @@ use Rattle.history.proofs.Stores.{Rows}
 use Rattle.history.proofs.states.history.Given as goal
 
 pub record Walked (job starts : List ℕ) (last t next : ℕ) (state held : List ℕ) (count : ℕ) (table : List ℕ) : Type 0 where
-  pub bound : t ≤ last
   pub few : last ≤ 63
   pub size : length held ≡ 4096
   pub carried : Carried job starts t held count state
@@ -21,6 +20,3 @@ pub record Walked (job starts : List ℕ) (last t next : ℕ) (state held : List
 
 abbrev pub invariant-loop-t : goal.invariant-loop-t
 invariant-loop-t l = Walked l.job l.starts l.last l.t l.next l.state l.held l.count l.table
-
-abbrev pub decreases-loop-t : goal.decreases-loop-t
-decreases-loop-t l = l.last - l.t

@@ -5,19 +5,18 @@ use native.Mathlib.Omega.{arith}
 use Rattle.history.proofs.tables.effects.Goals as goal
 
 pub loop-a-init : goal.loop-a-init
-loop-a-init c = record { bound = omega arith; few = rw c.actions_of-n.ensures.0 c.requires.formed.few_actions; stored = rows_none }
+loop-a-init c = rows_none
 
 pub loop-a-preserved : goal.loop-a-preserved
 loop-a-preserved c =
-    let old = c.loop-a.invariant in
     let row = effect-row _ _ (rw c.laws_of.ensures at c.effects_row-row.ensures) in
-    record { bound = omega arith; few = old.few; stored = rows_more (omega arith) old.stored c.store_row.ensures row }
+    rows_more (omega arith) c.loop-a.invariant c.store_row.ensures row
 
 pub returns : goal.returns
 returns c =
     let p = c.requires in
-    let rows = c.loop-a.invariant.stored in
+    let rows = c.loop-a.invariant in
     record {
       size = rows.size;
-      entry = λ b f l m. rows.entry b f (omega (arith, c.actions_of-n.ensures.0)) (omega (arith, p.formed.few_fluents));
+      entry = λ b f l m. rows.entry b f (omega (arith, c.actions_of-a-end.ensures.0)) (omega (arith, p.formed.few_fluents));
     }

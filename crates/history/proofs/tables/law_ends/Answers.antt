@@ -1,56 +1,39 @@
--- `history::tables::law_ends` meets its contract. The invariant: the ends of the laws of the actions below `a` are stored. Assumes nothing.
-use mathlib.Core.Path.{◌≡◌, refl, ap}
-use Prim.Native.Nat.{ℕ, ◌+◌, ◌<◌}
-use lib.ListN.{length, get_or, length-set}
-use Rattle.job.specs.Parts.{actions, laws_of}
-use Rattle.words.proofs.Entries.{entries_more}
-use Rattle.history.proofs.LawsAt.{laws_from, laws_counted, laws_fit}
+-- `history::tables::law_ends` meets its contract. Assumes nothing.
+use mathlib.Core.Path.{◌≡◌, refl, ◌∙◌, ap}
+use Prim.Native.Nat.{ℕ, ◌<◌, ◌≤◌, ◌+◌}
 use native.Mathlib.Omega.{arith}
+use Rattle.std.proofs.Common.{rules}
+use lib.ListN.{length, get_or, drop}
+use Rattle.words.specs.Fields.{of_kind}
+use Rattle.words.specs.Scan.{take_while}
+use Rattle.job.specs.Parts.{actions}
+use Rattle.history.proofs.LawsAt.{laws_from, laws_counted, laws_fit}
 use Rattle.history.proofs.tables.law_ends.Goals as goal
 
-pub loop-a-init : goal.loop-a-init
-loop-a-init c =
-    record {
-      bound = omega arith;
-      few = rw c.actions_of-n.ensures.0 c.requires.0.few_actions;
-      size = refl;
-      stored = λ k l. absurd (omega arith);
-    }
+pub each_action-requires : goal.each_action-requires
+each_action-requires c =
+    let p = c.requires in
+    let job = c.args.job.now in
+    let places = c.args.places.now in (
+      omega (arith, c.actions_of.ensures.0, p.0.few_actions),
+      λ a l.
+          let below : a < actions job = rw c.actions_of.ensures.0 at l in
+          let from : get_or places a 0 + 1 ≤ length job = laws_from p.0 p.1 below in
+          let fits : (n : ℕ) → n ≡ length (take_while (of_kind 4) (drop (get_or places a 0 + 1) job)) → get_or places a 0 + 1 + n ≤ length job
+          = λ n e. let laws = laws_counted p.0 p.1 below e in omega (arith, laws, laws_fit p.0 p.1 below) in
+          let short : length job ≤ 2048 = p.0.short in
+          search (rules, from, fits, short),
+    )
 
-pub overflow_add-from : goal.overflow_add-from
-overflow_add-from c =
-    let below : c.loop-a.a < actions c.args.job.now = rw c.actions_of-n.ensures.0 at c.loop-a-test.true in
-    let pre = c.requires in omega (arith, pre.0.short, laws_from pre.0 pre.1 below)
-
-pub run_length-requires : goal.run_length-requires
-run_length-requires c =
-    let below : c.loop-a.a < actions c.args.job.now = rw c.actions_of-n.ensures.0 at c.loop-a-test.true in
-    let pre = c.requires in laws_from pre.0 pre.1 below
-
-pub overflow_add-table : goal.overflow_add-table
-overflow_add-table c =
-    let below : c.loop-a.a < actions c.args.job.now = rw c.actions_of-n.ensures.0 at c.loop-a-test.true in
-    let laws : c.run_length.result ≡ length (laws_of c.args.job.now c.loop-a.a) = let pre = c.requires in laws_counted pre.0 pre.1 below c.run_length.ensures in
-    let pre = c.requires in
-    omega (arith, pre.0.short, laws, laws_fit pre.0 pre.1 below)
-
-pub loop-a-preserved : goal.loop-a-preserved
-loop-a-preserved c =
-    let below : c.loop-a.a < actions c.args.job.now = rw c.actions_of-n.ensures.0 at c.loop-a-test.true in
-    let laws : c.run_length.result ≡ length (laws_of c.args.job.now c.loop-a.a) = let pre = c.requires in laws_counted pre.0 pre.1 below c.run_length.ensures in
-    let turn = c.loop-a in
-    let old = turn.invariant in
+pub returns : goal.returns
+returns c =
+    let table = c.each_action.ensures in
+    let p = c.requires in
     let job = c.args.job.now in
     let places = c.args.places.now in
     record {
-      bound = omega arith;
-      few = old.few;
-      size = rw length-set old.size;
-      stored =
-          entries_more (λ k. k) (λ k v. v ≡ get_or places k 0 + 1 + length (laws_of job k)) turn.table turn.a
-          (get_or places turn.a 0 + 1 + c.run_length.result) (omega (arith, old.size)) (λ k l q. omega arith) old.stored
-          (ap (λ (r : ℕ). get_or places turn.a 0 + 1 + r) laws);
+      entry =
+          λ a l.
+          let read : get_or c.each_action.result a 0 ≡ get_or places a 0 + 1 + length (take_while (of_kind 4) (drop (get_or places a 0 + 1) job)) = search (rules, table.given a (rw c.actions_of.ensures.0 l)) in
+          read ∙ ap (λ (n : ℕ). get_or places a 0 + 1 + n) (laws_counted p.0 p.1 l refl);
     }
-
-pub returns : goal.returns
-returns c = record { entry = λ k l. c.loop-a.invariant.stored k (omega (arith, c.actions_of-n.ensures.0)) }
