@@ -15,7 +15,7 @@ use Rattle.starts.specs.Rows.{starts_refusal}
 use Rattle.starts.proofs.RefusalFits.{starts_fit}
 use Rattle.theory.proofs.Laws.{fill_rows_lem, room_plan, check_rows_lem}
 use Rattle.theory.proofs.Passing.{few_facts}
-use Rattle.theory.specs.Code.Judged.{room_checked_of}
+use Rattle.theory.specs.Code.Judged.{room_rows}
 use Rattle.words.specs.Fields.{fact_room}
 use Rattle.words.proofs.Wide.{room_most}
 use Rattle.job.specs.Parts.{head_word}
@@ -48,5 +48,5 @@ module _ (job starts : List ℕ) (words : (i : ℕ) → get_or starts i 0 < 2 ^ 
       let short = row_fits (ltb room 4096) 12 0 (omega arith) (omega arith) in
       let rows = or_fits (job_refusal job) (fact_room_refusal room job) (job_fits job) (row_fits (ltb room (fact_room (head_word job))) 12 0 (omega arith) (omega arith)) in
       answer_fits (fill_refusal room job starts) (length (facts_of job starts)) 0
-      (rw fill_rows_lem (or_fits (buffer_refusal room) _ short (or_fits (room_checked_of room job).refusal (starts_refusal job starts) rows (starts_fit job starts words))))
+      (rw fill_rows_lem (or_fits (buffer_refusal room) _ short (or_fits (room_rows room job) (starts_refusal job starts) rows (starts_fit job starts words))))
       (λ e. let clear = (room_plan room job starts (or_none (buffer_refusal room) _ (rw fill_rows_lem at e)).1).0 in (omega (arith, few_facts job starts clear, room_most (head_word job)), omega arith))

@@ -13,9 +13,12 @@ use Rattle.groups.specs.Code.GroupTable.{GroupTable}
 use Rattle.theory.specs.Answers.{fact_room_refusal, plan_refusal}
 use Rattle.theory.specs.declared.Plan.{Plan}
 
--- the rows of a job with row 12 after them: the index of its words, or the first that fits
+-- the rows of a job with row 12 after them: the first that fits; the index of its words, or that row
+abbrev pub room_rows : ℕ → List ℕ → Refusal
+room_rows room job = first_row (job_refusal job ∷ fact_room_refusal room job ∷ [])
+
 abbrev pub room_checked_of : ℕ → List ℕ → Result Index Refusal
-room_checked_of room job = ruled (first_row (job_refusal job ∷ fact_room_refusal room job ∷ [])) (index_of job)
+room_checked_of room job = ruled (room_rows room job) (index_of job)
 
 -- a job that no row refuses, with the index of its words
 pub record JobChecked (job : List ℕ) (words : Index) : Type 0 where
