@@ -1,9 +1,9 @@
 -- The table of the pairs of actions that clash: how it grows with the actions that have starts, and what it tells. Assumes nothing.
-use mathlib.Core.Bool.{Bool, true, false, ◌&&◌, ◌||◌, or-false}
-use mathlib.Core.List.{List, [], ◌∷◌, ◌++◌}
+use mathlib.Core.Bool.{Bool, true, false, ◌&&◌, ◌||◌}
+use mathlib.Core.List.{List}
 use mathlib.Core.Logic.{by_cases}
 use mathlib.Core.Path.{◌≡◌, refl, ap, sym, ◌∙◌}
-use Prim.Native.Nat.{ℕ, zero, suc, ◌+◌, ◌*◌, ◌≤◌, ◌<◌}
+use Prim.Native.Nat.{ℕ, ◌+◌, ◌*◌, ◌≤◌, ◌<◌}
 use native.Mathlib.Decide.{ℕ_discrete}
 use native.Mathlib.Omega.{arith}
 use borrow.Author.Tests.{ltb-true}
@@ -11,10 +11,9 @@ use lib.Dec.{eqb, ltb}
 use lib.ListN.{length, get_or, set, replicate, length-set, length-replicate}
 use lib.Seq.{get_or-set_same, get_or-set_other}
 use Rattle.std.specs.List.{range_with_len}
-use Rattle.std.proofs.lemmas.List.Folds.{list_any-append}
 use Rattle.words.specs.Tests.{indicator}
 use Rattle.words.specs.Scan.{any, any_below}
-use Rattle.words.proofs.AnyBelow.{some_cong}
+use Rattle.words.proofs.AnyBelow.{some_cong, any-range}
 use Rattle.words.proofs.Entries.{entry_set, entries_alike}
 use Rattle.job.specs.Parts.{fluents, actions}
 use Rattle.job.specs.Code.WellFormed.{WellFormed}
@@ -45,17 +44,6 @@ clash_read {job} {latest} {table} {b} given u a l = cases (ltb u (get_or latest 
         clash-swap job a b ∙ rw (given.told a l (omega arith)) (sym (is_one (clash job b a)))
 
 -- so does a search of all actions
-range-more : (a n : ℕ) → range_with_len a (suc n) ≡ range_with_len a n ++ ((a + n) ∷ [])
-range-more a zero = let e : a + 0 ≡ a = omega arith in rw e
-range-more a (suc n) = let e : a + suc n ≡ (a + 1) + n = omega arith in rw e (ap (λ (l : List ℕ). a ∷ l) (range-more (a + 1) n))
-
-any-range : (test : ℕ → Bool) (n : ℕ) → any test (range_with_len 0 n) ≡ any_below test n
-unfolding any_below
-any-range test zero = refl
-any-range test (suc n) =
-    let e : 0 + n ≡ n = omega arith in
-    ap (any test) (range-more 0 n) ∙ list_any-append test (range_with_len 0 n) ((0 + n) ∷ []) ∙ rw (any-range test n, e, or-false (test n))
-
 pub clash_sought : {job latest table : List ℕ} {b : ℕ} → Compared job latest table b → (u : ℕ)
     → any (λ a. ltb u (get_or latest a 0) && eqb (get_or table (b * 64 + a) 0) 1) (range_with_len 0 (actions job)) ≡ any_below (clashes_after job latest b u) (actions job)
 clash_sought {job} {latest} {table} {b} given u =
