@@ -10,7 +10,7 @@ use native.Mathlib.Decide.{dec_le}
 use native.Mathlib.Omega.{arith}
 use Rattle.bitset.specs.Code.Members.{Highest, In}
 use Rattle.bitset.proofs.Bools.{not_both}
-use Rattle.covering.specs.Code.Cover.{Some, Reaches, Needed, Coverable, Covering}
+use Rattle.covering.specs.Code.Cover.{SomeBelow, Reaches, Needed, Coverable, Covering}
 
 module _ {count : ℕ} {bs Es : ℕ → ℕ} {b e : ℕ} (some : 0 < count)
     (after : (i : ℕ) → i < count → b ≤ bs i) (onward : (i x : ℕ) → i < count → In (Es i) x → bs i ≤ x) where
@@ -20,7 +20,7 @@ module _ {count : ℕ} {bs Es : ℕ → ℕ} {b e : ℕ} (some : 0 < count)
       order : (i : ℕ) → i < count → (b ≤ bs i) × (bs i ≤ es i) × (es i ≤ e)
       order i l = (after i l, onward i (es i) l (h.chosen i l).0, (h.chosen i l).1)
 
-      last : Some count (λ i. In (Es i) e)
+      last : SomeBelow count (λ i. In (Es i) e)
       last =
           let o = order 0 some in
           let k = h.covers e (omega arith) (omega arith) in
@@ -30,7 +30,7 @@ module _ {count : ℕ} {bs Es : ℕ → ℕ} {b e : ℕ} (some : 0 < count)
           let q : es k.0 ≡ e = omega arith in
           record { at = k.0; below = k.1; is = subst (λ (x : ℕ). In (Es k.0) x) q m.0 }
 
-      first : Some count (λ i. bs i ≡ b)
+      first : SomeBelow count (λ i. bs i ≡ b)
       first =
           let o = order 0 some in
           let k = h.covers b (omega arith) (omega arith) in

@@ -48,7 +48,12 @@ pub fn judge_starts(job: &[u32], index: &Index, starts: &[u32], last: usize) -> 
     let ends = law_ends(job, places);
     let effects = effects(job, places, &ends);
     check_times(job, &durations, &effects, starts)?;
-    let history = history::history(job, &durations, &effects, starts, last);
+    let walked = history::Actions {
+        job,
+        durations: &durations,
+        effects: &effects,
+    };
+    let history = walked.history(starts, last);
     let shifts = shifts_of(job, &durations);
     outside_windows(job, &shifts, starts)?;
     let groups = groups_of(job);

@@ -6,19 +6,11 @@ use Rattle.covering.proofs.ends_before.Goals as goal
 use Rattle.covering.proofs.ends_before.Goals.{then-begins-i, else-begins-i}
 
 pub loop-i-init : goal.loop-i-init
-loop-i-init c = (omega arith, in_none (λ e. some_none))
+loop-i-init c = in_none (λ e. some_none)
 
 pub loop-i-preserved : goal.loop-i-preserved
-loop-i-preserved c = (
-  omega arith,
-  in_more (λ e. elim c.if-begins-i.branch [
-    | then-begins-i w ↦ rw w.r-is (gain_yes w.if-begins-i.true (in_union w.union-r.ensures e))
-    | else-begins-i w ↦ rw w.r-is (gain_no (λ l. let z = w.if-begins-i.false in omega arith))
-  ]) (λ e. some_more _) c.loop-i.invariant.1,
-)
-
-pub returns : goal.returns
-returns c = let l = c.loop-i in λ e. (
-  λ t. let s = (l.invariant.1 e).0 t in record { at = s.at; below = omega (arith, s.below); is = s.is },
-  λ s. (l.invariant.1 e).1 (record { at = s.at; below = omega (arith, s.below); is = s.is }),
-)
+loop-i-preserved c =
+    in_more (λ e. elim c.if-begins-i.branch [
+      | then-begins-i w ↦ rw w.r-is (gain_yes w.if-begins-i.true (in_union w.union-r.ensures e))
+      | else-begins-i w ↦ rw w.r-is (gain_no (λ l. let z = w.if-begins-i.false in omega arith))
+    ]) (λ e. some_more _) c.loop-i.invariant

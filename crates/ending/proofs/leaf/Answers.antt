@@ -16,14 +16,14 @@ use Rattle.ending.proofs.leaf.Goals.{After-covered-got}
 
 -- the set reads to what is covered, with these begins
 reads : (c : After-covered-got) (e : ℕ) → let a = c.args in
-    In c.covered-got.result e → ReadsWith a.conds.now a.allow.now a.ends.now a.count a.state.from e (entry_at c.first_begins-begins.result)
+    In c.covered-got.result e → ReadsWith a.tables.now a.state.from e (entry_at c.first_begins-begins.result)
 reads c e t = reads_with c.requires.state.ready c.ends_at-masks.ensures c.first_begins-begins.ensures.0 ((c.covered-got.ensures e).0 t)
 
 -- and what is sought is covered
-finds : (c : After-covered-got) (goes later bounds : List ℕ) (e : ℕ) (bs es : ℕ → ℕ) → let a = c.args in e ≤ a.found.upto
-    → SoughtPlacement a.conds.now a.allow.now a.ends.now goes later bounds a.count a.state e bs es → In c.covered-got.result e
-finds c goes later bounds e bs es u h =
-    let same : (i : ℕ) → i < c.args.count → bs i ≡ entry_at c.first_begins-begins.result i
+finds : (c : After-covered-got) (e : ℕ) (bs es : ℕ → ℕ) → let a = c.args in e ≤ a.found.upto
+    → SoughtPlacement a.tables.now a.state e bs es → In c.covered-got.result e
+finds c e bs es u h =
+    let same : (i : ℕ) → i < c.args.tables.now.count → bs i ≡ entry_at c.first_begins-begins.result i
     = λ i l. let o = h.masked.inside i l in
     sym (h.fits.fixed i _ l (λ t. in_zero c.requires.placed t) (c.first_begins-begins.ensures.2 i (bs i) l (h.fits.begins i l) o.0 (omega (arith, o, u)))) in
     (c.covered-got.ensures e).1 (covers_all c.requires.state.ready c.ends_at-masks.ensures c.first_begins-begins.ensures.0 same h.masked)
@@ -38,10 +38,10 @@ within c e t =
 grown : (c : After-covered-got) (ends : ℕ) → ((e : ℕ) → In ends e ↔ (In c.args.found.ends e ⊎ In c.covered-got.result e)) → (kept : List ℕ)
     → let a = c.args in
     let new : Found = record { upto = a.found.upto; ends = ends; begins = kept } in
-    (BeginsKept a.conds.now a.allow.now a.ends.now a.count a.state.from a.found
-    → BeginsKept a.conds.now a.allow.now a.ends.now a.count a.state.from new)
+    (BeginsKept a.tables.now a.state.from a.found
+    → BeginsKept a.tables.now a.state.from new)
     → (((i : ℕ) → entry_at a.found.begins i < 64) → (i : ℕ) → entry_at kept i < 64)
-    → Grown a.conds.now a.allow.now a.ends.now a.count a.state.from a.found new
+    → Grown a.tables.now a.state.from a.found new
 grown c ends all kept begins moments = record {
   upto = refl;
   kept = λ e t. (all e).1 (inl t);
@@ -69,13 +69,13 @@ pub has-requires : goal.has-requires
 has-requires c = let r = c.requires.state.ready in r.moments
 
 pub returns-then-has : goal.returns-then-has
-returns-then-has c = let g = (goal.at.returns-then-has c).After-covered-got in let all = in_union c.union-all.ensures in (
-  grown g c.union-all.result all _ (λ h t. reads g _ (record { yes = sym c.has.ensures ∙ c.if-has.true })) (λ h. c.first_begins-begins.ensures.1),
-  λ goes later bounds e bs es l h. (all e).1 (inr (finds g goes later bounds e bs es l h)),
+returns-then-has c = let g = (goal.at.returns-then-has c).After-covered-got in let all = in_union c.union-ends.ensures in (
+  grown g c.union-ends.result all _ (λ h t. reads g _ (record { yes = sym c.has.ensures ∙ c.if-has.true })) (λ h. c.first_begins-begins.ensures.1),
+  λ e bs es l h. (all e).1 (inr (finds g e bs es l h)),
 )
 
 pub returns : goal.returns
-returns c = let g = (goal.at.returns c).After-covered-got in let all = in_union c.union-all.ensures in (
-  grown g c.union-all.result all _ (λ h t. ⊎_elim h (λ v. not_both v.yes (sym c.has.ensures ∙ c.if-has.false)) ((all _).0 t)) (λ h. h),
-  λ goes later bounds e bs es l h. (all e).1 (inr (finds g goes later bounds e bs es l h)),
+returns c = let g = (goal.at.returns c).After-covered-got in let all = in_union c.union-ends.ensures in (
+  grown g c.union-ends.result all _ (λ h t. ⊎_elim h (λ v. not_both v.yes (sym c.has.ensures ∙ c.if-has.false)) ((all _).0 t)) (λ h. h),
+  λ e bs es l h. (all e).1 (inr (finds g e bs es l h)),
 )

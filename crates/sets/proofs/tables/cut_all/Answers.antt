@@ -2,15 +2,6 @@
 use native.Mathlib.Omega.{arith}
 use Rattle.sets.proofs.tables.cut_all.Goals as goal
 
-pub loop-c-init : goal.loop-c-init
-loop-c-init c = (omega arith, λ count bs es w few met have. have)
-
-pub cut_for-requires : goal.cut_for-requires
-cut_for-requires c =
-    let p = c.requires in
-    let m = p.named c.loop-c.c c.loop-c-test.true in
-    record { number = omega (arith, p.few, c.loop-c-test.true); first = m.0; second = m.1; forward = p.forward; moments = p.moments }
-
 pub loop-c-preserved : goal.loop-c-preserved
 loop-c-preserved c = let l = c.loop-c in (
   omega arith,
@@ -18,6 +9,3 @@ loop-c-preserved c = let l = c.loop-c in (
       let m = met l.c (omega arith) in
       c.cut_for.ensures count bs es w few m.0 m.1 m.2 (l.invariant.1 count bs es w few (λ d g. met d (omega arith)) have),
 )
-
-pub returns : goal.returns
-returns c = λ count bs es w few met have. c.loop-c.invariant.1 count bs es w few (λ d g. met d (omega arith)) have

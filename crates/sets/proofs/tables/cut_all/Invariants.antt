@@ -8,7 +8,7 @@ use Rattle.sets.proofs.tables.cut_all.Given as goal
 
 abbrev pub invariant-loop-c : goal.invariant-loop-c
 invariant-loop-c l =
-    (l.c ≤ length l.conds) × ((count : ℕ) (bs es : ℕ → ℕ) → InSpan count l.a l.z bs es → count ≤ 4
+    (l.c ≤ length l.conds) × ((count : ℕ) (bs es : ℕ → ℕ) → InSpan count l.span.a l.span.z bs es → count ≤ 4
     → ((d : ℕ) → d < l.c → (condition_i (get_or l.conds d 0) < count) × (condition_j (get_or l.conds d 0) < count) × MetByMask l.conds l.allow bs d
     (es (condition_i (get_or l.conds d 0))))
     → Have l.initial.ends l.initial.goes count bs es → Have l.ends l.goes count bs es)
