@@ -33,14 +33,15 @@ module _ (job starts : List ℕ) (words : (i : ℕ) → get_or starts i 0 < 2 ^ 
   unfolding plan_refusal
   plan_fits = or_fits (job_refusal job) (starts_refusal job starts) (job_fits job) (starts_fit job starts words)
 
+  pub check_fits : (facts : List ℕ) → Fitting (check_refusal job starts facts)
+  check_fits facts =
+      rw (check_rows_lem job starts facts)
+      (next_fits (plan_refusal job starts) (facts_refusal facts (facts_of job starts) 0) plan_fits
+      (λ e. differ_fits facts (facts_of job starts) 0 (omega (arith, few_facts job starts e, room_most (head_word job)))))
+
   pub check_range : (facts : List ℕ) → InRange (check_answer job starts facts)
   unfolding check_answer
-  check_range facts =
-      answer_fits (check_refusal job starts facts) 0 0
-      (rw (check_rows_lem job starts facts)
-      (next_fits (plan_refusal job starts) (facts_refusal facts (facts_of job starts) 0) plan_fits
-      (λ e. differ_fits facts (facts_of job starts) 0 (omega (arith, few_facts job starts e, room_most (head_word job))))))
-      (λ e. (omega arith, omega arith))
+  check_range facts = answer_fits (check_refusal job starts facts) 0 0 (check_fits facts) (λ e. (omega arith, omega arith))
 
   pub fill_range : (room : ℕ) → InRange (fill_answer room job starts)
   unfolding fill_answer
