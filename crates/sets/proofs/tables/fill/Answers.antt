@@ -1,10 +1,14 @@
 -- `sets::tables::fill` meets its contract. Assumes nothing.
 use Prim.Native.Nat.{◌≤◌}
-use mathlib.Core.Path.{◌∙◌}
+use mathlib.Core.Path.{◌∙◌, sym, subst}
 use native.Mathlib.Omega.{arith}
 use lib.ListN.{length, length-map}
 use Rattle.words.specs.Fields.{member_node}
-use Rattle.sets.proofs.Pairs.{node_rows, filled}
+use Rattle.model.specs.Code.Table.{InTable}
+use Rattle.keeping.specs.declared.Tables.{Tables}
+use Rattle.sets.specs.Code.Rows.{task_set_of}
+use Rattle.sets.specs.Code.Tables.{TablesOf}
+use Rattle.sets.proofs.Pairs.{node_rows, filled, same_more}
 use Rattle.sets.proofs.tables.fill.Goals as goal
 use Rattle.sets.proofs.tables.fill.Goals.{Start}
 
@@ -19,5 +23,16 @@ pub returns : goal.returns
 returns c =
     let a = c.args in
     let p = c.requires in
-    filled a.members.now a.values.now a.table.now a.n a.a a.z _ p.formed p.forward p.upto p.unpruned_ends
-    p.unpruned_goes c.fill_allowed.ensures c.cut_all.ensures c.fill_own.ensures c.cut_constrained.ensures (p.count ∙ length-map a.members.now member_node) c.fill_later.ensures c.fill.ensures
+    let cut = c.cut_all.ensures in
+    let own = c.fill_own.ensures in
+    let pairs = c.cut_constrained.ensures in
+    let done = c.cut_constrained.new.tables in
+    let start : Tables = record a.tables.now { allow = c.fill_allowed.new.allow } in
+    let same = same_more start (same_more start cut.0 own.1) pairs.0 in
+    subst (λ (t : Tables). TablesOf (task_set_of a.members.now a.tables.now.conditions.now a.values.now a.n) (InTable a.table.now) a.a a.z
+    (record t { later = c.fill_later.new.later; bounds = c.fill.new.bounds }))
+    (sym same)
+    (filled a.members.now a.values.now a.table.now a.n a.a a.z
+    (record a.tables.now { allow = c.fill_allowed.new.allow; ends = done.ends; goes = done.goes; later = c.fill_later.new.later; bounds = c.fill.new.bounds })
+    p.formed p.forward p.upto p.unpruned.ends p.unpruned.goes c.fill_allowed.ensures cut.1 own.0 (rw own.2 at pairs.1) (p.unpruned.count ∙ length-map a.members.now member_node)
+    c.fill_later.ensures c.fill.ensures)
