@@ -2,9 +2,10 @@
 #![tactic(auto)]
 
 ghost use Rattle.std.specs.Prelude.{◌≡◌};
-ghost use Rattle.answers.specs.Rows.{refused_at, refusal, passed, row, first_refusal};
-ghost use Rattle.answers.specs.Packed.{answered, answer_of, packed, fields};
+ghost use Rattle.answers.specs.Rows.{refusal, passed, row, first_refusal};
+ghost use Rattle.answers.specs.Packed.{answer_of, packed, fields};
 ghost use Rattle.answers.specs.Code.Packed.{Fits, InRange};
+ghost use Rattle.answers.specs.Code.Ruled.{answered, refused_at};
 
 // The numbers of the refusals, by the names of the C header. They are no enum: the definitions of the rows give a refusal by its number, which the
 // host in C gets.

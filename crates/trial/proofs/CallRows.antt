@@ -12,7 +12,6 @@ use lib.ListN.{length}
 use Rattle.std.specs.Prelude.{Result, Ok, Err}
 use Rattle.std.specs.Result.{IsErrAnd}
 use Rattle.answers.specs.declared.Refusal.{Refusal}
-use Rattle.answers.specs.Packed.{answered}
 use Rattle.answers.specs.Rows.{refusal, passed, first_refusal}
 use Rattle.answers.proofs.Rows.{or_none, or_refused, or_passed, or_assoc}
 use Rattle.job.specs.Refusal.{job_refusal}
@@ -23,6 +22,7 @@ use Rattle.moves.specs.Trials.{Move, trial_refusal, move_refusal}
 use Rattle.moves.specs.Calls.{trial_in, handed_back}
 use Rattle.trial.specs.Code.Given.{shown_refusal}
 use Rattle.trial.specs.Code.Called.{short_rows, begin_rows, move_rows, show_rows}
+use Rattle.answers.specs.Code.Ruled.{answered}
 
 -- words too few for a trial are refused, whatever rows come before
 never_short : (rows : Refusal) → (first_refusal rows (refusal 14 0)).number ≡ 0 → ⊥

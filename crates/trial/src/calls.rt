@@ -1,13 +1,12 @@
 // The four calls on the words of a trial, as the host in C lends them: the moment, the number of starts, the starts. The words are taken
 // apart into a trial, the rows of the move are run, and the trial's words are put back if none refuses.
 ghost use Rattle.std.specs.Prelude.{◌≡◌, ◌++◌, ◌≤◌, length, drop};
-ghost use Rattle.answers.specs.Rows.{ruled};
-ghost use Rattle.answers.specs.Packed.{answered};
 ghost use Rattle.theory.specs.Answers.{written};
 ghost use Rattle.moves.specs.Trials.{Start, On, fresh, after};
 ghost use Rattle.moves.specs.Calls.{trial_words, trial_in, begin_answer, move_answer, shown_facts, show_answer, handed_back};
 ghost use Rattle.trial.specs.Stepped.{trial_of, Sized};
 ghost use Rattle.trial.specs.Code.Called.{Lent, begin_rows, move_rows, show_rows};
+ghost use Rattle.answers.specs.Code.Ruled.{answered, ruled};
 
 use crate::{Trial, new_trial};
 use answers::{Answer, Refusal, TRIAL_BOUNDS, answered, refuse};

@@ -1,13 +1,14 @@
 -- Between functions: the rows of the four calls on a trial's words.
 use Rattle.std.specs.Prelude.{cond, List, [], ◌∷◌, ◌≡◌, ℕ, ltb, length, Result}
 use Rattle.answers.specs.declared.Refusal.{Refusal}
-use Rattle.answers.specs.Rows.{refusal, passed, first_row, first_refusal, RuledBy}
+use Rattle.answers.specs.Rows.{refusal, passed, first_row, first_refusal}
 use Rattle.job.specs.Refusal.{job_refusal}
 use Rattle.theory.specs.Answers.{buffer_refusal, fact_room_refusal}
 use Rattle.moves.specs.Trials.{Move, trial_refusal, move_refusal}
 use Rattle.moves.specs.Calls.{trial_in, trial_room_refusal}
 use Rattle.trial.specs.declared.Trial.{Trial}
 use Rattle.trial.specs.Stepped.{trial_of}
+use Rattle.answers.specs.Code.Ruled.{RuledBy}
 
 -- words too few for a trial: a row of the job, or 14
 abbrev pub short_rows : List ℕ → List ℕ → Refusal

@@ -2,8 +2,6 @@
 use mathlib.Core.Path.{◌≡◌, refl, sym, ap, ◌∙◌}
 use lib.ListN.{length}
 use Rattle.answers.specs.declared.Refusal.{Refusal}
-use Rattle.answers.specs.Packed.{answered}
-use Rattle.answers.specs.Rows.{ruled}
 use Rattle.theory.specs.Answers.{written}
 use Rattle.answers.proofs.Rows.{ok-passed, err-refused}
 use Rattle.theory.proofs.Laws.{handed_same, refused_leaves}
@@ -12,6 +10,7 @@ use Rattle.moves.specs.Calls.{trial_in, shown_facts}
 use Rattle.trial.specs.Code.Given.{shown_refusal}
 use Rattle.trial.proofs.CallRows.{short_show, show_short, show_job, enough_show}
 use Rattle.trial.proofs.calls.shown.Goals as goal
+use Rattle.answers.specs.Code.Ruled.{answered, ruled}
 
 pub returns-in_err-buffer_refusal : goal.returns-in_err-buffer_refusal
 returns-in_err-buffer_refusal c =
