@@ -38,7 +38,12 @@ pub struct Plan {
 }
 
 // Runs the rows of the starts, of a job that no row refuses, and makes the history up to moment `last`.
-pub fn judge_starts(job: &[u32], index: &Index, starts: &[u32], last: usize) -> Result<Plan, Refusal>
+pub fn judge_starts(
+    job: &[u32],
+    index: &Index,
+    starts: &[u32],
+    last: usize,
+) -> Result<Plan, Refusal>
     requires { Judgeable job.now starts.now index.now last }
     ensures { JudgedUpto (plan_refusal job.now starts.now) job.now starts.now last result }
 {
@@ -73,11 +78,11 @@ pub fn judge_starts(job: &[u32], index: &Index, starts: &[u32], last: usize) -> 
 pub fn check_job_and_room(job: &[u32], room: usize) -> Result<Index, Refusal>
     ensures { result ≡ room_checked_of room job.now }
 {
-    let index = check_job(job)?;
+    let checked = check_job(job)?;
     if room < fact_room(job[0]) {
         return Err(refuse(BUFFER_SHORT, 0));
     }
-    Ok(index)
+    Ok(checked)
 }
 
 // Runs the rows of the starts, of a job that no row refuses.

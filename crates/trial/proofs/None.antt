@@ -50,9 +50,9 @@ unfolding end_refusal
 job_end head len p =
     last
     (row (not (eqb (count_of_kind 3 p) (actions_of head))) 3 len
-      ∷ row (eqb (count_of_kind 6 p) 0) 5 0
-      ∷ row (empty_set p) 5 (count_of_kind 6 p - 1)
-      ∷ [])
+    ∷ row (eqb (count_of_kind 6 p) 0) 5 0
+    ∷ row (empty_set p) 5 (count_of_kind 6 p - 1)
+    ∷ [])
     (first_of (name_refusal p) (count_of_kind 6 p - 1)) (first (name_refusal p) (count_of_kind 6 p - 1))
 
 pub no_job : (job : List ℕ) → (job_refusal job).number ≡ 0 → job_refusal job ≡ passed

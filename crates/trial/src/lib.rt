@@ -63,7 +63,10 @@ impl Trial {
     {
         let trial = new_trial();
         match check_job(job) {
-            Ok(_) => Moved { refusal: none(), trial },
+            Ok(_) => Moved {
+                refusal: none(),
+                trial,
+            },
             Err(refusal) => Moved { refusal, trial },
         }
     }

@@ -64,11 +64,11 @@ returns-then-at-given c starts h =
     let turn = c.loop-t.invariant in
     let past : facts_refusal (drop c.loop-t-test.at a.given.now) [] c.loop-t-test.at ≡ facts_refusal a.given.now (facts_of a.job.now starts) 0 =
     elim c.loop-t-test.branch [
-      else-loop-t-test w ↦ rw w.at-is (ended turn (omega (arith, w)) c.last_of-last.ensures.0 h)
+      | else-loop-t-test w ↦ rw w.at-is (ended turn (omega (arith, w)) c.last_of-last.ensures.0 h)
       | then-loop-t-test+in_ok-compare_part+else-t-last w ↦
-        let same = ok-passed _ tt (compared turn c.requires w.row_facts-n.ensures w.in_ok-compare_part.ensures) in
-        let next = goes_on turn c.requires w.row_facts-n.ensures (omega (arith, w.loop-t-test.true)) same.0 in
-        rw w.at-is (ended next (omega (arith, w)) c.last_of-last.ensures.0 h)
+          let same = ok-passed _ tt (compared turn c.requires w.row_facts-n.ensures w.in_ok-compare_part.ensures) in
+          let next = goes_on turn c.requires w.row_facts-n.ensures (omega (arith, w.loop-t-test.true)) same.0 in
+          rw w.at-is (ended next (omega (arith, w)) c.last_of-last.ensures.0 h)
     ] in
     rw (c.refuse.ensures, ← past, rest_some c.args.given.now c.loop-t-test.at c.if-at-given.true)
 
@@ -79,10 +79,10 @@ returns c starts h =
     let turn = c.loop-t.invariant in
     let past : facts_refusal (drop c.loop-t-test.at a.given.now) [] c.loop-t-test.at ≡ facts_refusal a.given.now (facts_of a.job.now starts) 0 =
     elim c.loop-t-test.branch [
-      else-loop-t-test w ↦ rw w.at-is (ended turn (omega (arith, w)) c.last_of-last.ensures.0 h)
+      | else-loop-t-test w ↦ rw w.at-is (ended turn (omega (arith, w)) c.last_of-last.ensures.0 h)
       | then-loop-t-test+in_ok-compare_part+else-t-last w ↦
-        let same = ok-passed _ tt (compared turn c.requires w.row_facts-n.ensures w.in_ok-compare_part.ensures) in
-        let next = goes_on turn c.requires w.row_facts-n.ensures (omega (arith, w.loop-t-test.true)) same.0 in
-        rw w.at-is (ended next (omega (arith, w)) c.last_of-last.ensures.0 h)
+          let same = ok-passed _ tt (compared turn c.requires w.row_facts-n.ensures w.in_ok-compare_part.ensures) in
+          let next = goes_on turn c.requires w.row_facts-n.ensures (omega (arith, w.loop-t-test.true)) same.0 in
+          rw w.at-is (ended next (omega (arith, w)) c.last_of-last.ensures.0 h)
     ] in
     rw (← past, rest_none c.args.given.now c.loop-t-test.at c.if-at-given.false)

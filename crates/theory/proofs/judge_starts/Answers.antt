@@ -105,10 +105,9 @@ check_needs-requires c =
 pub returns-in_err-check_needs : goal.returns-in_err-check_needs
 returns-in_err-check_needs c =
     let t = (ok-passed _ tt c.in_ok-check_times.ensures).0 in
-    let w = (ok-passed _ tt c.in_ok-outside_windows.ensures).0 in
-    let g = (ok-passed _ tt c.in_ok-over_limit.ensures).0 in
     let h = err-refused _ tt c.in_err-check_needs.ensures in
-    handed_by _ _ c.from_residual-in_err-check_needs.ensures.1 h.1 h.0 (by_needs _ _ c.requires.good t w g)
+    handed_by _ _ c.from_residual-in_err-check_needs.ensures.1 h.1 h.0
+    (by_needs _ _ c.requires.good t (ok-passed _ tt c.in_ok-outside_windows.ensures).0 (ok-passed _ tt c.in_ok-over_limit.ensures).0)
 
 pub returns : goal.returns
 returns c =

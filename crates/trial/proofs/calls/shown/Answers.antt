@@ -21,7 +21,7 @@ pub returns-in_err-check_job_and_room : goal.returns-in_err-check_job_and_room
 returns-in_err-check_job_and_room c =
     let h = err-refused _ _ c.in_err-check_job_and_room.ensures in (
       handed_same _ _ c.from_residual-in_err-check_job_and_room.ensures.1 h.1 h.0
-      (show_job _ c.args.job.now (trial_in c.args.words.now) c.args.words.now (ok-passed _ tt c.in_ok-buffer_refusal.ensures).0 h.0),
+          (show_job _ c.args.job.now (trial_in c.args.words.now) c.args.words.now (ok-passed _ tt c.in_ok-buffer_refusal.ensures).0 h.0),
       refused_leaves _ _ _ _ c.from_residual-in_err-check_job_and_room.ensures.1,
     )
 
