@@ -23,51 +23,6 @@ facts c =
       c.requires.few,
     )
 
-pub loop-c-init : goal.loop-c-init
-loop-c-init c = record { four = omega arith; masks = record { mask = λ i e. (λ t. (t, λ d l. absurd (omega arith)), λ t. t.0) } }
-
-pub overflow_mul-met : goal.overflow_mul-met
-overflow_mul-met c = omega (arith, facts (goal.at.overflow_mul-met c).After-partner-j)
-
-pub offset_bounds-begins-j : goal.offset_bounds-begins-j
-offset_bounds-begins-j c = omega (arith, facts (goal.at.offset_bounds-begins-j c).After-partner-j)
-
-pub bounds-begins-j : goal.bounds-begins-j
-bounds-begins-j c = omega (arith, facts (goal.at.bounds-begins-j c).After-partner-j)
-
-pub overflow_cast-met : goal.overflow_cast-met
-overflow_cast-met c = omega (arith, facts (goal.at.overflow_cast-met c).After-partner-j)
-
-pub overflow_add-met : goal.overflow_add-met
-overflow_add-met c = omega (arith, facts (goal.at.overflow_add-met c).After-partner-j)
-
-pub offset_bounds-tables-c : goal.offset_bounds-tables-c
-offset_bounds-tables-c c = omega (arith, facts (goal.at.offset_bounds-tables-c c).After-partner-j)
-
-pub bounds-tables-c : goal.bounds-tables-c
-bounds-tables-c c = omega (arith, facts (goal.at.bounds-tables-c c).After-partner-j)
-
-pub offset_bounds-begins-i : goal.offset_bounds-begins-i
-offset_bounds-begins-i c = omega (arith, facts (goal.at.offset_bounds-begins-i c).After-partner-j)
-
-pub bounds-begins-i : goal.bounds-begins-i
-bounds-begins-i c = omega (arith, facts (goal.at.bounds-begins-i c).After-partner-j)
-
-pub end_mask-mask-requires : goal.end_mask-mask-requires
-end_mask-mask-requires c = omega (arith, facts (goal.at.end_mask-mask-requires c).After-partner-j)
-
-pub offset_bounds-next-i : goal.offset_bounds-next-i
-offset_bounds-next-i c = omega (arith, facts (goal.at.offset_bounds-next-i c).After-partner-j)
-
-pub bounds-next-i : goal.bounds-next-i
-bounds-next-i c = omega (arith, facts (goal.at.bounds-next-i c).After-partner-j)
-
-pub offset_bounds-next-i-in-loop-c : goal.offset_bounds-next-i-in-loop-c
-offset_bounds-next-i-in-loop-c c = omega (arith, facts (goal.at.offset_bounds-next-i-in-loop-c c).After-partner-j)
-
-pub bounds-next-i-in-loop-c : goal.bounds-next-i-in-loop-c
-bounds-next-i-in-loop-c c = omega (arith, facts (goal.at.bounds-next-i-in-loop-c c).After-partner-j)
-
 pub loop-c-preserved : goal.loop-c-preserved
 loop-c-preserved c =
     let k = c.loop-c in
