@@ -83,6 +83,7 @@ impl Actions<'_> {
     }
 
     // Applies all starts that act in a pass to moment `t`: from the last to the first, so that the first prevails.
+    // Which pass it is stays a bool, as in `acts` and `leaves`, the definitions of a pass.
     fn apply_starts(&self, starts: &[u32], hiding: bool, t: usize, state: &mut [u8; FLUENTS])
         requires { WalkableBy self.now starts.now × (fluents self.now.job.now ≤ length state.old) }
         ensures { AfterPass self.now.job.now hiding t starts.now state.old state.new }
