@@ -26,11 +26,7 @@ fn initial_state(job: &[u32]) -> [u8; FLUENTS]
 {
     let head = job[0];
     row_of(job, |w| {
-        if kind_of(w) == KNOWN {
-            Some((fluent_of(head, w), known_value(head, w)))
-        } else {
-            None
-        }
+        (kind_of(w) == KNOWN).then(|| (fluent_of(head, w), known_value(head, w)))
     })
 }
 
