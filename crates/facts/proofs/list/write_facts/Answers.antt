@@ -33,6 +33,3 @@ loop-f-preserved c =
       | in-Some w ↦ rw (w.buffer-is, w.end-is) (written-more more turn.invariant (written_one _ w.in-Some.ensures))
       | in_default w ↦ rw (w.buffer-is, w.end-is) (written-more more turn.invariant (written_no w.in_default.ensures))
     ]
-
-pub shape_of-buffer : goal.shape_of-buffer
-shape_of-buffer c = written-size c.loop-f.invariant
