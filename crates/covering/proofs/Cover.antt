@@ -73,3 +73,25 @@ module _ {count : ℕ} {bs Es : ℕ → ℕ} {b e : ℕ} (some : 0 < count)
           let m = j.is.0 in
           let z = reached j.at (bs k.0 - 1) j.below j.is.1 in
           (j.at, j.below, omega arith, omega arith))
+
+-- what covers rests on the begins and masks of the members alone
+module _ {count e : ℕ} {bs bs' Es Es' : ℕ → ℕ} (same : (i : ℕ) → i < count → bs i ≡ bs' i) (alike : (i : ℕ) → i < count → Es i ≡ Es' i) where
+  reaches_as : {i x : ℕ} → i < count → Reaches Es i x e → Reaches Es' i x e
+  reaches_as {i} l r = record { end = r.end; member = subst (λ (m : ℕ). In m r.end) (alike i l) r.member; late = r.late; upto = r.upto }
+
+  needed_as : {b i : ℕ} → i < count → Needed count bs Es b i e → Needed count bs' Es' b i e
+  needed_as {i = i} l h = record {
+    each = reaches_as l h.each;
+    bridged = λ g. let q = same i l in let k = h.bridged (omega arith) in let p = same k.at k.below in let u = k.is.0 in record {
+      at = k.at;
+      below = k.below;
+      is = (omega arith, reaches_as k.below (subst (λ (x : ℕ). Reaches Es k.at (x - 1) e) q k.is.1));
+    };
+  }
+
+  pub coverable_as : {b : ℕ} → Coverable count bs Es b e → Coverable count bs' Es' b e
+  coverable_as h = record {
+    last = let k = h.last in record { at = k.at; below = k.below; is = subst (λ (m : ℕ). In m e) (alike k.at k.below) k.is };
+    first = let k = h.first in let q = same k.at k.below in let u = k.is in record { at = k.at; below = k.below; is = omega arith };
+    needs = λ i l. needed_as l (h.needs i l);
+  }

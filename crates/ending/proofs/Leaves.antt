@@ -1,13 +1,14 @@
 -- A set whose begins are all fixed: the ends that its members may have. Assumes nothing.
 use Prim.Native.Nat.{ℕ, zero, suc, ◌+◌, ◌*◌, ◌≤◌, ◌<◌}
-use mathlib.Core.Path.{◌≡◌, refl, subst}
+use mathlib.Core.Path.{◌≡◌, refl, sym, subst}
 use mathlib.Core.Bool.{false}
 use mathlib.Core.Logic.{◌↔◌, ◌⊎◌, inl, inr, by_cases, ⊎_elim}
 use mathlib.Core.List.{List}
 use native.Mathlib.Decide.{dec_lt}
 use native.Mathlib.Nat.{le_refl}
 use native.Mathlib.Omega.{arith}
-use lib.ListN.{get_or}
+use lib.ListN.{length, get_or, take}
+use Rattle.std.proofs.lemmas.List.{get_or-take, length-take-le}
 use Rattle.bitset.specs.Code.Members.{has, Highest, In}
 use Rattle.bitset.proofs.Bools.{not_both, either}
 use Rattle.words.specs.Fields.{condition_i}
@@ -17,7 +18,7 @@ use Rattle.ending.specs.Code.Ends.{EndsReady, asked, partner_of, MetByMask, EndA
 use Rattle.keeping.specs.Code.Tables.{pair_at}
 use Rattle.keeping.specs.declared.Tables.{Tables}
 use Rattle.ending.specs.Code.Search.{Masked, SearchReady, ReadsWith}
-use Rattle.covering.proofs.Cover.{coverable, covering}
+use Rattle.covering.proofs.Cover.{coverable, covering, coverable_as}
 use Rattle.ending.proofs.Conditions.{partner-less}
 
 -- the greatest member up to e, or there is none
@@ -36,6 +37,15 @@ greatest x (suc e) = ⊎_elim
   where
     step : has x (suc e) ≡ false → (k : ℕ) → k ≤ suc e → (k ≤ e → has x k ≡ false) → has x k ≡ false
     step f k l h = by_cases (dec_lt k (suc e)) (λ g. h (omega arith)) (λ g. let q : suc e ≡ k = omega arith in subst (λ (j : ℕ). has x j ≡ false) q f)
+
+-- ---- the first n begins and masks of two lists
+
+module _ (l m : List ℕ) (n : ℕ) (few : n ≤ length l) (few' : n ≤ length m) where
+  pub front_covers : {b e : ℕ} → Coverable (length (take n l)) (entry_at (take n l)) (entry_at (take n m)) b e ↔ Coverable n (entry_at l) (entry_at m) b e
+  front_covers = rw (length-take-le n l few) (
+    coverable_as (λ i k. get_or-take n l i 0 k) (λ i k. get_or-take n m i 0 k),
+    coverable_as (λ i k. sym (get_or-take n l i 0 k)) (λ i k. sym (get_or-take n m i 0 k)),
+  )
 
 -- ---- the ends depend on the begins of the members alone
 

@@ -45,7 +45,8 @@ pub fn leaf(tables: &Tables, state: Open, found: Found) -> Found
 {
     let begins = first_begins(&state.members, tables.count, state.from, found.upto);
     let masks = ends::ends_at(tables, begins);
-    let got = covering::covered(begins, masks, tables.count, state.from);
+    let count = tables.count;
+    let got = covering::covered(&begins[..count], &masks[..count], state.from);
     let ends = bitset::union(found.ends, got);
     if bitset::has(got, found.upto) {
         return Found {

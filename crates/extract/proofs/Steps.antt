@@ -4,16 +4,15 @@ use Prim.Native.Nat.{ℕ, zero, suc, ◌+◌, ◌-◌, ◌≤◌, ◌<◌}
 use mathlib.Core.Path.{◌≡◌, refl, ap₂, ◌∙◌}
 use mathlib.Core.Bool.{cond}
 use mathlib.Core.Logic.{by_cases}
-use mathlib.Core.List.{List, [], ◌∷◌, ◌++◌, append_assoc, append-nil}
+use mathlib.Core.List.{List, [], ◌++◌, append_assoc, append-nil}
 use native.Mathlib.Decide.{ℕ_discrete}
 use native.Mathlib.Numerals.{add-one}
 use native.Mathlib.Omega.{arith}
 use lib.Dec.{eqb}
-use lib.ListN.{length, get_or, length-append}
+use lib.ListN.{length, length-append}
 use borrow.Author.Tests.{eq-eqb, ne_eqb}
 use Rattle.model.specs.Code.Table.{InTable}
 use Rattle.words.specs.Scan.{concat_below}
-use Rattle.words.specs.Fields.{reading_word}
 use Rattle.words.proofs.Concat.{concat-cong}
 use Rattle.model.specs.Trajectory.{Trajectory}
 use Rattle.model.specs.Procedure.{Procedure}
@@ -22,12 +21,11 @@ use Rattle.model.specs.declared.Triple.{Triple}
 use Rattle.reading.specs.Reading.{whole, passes, Reading, act, test, sequence, first, second, taken, otherwise, loop, done, pass, start_window, end_window, set}
 use Rattle.reading.proofs.Step.{onward}
 use Rattle.reading.specs.Code.Quiet.{at_once}
-use Rattle.extract.specs.declared.parts.Parts.{Parts}
-use Rattle.extract.specs.Code.Parts.{Prepared, Choosable, Chosen, node_of, begin_of, end_of, part_of}
+use Rattle.extract.specs.Code.Parts.{Prepared, Chosen, part_of}
 use Rattle.extract.specs.Code.Search.{CutAt, CutReady}
 use Rattle.extract.proofs.Choice.{end_last, moment}
 use Rattle.extract.specs.Code.Contract.{Full, Rest, Writable, ReadingWritten}
-use Rattle.extract.proofs.Written.{written_none, written_then, written-map}
+use Rattle.extract.proofs.Written.{written_then, written-map}
 
 -- ---- readings taken apart
 
@@ -79,17 +77,17 @@ holds_at l (pass t g y s) m us vs h x r = pass t h x r
 -- ---- the words of the parts so far
 
 -- ws are readings of the first i parts, one after the other
-pub record Done (P : Procedure) (T : Trajectory) (r : Parts) (i : ℕ) (ws : List ℕ) : Type 0 where
+pub record Done (P : Procedure) (T : Trajectory) (ts : List Triple) (i : ℕ) (ws : List ℕ) : Type 0 where
   pub lists : ℕ → List ℕ
-  pub reads : (j : ℕ) → j < i → Reading P T whole (node_of r j) (begin_of r j) (end_of r j) (lists j)
+  pub reads : (j : ℕ) → j < i → Reading P T whole (part_of ts j).node (part_of ts j).begin (part_of ts j).end (lists j)
   pub words : ws ≡ concat_below lists i
 
-module _ {P : Procedure} {T : Trajectory} {r : Parts} where
-  pub done_none : Done P T r 0 []
+module _ {P : Procedure} {T : Trajectory} {ts : List Triple} where
+  pub done_none : Done P T ts 0 []
   unfolding concat_below
   done_none = record { lists = λ j. []; reads = λ j l. absurd (omega arith); words = refl }
 
-  pub done_more : {i : ℕ} {ws us : List ℕ} → Done P T r i ws → Reading P T whole (node_of r i) (begin_of r i) (end_of r i) us → Done P T r (i + 1) (ws ++ us)
+  pub done_more : {i : ℕ} {ws us : List ℕ} → Done P T ts i ws → Reading P T whole (part_of ts i).node (part_of ts i).begin (part_of ts i).end us → Done P T ts (i + 1) (ws ++ us)
   unfolding concat_below
   done_more {i} {ws} {us} d x =
       record {
@@ -114,7 +112,7 @@ pub resize : {P : Procedure} {T : Trajectory} {started job : ℕ} {places table 
     → size' ≡ size → Writable R P T started job places table t at size → Writable R P T started job places table t at size'
 resize h s = rw h s
 
--- nodes and moments are below 64, and the node's word is there
+-- nodes and moments are below 64
 module _ {P : Procedure} {T : Trajectory} {started job : ℕ} {places table : List ℕ} {t : Triple} {at size : ℕ} {R : Procedure → Trajectory → Triple → List ℕ → Type 0}
     (s : Writable R P T started job places table t at size) where
   pub moments : (t.node < 64) × (t.begin < 64) × (t.end < 64)
@@ -126,13 +124,6 @@ module _ {P : Procedure} {T : Trajectory} {started job : ℕ} {places table : Li
       let end = end_last s.prepared node begin s.found in
       (omega arith, omega arith, omega arith)
 
-  pub place_inside : get_or places t.node 0 < job
-  place_inside = s.prepared.ready.inside t.node s.known
-
-  -- its parts can be chosen, where it is no loop
-  pub choosable : (form_at P t.node ≡ While → ⊥) → Choosable P T started job places table t
-  choosable other = record { prepared = s.prepared; known = s.known; within = s.within; found = s.found; other = other }
-
 -- ---- the node's own word
 
 module _ {P : Procedure} {T : Trajectory} {started job : ℕ} {places table : List ℕ} {t : Triple} {at size : ℕ} (s : Writable Full P T started job places table t at size) where
@@ -141,44 +132,26 @@ module _ {P : Procedure} {T : Trajectory} {started job : ℕ} {places table : Li
       let r = read s.prepared s.known s.within s.found in
       omega (arith, s.room r.0 r.1, nonempty r.1)
 
-  pub headed : Writable Rest P T started job places table t (at + 1) size
-  headed = record {
-    prepared = s.prepared;
-    known = s.known;
-    within = s.within;
-    found = s.found;
-    room = λ ws r. omega (arith, s.room (reading_word t.node t.begin t.end ∷ ws) r);
-  }
-
 module _ {P : Procedure} {T : Trajectory} {started job : ℕ} {places table : List ℕ} {t : Triple} {at size : ℕ} (s : Writable Rest P T started job places table t at size) where
   -- ---- parts
 
-  module _ {r : Parts} (c : Chosen P T table t.node t.begin t.end r) where
-    whole_parts : {ws : List ℕ} → Done P T r r.count ws → Rest P T t ws
+  module _ {ts : List Triple} (c : Chosen P T table t.node t.begin t.end ts) where
+    whole_parts : {ws : List ℕ} → Done P T ts (length ts) ws → Rest P T t ws
     whole_parts d = rw d.words (c.reads d.lists d.reads)
 
-    pub part_moments : (i : ℕ) → i < r.count → (begin_of r i < 64) × (end_of r i < 64)
-    part_moments i l =
-        let n = c.lower i l in
-        let m = s.known in
-        let last = s.prepared.ready.moments in
-        let begin = c.begin i l in
-        let end = end_last s.prepared {p = node_of r i} (omega arith) begin (c.found i l) in
-        (omega arith, omega arith)
-
     -- the parts that are left can be read
-    complete : (k i : ℕ) {ws : List ℕ} → i + k ≡ r.count → Done P T r i ws → (vs : List ℕ) × Done P T r r.count (ws ++ vs)
-    complete zero i {ws} h d = let q : i ≡ r.count = omega arith in ([], rw append-nil (rw q at d))
+    complete : (k i : ℕ) {ws : List ℕ} → i + k ≡ length ts → Done P T ts i ws → (vs : List ℕ) × Done P T ts (length ts) (ws ++ vs)
+    complete zero i {ws} h d = let q : i ≡ length ts = omega arith in ([], rw append-nil (rw q at d))
     complete (suc k) i {ws} h d =
-        let l : i < r.count = omega arith in
+        let l : i < length ts = omega arith in
         let n = c.lower i l in
         let m = s.known in
-        let (us, x) = read s.prepared {p = node_of r i} (omega arith) (c.begin i l) (c.found i l) in
+        let (us, x) = read s.prepared {p = (part_of ts i).node} (omega arith) (c.begin i l) (c.found i l) in
         let (vs, y) = complete k (i + 1) (omega arith) (done_more d x) in
         (us ++ vs, rw append_assoc at y)
 
-    module _ {before buf : List ℕ} {i end : ℕ} (l : i < r.count) (w : ReadingWritten (Done P T r i) before at buf end) where
-      pub part_child : Writable Full P T started job places table (part_of r i) end size
+    module _ {before buf : List ℕ} {i end : ℕ} (l : i < length ts) (w : ReadingWritten (Done P T ts i) before at buf end) where
+      pub part_child : Writable Full P T started job places table (part_of ts i) end size
       part_child = record {
         prepared = s.prepared;
         known = let n = c.lower i l in let m = s.known in omega arith;
@@ -190,14 +163,11 @@ module _ {P : Procedure} {T : Trajectory} {started job : ℕ} {places table : Li
             omega (arith, s.room _ (whole_parts y), w.ended, length-append (w.words ++ us) vs, length-append w.words us);
       }
         where
-          left : (k : ℕ) × (i + 1 + k ≡ r.count)
-          left = (r.count - (i + 1), omega arith)
+          left : (k : ℕ) × (i + 1 + k ≡ length ts)
+          left = (length ts - (i + 1), omega arith)
 
-      pub part_more : {buf' : List ℕ} {end' : ℕ} → ReadingWritten (Full P T (part_of r i)) buf end buf' end' → ReadingWritten (Done P T r (i + 1)) before at buf' end'
+      pub part_more : {buf' : List ℕ} {end' : ℕ} → ReadingWritten (Full P T (part_of ts i)) buf end buf' end' → ReadingWritten (Done P T ts (i + 1)) before at buf' end'
       part_more x = written_then (λ ws us d y. done_more d y) w x
-
-    pub part_end : {before buf : List ℕ} {i end : ℕ} → i ≡ r.count → ReadingWritten (Done P T r i) before at buf end → ReadingWritten (Rest P T t) before at buf end
-    part_end {i = i} h w = written-map (λ ws d. whole_parts (rw h at d)) w
 
   -- ---- passes
 
@@ -214,9 +184,6 @@ module _ {P : Procedure} {T : Trajectory} {started job : ℕ} {places table : Li
     -- the passes from a moment on
     from : {m : ℕ} → m ≤ T.last → InTable table t.node m t.end → (us : List ℕ) × Reading P T passes t.node m t.end us
     from l h = loop_of f (read s.prepared s.known l h).1
-
-    pub pass_start : (l : List ℕ) → Halfway P T table t l at t.begin l at
-    pass_start l = record { written = written_none l at (λ vs r. r); begin = s.within; ahead = s.found }
 
     module _ {before buf : List ℕ} {m here : ℕ} (h : Halfway P T table t before at m buf here) where
       pub pass_some : {y : ℕ} → y ≡ field_y P t.node → m < t.end → (k : ℕ) × (i : ℕ) × CutAt table y t.node m t.end at_once (m + 1) k i

@@ -22,7 +22,7 @@ use Rattle.keeping.specs.declared.Tables.{Tables}
 use Rattle.narrowing.specs.Code.Tables.{EndsHave, GoesHave, BoundsHave, InTables}
 use Rattle.ending.specs.Code.Search.{Masked}
 use Rattle.sets.specs.Code.Masks.{Allowed}
-use Rattle.sets.specs.Code.Tables.{Have, Fewer, LeftOut, InSpan, Unpruned, OwnRow, OwnRows, TablesOf}
+use Rattle.sets.specs.Code.Tables.{Have, Fewer, LeftOut, InSpan, Unpruned, OwnRow, OwnRows, SameElse, TablesOf}
 use Rattle.ending.proofs.Conditions.{partner-less}
 
 -- ---- one mask of an array more
@@ -167,6 +167,13 @@ fewer_more old E k v both h p e t = by_cases (ℕ_discrete p k)
     (λ q. h p e (subst (λ (k : ℕ). In (get_or E k 0) e) (sym q)
     ((both e).0 (stored_in E k v (subst (λ (p : ℕ). In (get_or (set E k v) p 0) e) q t))).0))
     (λ q. h p e (rw (get_or-set_other E k p v 0 q) at t))
+
+-- one step after the other, and a step that stores both tables
+pub same_more : (t : Tables) {u v : Tables} → SameElse t u → SameElse u v → SameElse t v
+same_more t {v = v} g h = h ∙ ap (λ (t : Tables). record t { ends = v.ends; goes = v.goes }) g
+
+pub same_set : (t : Tables) {u : Tables} (E G : List ℕ) → SameElse t u → SameElse t (record u { ends = E; goes = G })
+same_set t E G g = ap (λ (t : Tables). record t { ends = E; goes = G }) g
 
 -- nothing is left out
 pub left_none : {count a z : ℕ} {E G : List ℕ} → LeftOut count a z E G E G

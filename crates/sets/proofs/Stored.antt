@@ -1,22 +1,23 @@
 -- The rows of a set, stored one after the other. Assumes nothing.
 use Prim.Native.Nat.{ℕ, ◌+◌, ◌*◌, ◌≤◌, ◌<◌}
-use mathlib.Core.Path.{◌≡◌, refl, sym, subst}
+use mathlib.Core.Path.{◌≡◌, refl, sym, ◌∙◌, subst}
 use mathlib.Core.Bool.{◌&&◌}
 use mathlib.Core.Logic.{◌↔◌, ◌⊎◌, ⊎_elim}
-use mathlib.Core.List.{List, [], ◌∷◌}
+use mathlib.Core.List.{List, [], ◌∷◌, map}
 use native.Mathlib.Omega.{arith}
 use borrow.Author.Count.{below_more}
 use lib.Dec.{leb, ltb}
-use lib.ListN.{length, get_or, set, replicate, length-set, get_or-replicate}
+use lib.ListN.{length, get_or, set, replicate, length-map, length-set, get_or-replicate}
 use lib.Seq.{get_or-set_same, get_or-set_other}
 use Rattle.bitset.specs.Code.Members.{In, IsSetOf}
+use Rattle.words.specs.Fields.{member_node}
 use Rattle.sets.specs.Set.{TaskSet, member_count}
-use Rattle.sets.specs.Code.Set.{member, SetRule}
-use Rattle.sets.specs.Code.Rows.{SetRows, Placed}
+use Rattle.sets.specs.Code.Set.{member, SetRule, Formed}
+use Rattle.sets.specs.Code.Rows.{task_set_of, SetRows, Placed}
 use Rattle.ending.specs.Code.Search.{Masked, SearchReady, Grown}
 use Rattle.keeping.specs.declared.Tables.{Tables}
 use Rattle.narrowing.specs.Code.Tables.{BoundsHave, InTables}
-use Rattle.sets.specs.Code.Tables.{Unpruned, TablesOf}
+use Rattle.sets.specs.Code.Tables.{Unpruned, UnprunedTables, TablesReady, TablesOf}
 use Rattle.ending.specs.declared.Found.{Found}
 use Rattle.bitset.proofs.In.{in_zero, in_from, empty_entry}
 use Rattle.model.specs.Code.Table.{InTable}
@@ -86,6 +87,22 @@ row-found {s} {R} {b = b} f r goal t from none last g all = record {
       (λ v. let p = t.reads b e v.bs v.es from (omega (arith, last, g.upto, g.within (λ d v. in_zero none v) e u)) v.masked in record { begins = v.bs; ends = v.es; reads = p.reads; placing = p.placing })
       (g.reads e u);
 }
+
+-- the tables of a set's members and conditions, before and after they are filled
+pub unpruned_of : (ms vs table : List ℕ) {cs : List ℕ} {n a z : ℕ} {t : Tables} → UnprunedTables cs (length ms) t → Formed (task_set_of ms cs vs n)
+    → ((i : ℕ) → i < length (map member_node ms) → get_or (map member_node ms) i 0 * 64 + 64 ≤ length table) → a ≤ z → z ≤ n
+    → TablesReady (task_set_of ms t.conditions.now vs n) table a z t
+unpruned_of ms vs table {n = n} {a} {z} {t} u formed rows forward upto = subst (λ (k : List ℕ). TablesReady (task_set_of ms k vs n) table a z t) (sym u.conditions) (record {
+  formed = formed;
+  rows = rows;
+  forward = forward;
+  upto = upto;
+  unpruned = record { conditions = u.conditions; count = u.count ∙ sym (length-map ms member_node); ends = u.ends; goes = u.goes; bounds = u.bounds };
+})
+
+pub filled_of : (ms vs table : List ℕ) {cs : List ℕ} {n a z count : ℕ} {t u : Tables} → UnprunedTables cs count t → TablesOf (task_set_of ms t.conditions.now vs n) (InTable table) a z u
+    → TablesOf (task_set_of ms cs vs n) (InTable table) a z u
+filled_of ms vs table {n = n} {a} {z} {u = u} h f = subst (λ (k : List ℕ). TablesOf (task_set_of ms k vs n) (InTable table) a z u) h.conditions f
 
 -- an array of one word, every entry of which has all moments
 pub every-unpruned : (v : ℕ) → IsSetOf v (λ k. leb 0 k && ltb k 64) → Unpruned (replicate 1024 v)

@@ -91,7 +91,7 @@ fn fill_members(ends: &[u64; PAIRS], w: usize, j: usize, span: Span, bounds: &mu
     bounds[FILLED + j] = bitset::union(bounds[FILLED + j], bitset::single(w as u32));
 }
 
-// The bounds of all pairs that are tied, but none where a..z is short.
+// The bounds of all pairs that are tied, but none where the span is short.
 pub fn fill(
     conds: &[u32],
     ends: &[u64; PAIRS],

@@ -6,9 +6,9 @@ ghost use Rattle.covering.specs.Code.Cover.{entry_at};
 ghost use Rattle.model.specs.Code.Table.{InTable};
 
 use crate::{firsts, tables};
-use keeping::{BOUNDS, MASKS, PAIRS, ROWS, Tables};
 use words::{FORMULA_VALUES, MEMBERS};
 
+// The members' begins and ends. They are two lists and no list of pairs, since the search keeps the begins alone and the ends are chosen for them.
 #[derive(Clone, Copy)]
 pub struct Placement {
     pub begins: [u32; MEMBERS],
@@ -48,16 +48,7 @@ fn place_by_tables(
     requires { Placeable (task_set_of members.now conds.now values.now n) table.now b e }
     ensures { Placed (task_set_of members.now conds.now values.now n) (InTable table.now) b e (entry_at result.begins) (entry_at result.ends) }
 {
-    let every = bitset::from(0);
-    let mut tables = Tables {
-        conditions: conds,
-        count: members.len(),
-        allow: [0; MASKS],
-        ends: [every; PAIRS],
-        goes: [every; PAIRS],
-        later: [0; ROWS],
-        bounds: [0; BOUNDS],
-    };
+    let mut tables = tables::unpruned(conds, members.len());
     tables::fill(members, values, table, b, e, n, &mut tables);
     let begins = firsts::row(&tables, b, e, bitset::single(e)).begins;
     let masks = ending::ends::ends_at(&tables, begins);

@@ -3,7 +3,6 @@ ghost use Rattle.std.specs.Prelude.{length};
 ghost use Rattle.sets.specs.Code.Rows.{task_set_of, SetReady, SetRows};
 
 use crate::{firsts, tables};
-use keeping::{BOUNDS, MASKS, PAIRS, ROWS, Tables};
 use words::{FORMULA_VALUES, MOMENTS};
 
 // The rows of the task set at node p.
@@ -18,16 +17,7 @@ pub fn set_rows(
     requires { SetReady (task_set_of members.now conds.now values.now n) p (length table.old) }
     ensures { SetRows (task_set_of members.now conds.now values.now n) p table.old table.new }
 {
-    let every = bitset::from(0);
-    let mut tables = Tables {
-        conditions: conds,
-        count: members.len(),
-        allow: [0; MASKS],
-        ends: [every; PAIRS],
-        goes: [every; PAIRS],
-        later: [0; ROWS],
-        bounds: [0; BOUNDS],
-    };
+    let mut tables = tables::unpruned(conds, members.len());
     tables::fill(members, values, table, 0, n, n, &mut tables);
     for b in 0..=n {
         let goal = bitset::between(b, n);

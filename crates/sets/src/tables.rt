@@ -7,11 +7,11 @@ ghost use Rattle.sets.specs.Code.Rows.{task_set_of};
 ghost use Rattle.model.specs.Code.Table.{InTable};
 ghost use Rattle.keeping.specs.Code.Tables.{pair_at};
 ghost use Rattle.ending.specs.Code.Ends.{MetAtMask, MetByMask};
-ghost use Rattle.sets.specs.Code.Tables.{Have, LeftOut, Cut, InSpan, OwnRow, OwnRows, TablesReady, TablesOf};
+ghost use Rattle.sets.specs.Code.Tables.{Have, LeftOut, Cut, InSpan, OwnRow, OwnRows, SameElse, UnprunedTables, TablesReady, TablesOf};
 
 use crate::span::Span;
 use crate::{bounds, conditions};
-use keeping::{MASKS, PAIRS, ROWS, Tables, pair_at, pair_index};
+use keeping::{BOUNDS, MASKS, PAIRS, ROWS, Tables, pair_at, pair_index};
 use words::forms::{BEGIN_AFTER_BEGIN, HOLDS_BEFORE};
 use words::{FORMULA_VALUES, MEMBERS, MOMENTS};
 
@@ -26,120 +26,90 @@ fn cut(table: &mut [u64; PAIRS], p: usize, allow: &[u64; MASKS], c: usize, span:
 }
 
 // Leaves out what condition c, of word w, leaves out: begins of i where its partner begins at y, or ends of i.
-fn cut_for(
-    w: u32,
-    c: usize,
-    allow: &[u64; MASKS],
-    span: Span,
-    ends: &mut [u64; PAIRS],
-    goes: &mut [u64; PAIRS],
-)
+fn cut_for(w: u32, c: usize, span: Span, tables: &mut Tables)
     requires { (c < 8) × (condition_i w < 4) × (condition_j w < 4) }
-    ensures { (count : ℕ) (bs es : ℕ → ℕ) → InSpan count span.a span.z bs es → count ≤ 4 → condition_i w < count → condition_j w < count → MetAtMask w allow.now bs c (es (condition_i w)) → Have ends.old goes.old count bs es → Have ends.new goes.new count bs es }
+    ensures { SameElse tables.old tables.new × ((count : ℕ) (bs es : ℕ → ℕ) → InSpan count span.a span.z bs es → count ≤ 4 → condition_i w < count → condition_j w < count → MetAtMask w tables.old.allow bs c (es (condition_i w)) → Have tables.old.ends tables.old.goes count bs es → Have tables.new.ends tables.new.goes count bs es) }
 {
     let form = words::form_of(w);
     let i = words::condition_i(w);
     let j = ending::ends::partner(form, i, words::condition_j(w));
     match form {
-        BEGIN_AFTER_BEGIN | HOLDS_BEFORE => cut(goes, j * MEMBERS + i, allow, c, span),
-        _ => cut(ends, i * MEMBERS + j, allow, c, span),
+        BEGIN_AFTER_BEGIN | HOLDS_BEFORE => {
+            cut(&mut tables.goes, j * MEMBERS + i, &tables.allow, c, span)
+        }
+        _ => cut(&mut tables.ends, i * MEMBERS + j, &tables.allow, c, span),
     }
 }
 
 // Leaves out what the conditions leave out.
-fn cut_all(
-    conds: &[u32],
-    allow: &[u64; MASKS],
-    span: Span,
-    ends: &mut [u64; PAIRS],
-    goes: &mut [u64; PAIRS],
-)
-    requires { (length conds.now ≤ 8) × ((c : ℕ) → c < length conds.now → (condition_i (get_or conds.now c 0) < 4) × (condition_j (get_or conds.now c 0) < 4)) }
-    ensures { (count : ℕ) (bs es : ℕ → ℕ) → InSpan count span.a span.z bs es → count ≤ 4 → ((c : ℕ) → c < length conds.now → (condition_i (get_or conds.now c 0) < count) × (condition_j (get_or conds.now c 0) < count) × MetByMask conds.now allow.now bs c (es (condition_i (get_or conds.now c 0)))) → Have ends.old goes.old count bs es → Have ends.new goes.new count bs es }
+fn cut_all(span: Span, tables: &mut Tables)
+    requires { (length tables.old.conditions.now ≤ 8) × ((c : ℕ) → c < length tables.old.conditions.now → (condition_i (get_or tables.old.conditions.now c 0) < 4) × (condition_j (get_or tables.old.conditions.now c 0) < 4)) }
+    ensures { SameElse tables.old tables.new × ((count : ℕ) (bs es : ℕ → ℕ) → InSpan count span.a span.z bs es → count ≤ 4 → ((c : ℕ) → c < length tables.old.conditions.now → (condition_i (get_or tables.old.conditions.now c 0) < count) × (condition_j (get_or tables.old.conditions.now c 0) < count) × MetByMask tables.old.conditions.now tables.old.allow bs c (es (condition_i (get_or tables.old.conditions.now c 0)))) → Have tables.old.ends tables.old.goes count bs es → Have tables.new.ends tables.new.goes count bs es) }
 {
+    let conds = tables.conditions;
     for (c, &w) in conds.iter().enumerate() {
-        cut_for(w, c, allow, span, ends, goes);
+        cut_for(w, c, span, tables);
     }
 }
 
 // The row of member i, of node m, from x, as far as the tables and the span allow.
-fn own_row(
-    table: &[u64],
-    m: usize,
-    i: usize,
-    x: u32,
-    span: Span,
-    ends: &[u64; PAIRS],
-    goes: &[u64; PAIRS],
-) -> u64
+fn own_row(table: &[u64], m: usize, i: usize, x: u32, span: Span, tables: &Tables) -> u64
     requires { (m * 64 + 64 ≤ length table.now) × (i < 4) × (x ≤ span.z) }
-    ensures { (e : ℕ) → In result e ↔ (InTable table.now m x e × (x ≤ e) × (e ≤ span.z) × In (pair_at ends.now i i x) e × In (pair_at goes.now i i x) x) }
+    ensures { (e : ℕ) → In result e ↔ (InTable table.now m x e × (x ≤ e) × (e ≤ span.z) × In (pair_at tables.now.ends i i x) e × In (pair_at tables.now.goes i i x) x) }
 {
-    if !bitset::has(pair_at(goes, i, i, x), x) {
+    if !bitset::has(pair_at(&tables.goes, i, i, x), x) {
         return 0;
     }
     let row = bitset::inter(table[m * MOMENTS + x as usize], bitset::between(x, span.z));
-    bitset::inter(row, pair_at(ends, i, i, x))
+    bitset::inter(row, pair_at(&tables.ends, i, i, x))
 }
 
 // Puts the row of member i, of node m, on the diagonal of `ends`, for its begins in the span.
-fn fill_own_row(
-    table: &[u64],
-    m: usize,
-    i: usize,
-    span: Span,
-    goes: &[u64; PAIRS],
-    ends: &mut [u64; PAIRS],
-)
+fn fill_own_row(table: &[u64], m: usize, i: usize, span: Span, tables: &mut Tables)
     requires { (m * 64 + 64 ≤ length table.now) × (i < 4) }
-    ensures { OwnRow (InTable table.now m) goes.now i span.a span.z ends.old ends.new (span.z + 1) }
+    ensures { OwnRow (InTable table.now m) tables.old.goes i span.a span.z tables.old.ends tables.new.ends (span.z + 1) × SameElse tables.old tables.new × (tables.new.goes ≡ tables.old.goes) }
 {
     for x in span.a..=span.z {
-        ends[pair_index(i, i, x)] = own_row(table, m, i, x, span, ends, goes);
+        tables.ends[pair_index(i, i, x)] = own_row(table, m, i, x, span, tables);
     }
 }
 
 // Does so for each member.
-fn fill_own(
-    members: &[u32],
-    table: &[u64],
-    span: Span,
-    goes: &[u64; PAIRS],
-    ends: &mut [u64; PAIRS],
-)
+fn fill_own(members: &[u32], table: &[u64], span: Span, tables: &mut Tables)
     requires { (length members.now ≤ 4) × ((i : ℕ) → i < length members.now → member_node (get_or members.now i 0) * 64 + 64 ≤ length table.now) }
-    ensures { OwnRows members.now table.now goes.now span.a span.z ends.old ends.new (length members.now) }
+    ensures { OwnRows members.now table.now tables.old.goes span.a span.z tables.old.ends tables.new.ends (length members.now) × SameElse tables.old tables.new × (tables.new.goes ≡ tables.old.goes) }
 {
     for (i, &w) in members.iter().enumerate() {
-        fill_own_row(table, words::member_node(w), i, span, goes, ends);
+        fill_own_row(table, words::member_node(w), i, span, tables);
     }
 }
 
 // Whether members i and j, begun at x and y, may both end, and each may begin where the other does.
-fn together(ends: &[u64; PAIRS], goes: &[u64; PAIRS], i: usize, x: u32, j: usize, y: u32) -> bool
+fn together(tables: &Tables, i: usize, x: u32, j: usize, y: u32) -> bool
     requires { (i < 4) × (j < 4) × (x < 64) × (y < 64) }
-    ensures { (d e : ℕ) → In (pair_at ends.now i i x) d → In (pair_at ends.now i j y) d → In (pair_at ends.now j j y) e → In (pair_at ends.now j i x) e → In (pair_at goes.now j i y) x → result ≡ true }
+    ensures { (d e : ℕ) → In (pair_at tables.now.ends i i x) d → In (pair_at tables.now.ends i j y) d → In (pair_at tables.now.ends j j y) e → In (pair_at tables.now.ends j i x) e → In (pair_at tables.now.goes j i y) x → result ≡ true }
 {
+    let ends = &tables.ends;
     if bitset::inter(pair_at(ends, i, i, x), pair_at(ends, i, j, y)) == 0 {
         return false;
     }
     if bitset::inter(pair_at(ends, j, j, y), pair_at(ends, j, i, x)) == 0 {
         return false;
     }
-    bitset::has(pair_at(goes, j, i, y), x)
+    bitset::has(pair_at(&tables.goes, j, i, y), x)
 }
 
 // The begins of member j, where member i begins at x, with which both may end.
-fn partners(ends: &[u64; PAIRS], goes: &[u64; PAIRS], i: usize, x: u32, j: usize) -> u64
+fn partners(tables: &Tables, i: usize, x: u32, j: usize) -> u64
     requires { (i < 4) × (j < 4) × (x < 64) }
-    ensures { (y d e : ℕ) → In (pair_at goes.now i j x) y → In (pair_at ends.now i i x) d → In (pair_at ends.now i j y) d → In (pair_at ends.now j j y) e → In (pair_at ends.now j i x) e → In (pair_at goes.now j i y) x → In result y }
+    ensures { (y d e : ℕ) → In (pair_at tables.now.goes i j x) y → In (pair_at tables.now.ends i i x) d → In (pair_at tables.now.ends i j y) d → In (pair_at tables.now.ends j j y) e → In (pair_at tables.now.ends j i x) e → In (pair_at tables.now.goes j i y) x → In result y }
 {
-    if pair_at(ends, i, i, x) == 0 {
+    if pair_at(&tables.ends, i, i, x) == 0 {
         return 0;
     }
     let mut r = 0;
-    for y in bitset::members(pair_at(goes, i, j, x)) {
-        if together(ends, goes, i, x, j, y) {
+    for y in bitset::members(pair_at(&tables.goes, i, j, x)) {
+        if together(tables, i, x, j, y) {
             r = bitset::union(r, bitset::single(y));
         }
     }
@@ -156,15 +126,15 @@ fn some_ends(ends: &[u64; PAIRS], i: usize, j: usize, begins: u64) -> u64
 
 // Leaves out, for the pair of members i and j, the begins of j with which no ends of both are left, and the ends of i with which no begin of j
 // is left.
-fn cut_pair(i: usize, j: usize, span: Span, ends: &mut [u64; PAIRS], goes: &mut [u64; PAIRS])
+fn cut_pair(i: usize, j: usize, span: Span, tables: &mut Tables)
     requires { (i < 4) × (j < 4) }
-    ensures { (count : ℕ) → i < count → j < count → count ≤ 4 → LeftOut count span.a span.z ends.old goes.old ends.new goes.new }
+    ensures { SameElse tables.old tables.new × ((count : ℕ) → i < count → j < count → count ≤ 4 → LeftOut count span.a span.z tables.old.ends tables.old.goes tables.new.ends tables.new.goes) }
 {
     for x in span.a..=span.z {
-        let begins = partners(ends, goes, i, x, j);
-        goes[pair_index(i, j, x)] = begins;
+        let begins = partners(tables, i, x, j);
+        tables.goes[pair_index(i, j, x)] = begins;
         let p = pair_index(i, i, x);
-        ends[p] = bitset::inter(ends[p], some_ends(ends, i, j, begins));
+        tables.ends[p] = bitset::inter(tables.ends[p], some_ends(&tables.ends, i, j, begins));
     }
 }
 
@@ -203,32 +173,27 @@ fn constrained(conds: &[u32]) -> u64 {
 }
 
 // Cuts each of these pairs of different members.
-fn cut_pairs(pairs: u64, count: usize, span: Span, ends: &mut [u64; PAIRS], goes: &mut [u64; PAIRS])
-    requires { count ≤ 4 }
-    ensures { LeftOut count span.a span.z ends.old goes.old ends.new goes.new }
+fn cut_pairs(pairs: u64, span: Span, tables: &mut Tables)
+    requires { tables.old.count ≤ 4 }
+    ensures { SameElse tables.old tables.new × LeftOut tables.old.count span.a span.z tables.old.ends tables.old.goes tables.new.ends tables.new.goes }
 {
+    let count = tables.count;
     for p in bitset::members(pairs) {
         if let Some((i, j)) = members_of(p, count) {
-            cut_pair(i, j, span, ends, goes);
+            cut_pair(i, j, span, tables);
         }
     }
 }
 
 // Cuts each pair that some condition is on, but none where the span is short.
-fn cut_constrained(
-    conds: &[u32],
-    count: usize,
-    span: Span,
-    ends: &mut [u64; PAIRS],
-    goes: &mut [u64; PAIRS],
-)
-    requires { count ≤ 4 }
-    ensures { LeftOut count span.a span.z ends.old goes.old ends.new goes.new }
+fn cut_constrained(span: Span, tables: &mut Tables)
+    requires { tables.old.count ≤ 4 }
+    ensures { SameElse tables.old tables.new × LeftOut tables.old.count span.a span.z tables.old.ends tables.old.goes tables.new.ends tables.new.goes }
 {
     if span.is_short() {
         return;
     }
-    cut_pairs(constrained(conds), count, span, ends, goes);
+    cut_pairs(constrained(tables.conditions), span, tables);
 }
 
 // The ends of member i begun at x or later, for each x of the span from the last down.
@@ -252,6 +217,22 @@ fn fill_later(ends: &[u64; PAIRS], count: usize, span: Span, later: &mut [u64; R
     }
 }
 
+// Tables that nothing is left out of, with no bounds.
+pub fn unpruned(conditions: &[u32], count: usize) -> Tables
+    ensures { UnprunedTables conditions.now count result }
+{
+    let every = bitset::from(0);
+    Tables {
+        conditions,
+        count,
+        allow: [0; MASKS],
+        ends: [every; PAIRS],
+        goes: [every; PAIRS],
+        later: [0; ROWS],
+        bounds: [0; BOUNDS],
+    }
+}
+
 // All tables of the set, from tables that nothing is left out of.
 pub fn fill(
     members: &[u32],
@@ -269,15 +250,9 @@ pub fn fill(
     let conds = tables.conditions;
     let count = members.len();
     conditions::fill_allowed(values, conds, span, n, &mut tables.allow);
-    cut_all(
-        conds,
-        &tables.allow,
-        span,
-        &mut tables.ends,
-        &mut tables.goes,
-    );
-    fill_own(members, table, span, &tables.goes, &mut tables.ends);
-    cut_constrained(conds, count, span, &mut tables.ends, &mut tables.goes);
+    cut_all(span, tables);
+    fill_own(members, table, span, tables);
+    cut_constrained(span, tables);
     fill_later(&tables.ends, count, span, &mut tables.later);
     bounds::fill(conds, &tables.ends, count, span, &mut tables.bounds);
 }

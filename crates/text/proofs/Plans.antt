@@ -1,10 +1,8 @@
 -- The starts and the facts of a plan are its parts before and after one place. Assumes nothing.
-use Prim.Native.Nat.{ℕ, ◌-◌, ◌≤◌}
-use mathlib.Core.Path.{◌≡◌, sym, ◌∙◌}
+use Prim.Native.Nat.{ℕ, ◌≤◌}
+use mathlib.Core.Path.{◌≡◌, sym}
 use mathlib.Core.List.{List}
-use native.Mathlib.Omega.{arith}
-use lib.ListN.{length, take, drop, length-drop}
-use lib.Seq.{take_all}
+use lib.ListN.{length, take, drop}
 use Rattle.words.proofs.Scan.{drop_while-drop, take_while-fits, take_while-take}
 use Rattle.text.specs.Files.{is_start_word, starts_of, given_facts}
 

@@ -20,6 +20,7 @@ pub fn starts_length(plan: &[u32]) -> usize
 }
 
 // Writes the words of bytes, four bytes each and the lowest first, to the front of out, and answers how many.
+// It does not answer them as a slice, so that its contract can say that the rest of out stays as it was.
 pub fn decode(bytes: &[u8], out: &mut [u32]) -> usize
     requires { length bytes.now / 4 ≤ length out.old }
     ensures { Decoded bytes.now out.old out.new result }

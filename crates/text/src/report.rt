@@ -1,8 +1,8 @@
 // The text that planread prints, written to a buffer of bytes.
-ghost use Rattle.std.specs.Prelude.{◌+◌, ◌*◌, ◌≤◌, length};
+ghost use Rattle.std.specs.Prelude.{◌≡◌, ◌+◌, ◌*◌, ◌≤◌, length};
 ghost use Rattle.answers.specs.Packed.{length_of};
 ghost use Rattle.text.specs.Report.{decimal_of, field_text, hex_line, hex_lines, accepted_text, refused_text, report_of};
-ghost use Rattle.text.specs.Code.Written.{Appended, WrittenText};
+ghost use Rattle.text.specs.Code.Written.{Appended};
 
 use answers::Answer;
 
@@ -14,23 +14,25 @@ struct Text<'a> {
     end: usize,
 }
 
-// Writes the answer's line and, where it is accepted, its words, one a line. Answers the number of bytes.
-pub fn report(answer: Answer, words: &[u32], out: &mut [u8]) -> usize
+// Writes the answer's line and, where it is accepted, its words, one a line, at the start of out, and answers that text.
+pub fn report<'a>(answer: Answer, words: &[u32], out: &'a mut [u8]) -> &'a [u8]
     requires { (length_of answer ≤ length words.now) × (length_of answer * 9 + 100 ≤ length out.old) }
-    ensures { WrittenText (report_of answer words.now) out.new result }
+    ensures { result.now ≡ report_of answer words.now }
 {
     let mut text = Text { out, end: 0 };
     text.answer(answer, words);
-    text.end
+    let Text { out, end } = text;
+    &out[..end]
 }
 
-// Writes a text at the start of out.
-pub fn line(out: &mut [u8], text: &[u8]) -> usize
+// Writes a text at the start of out, and answers it.
+pub fn line<'a>(out: &'a mut [u8], text: &[u8]) -> &'a [u8]
     requires { length text.now ≤ length out.old }
-    ensures { WrittenText text.now out.new result }
+    ensures { result.now ≡ text.now }
 {
-    out[..text.len()].copy_from_slice(text);
-    text.len()
+    let end = text.len();
+    out[..end].copy_from_slice(text);
+    &out[..end]
 }
 
 impl Text<'_> {

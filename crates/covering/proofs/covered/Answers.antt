@@ -11,11 +11,8 @@ returns-then-not-begins_at c = in_none (λ e h. not_both (c.begins_at.ensures.1 
 pub loop-i-init : goal.loop-i-init
 loop-i-init c = record { moment = omega arith; needs = λ e l. (λ h j k. absurd (omega arith), λ h. omega arith) }
 
-pub need-requires : goal.need-requires
-need-requires c = omega (arith, c.requires.few, c.requires.begins c.loop-i.i)
-
 pub returns-in_default : goal.returns-in_default
-returns-in_default c = in_none (λ e h. let k = h.last in (c.in_default.ensures.least e (c.requires.ends k.at e k.below k.is)).1 (h.needs c.loop-i.i c.loop-i-test.true))
+returns-in_default c = in_none (λ e h. let k = h.last in (c.in_default.ensures.least e (c.requires.0.ends k.at e k.below k.is)).1 (h.needs c.loop-i.i c.loop-i-test.true))
 
 pub loop-i-preserved : goal.loop-i-preserved
 loop-i-preserved c = let k = c.loop-i in
@@ -34,6 +31,6 @@ returns c = λ e.
         first = c.begins_at.ensures.0 c.if-not-begins_at.false;
         needs = λ i g. (c.loop-i.invariant.needs e l.1).0 l.0 i (omega arith);
       },
-      λ h. let j = h.last in let l = c.requires.ends j.at e j.below j.is in
-          both.1 (some.1 (record { at = j.at; below = j.below; is = (c.requires.begins j.at, j.is) }), late.1 ((c.loop-i.invariant.needs e l).1 (λ i g. h.needs i (omega arith)), l)),
+      λ h. let j = h.last in let l = c.requires.0.ends j.at e j.below j.is in
+          both.1 (some.1 (record { at = j.at; below = j.below; is = (c.requires.0.begins j.at j.below, j.is) }), late.1 ((c.loop-i.invariant.needs e l).1 (λ i g. h.needs i (omega arith)), l)),
     )

@@ -38,7 +38,7 @@ pub record Coverable (count : ℕ) (bs Es : ℕ → ℕ) (b e : ℕ) : Type 0 wh
 -- what working them out needs: moments
 pub record CoverReady (count : ℕ) (bs Es : ℕ → ℕ) : Type 0 where
   pub few : count ≤ 4
-  pub begins : (i : ℕ) → bs i < 64
+  pub begins : (i : ℕ) → i < count → bs i < 64
   pub ends : (i e : ℕ) → i < count → In (Es i) e → e < 64
 
 -- ends out of the masks that cover b..e

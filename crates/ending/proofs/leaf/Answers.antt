@@ -4,20 +4,34 @@ use mathlib.Core.Path.{◌≡◌, refl, sym, ◌∙◌}
 use mathlib.Core.Logic.{◌↔◌, ◌⊎◌, inl, inr, ⊎_elim}
 use mathlib.Core.List.{List}
 use native.Mathlib.Omega.{arith}
+use lib.ListN.{length}
+use borrow.Author.Rules.{rules}
 use Rattle.bitset.specs.Code.Members.{In}
 use Rattle.bitset.proofs.Bools.{not_both}
 use Rattle.bitset.proofs.In.{in_union, in_zero}
-use Rattle.covering.specs.Code.Cover.{entry_at}
+use Rattle.covering.specs.Code.Cover.{entry_at, Coverable}
 use Rattle.ending.specs.Code.Search.{SoughtPlacement, ReadsWith, BeginsKept, Grown}
 use Rattle.ending.specs.declared.Found.{Found}
-use Rattle.ending.proofs.Leaves.{ends_ready, onward, reads_with, covers_all}
+use Rattle.ending.proofs.Leaves.{front_covers, onward, reads_with, covers_all}
 use Rattle.ending.proofs.leaf.Goals as goal
 use Rattle.ending.proofs.leaf.Goals.{After-covered-got}
+
+-- the lists have a begin and a mask for each member
+long : (c : After-covered-got) → let n = c.args.tables.now.count in (n ≤ length c.first_begins-begins.result) × (n ≤ length c.ends_at-masks.result)
+long c = let few = c.requires.state.ready.few in let four : length c.first_begins-begins.result ≡ 4 = search rules in let four' : length c.ends_at-masks.result ≡ 4 = search rules in (omega arith, omega arith)
+
+-- what is covered, by the begins and masks of the members
+covers : (c : After-covered-got) (e : ℕ) → let a = c.args in
+    In c.covered-got.result e ↔ Coverable a.tables.now.count (entry_at c.first_begins-begins.result) (entry_at c.ends_at-masks.result) a.state.from e
+covers c e =
+    let f = front_covers _ _ _ (long c).0 (long c).1 in
+    let k = c.covered-got.ensures e in
+    (λ t. f.0 (k.0 t), λ h. k.1 (f.1 h))
 
 -- the set reads to what is covered, with these begins
 reads : (c : After-covered-got) (e : ℕ) → let a = c.args in
     In c.covered-got.result e → ReadsWith a.tables.now a.state.from e (entry_at c.first_begins-begins.result)
-reads c e t = reads_with c.requires.state.ready c.ends_at-masks.ensures c.first_begins-begins.ensures.0 ((c.covered-got.ensures e).0 t)
+reads c e t = reads_with c.requires.state.ready c.ends_at-masks.ensures c.first_begins-begins.ensures.0 ((covers c e).0 t)
 
 -- and what is sought is covered
 finds : (c : After-covered-got) (e : ℕ) (bs es : ℕ → ℕ) → let a = c.args in e ≤ a.found.upto
@@ -26,12 +40,12 @@ finds c e bs es u h =
     let same : (i : ℕ) → i < c.args.tables.now.count → bs i ≡ entry_at c.first_begins-begins.result i
     = λ i l. let o = h.masked.inside i l in
     sym (h.fits.fixed i _ l (λ t. in_zero c.requires.placed t) (c.first_begins-begins.ensures.2 i (bs i) l (h.fits.begins i l) o.0 (omega (arith, o, u)))) in
-    (c.covered-got.ensures e).1 (covers_all c.requires.state.ready c.ends_at-masks.ensures c.first_begins-begins.ensures.0 same h.masked)
+    (covers c e).1 (covers_all c.requires.state.ready c.ends_at-masks.ensures c.first_begins-begins.ensures.0 same h.masked)
 
 -- which is not after the last moment
 within : (c : After-covered-got) (e : ℕ) → In c.covered-got.result e → e ≤ c.args.found.upto
 within c e t =
-    let k = ((c.covered-got.ensures e).0 t).last in
+    let k = ((covers c e).0 t).last in
     (onward c.requires.state.ready c.ends_at-masks.ensures c.first_begins-begins.ensures.0 k.at e k.below k.is).1
 
 -- what is added, with the begins that are kept
@@ -50,23 +64,6 @@ grown c ends all kept begins moments = record {
   within = λ h e t. ⊎_elim (h e) (within c e) ((all e).0 t);
   moments = moments;
 }
-
-pub first_begins-begins-requires : goal.first_begins-begins-requires
-first_begins-begins-requires c = let r = c.requires.state.ready in (r.few, r.forward, r.moments)
-
-pub ends_at-masks-requires : goal.ends_at-masks-requires
-ends_at-masks-requires c = ends_ready c.requires.state.ready c.first_begins-begins.ensures.1
-
-pub covered-got-requires : goal.covered-got-requires
-covered-got-requires c = let r = c.requires.state.ready in
-    record {
-      few = r.few;
-      begins = c.first_begins-begins.ensures.1;
-      ends = λ i e l t. omega (arith, onward r c.ends_at-masks.ensures c.first_begins-begins.ensures.0 i e l t, r.moments);
-    }
-
-pub has-requires : goal.has-requires
-has-requires c = let r = c.requires.state.ready in r.moments
 
 pub returns-then-has : goal.returns-then-has
 returns-then-has c = let g = (goal.at.returns-then-has c).After-covered-got in let all = in_union c.union-ends.ensures in (

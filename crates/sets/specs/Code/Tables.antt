@@ -51,16 +51,25 @@ pub record OwnRows (members table goes : List ℕ) (a z : ℕ) (old new : List �
   pub kept : (bs es : ℕ → ℕ) → InSpan (length members) a z bs es → ((i : ℕ) → i < length members → InTable table (member_node (get_or members i 0)) (bs i) (es i))
       → GoesHave (length members) goes bs → EndsHave (length members) old bs es → EndsHave (length members) new bs es
 
--- what filling the tables of a set for the moments a..z needs: tables that nothing is left out of, no bounds, and arrays of their length
+-- tables of these conditions and so many members, that nothing is left out of, with no bounds
+pub record UnprunedTables (cs : List ℕ) (members : ℕ) (t : Tables) : Type 0 where
+  pub conditions : t.conditions.now ≡ cs
+  pub count : t.count ≡ members
+  pub ends : Unpruned t.ends
+  pub goes : Unpruned t.goes
+  pub bounds : (q : ℕ) → get_or t.bounds q 0 ≡ 0
+
+-- but for the ends of i where j begins, and the begins of j where i begins, the tables are as they were
+abbrev pub SameElse : Tables → Tables → Type 0
+SameElse old new = new ≡ record old { ends = new.ends; goes = new.goes }
+
+-- what filling the tables of a set for the moments a..z needs
 pub record TablesReady (s : TaskSet) (table : List ℕ) (a z : ℕ) (t : Tables) : Type 0 where
   pub formed : Formed s
   pub rows : (i : ℕ) → i < member_count s → member s i * 64 + 64 ≤ length table
   pub forward : a ≤ z
   pub upto : z ≤ s.last
-  pub count : t.count ≡ member_count s
-  pub unpruned_ends : Unpruned t.ends
-  pub unpruned_goes : Unpruned t.goes
-  pub unbounded : (q : ℕ) → get_or t.bounds q 0 ≡ 0
+  pub unpruned : UnprunedTables s.conditions (member_count s) t
 
 -- what the tables of a set for the moments a..z say: by the masks and own rows the set reads as it does by R, and they have the begins and
 -- ends of each placement

@@ -4,14 +4,12 @@ use Prim.Native.Nat.{ℕ, ◌≤◌, ◌<◌}
 use mathlib.Core.Path.{refl, sym, subst}
 use native.Mathlib.Nat.{le_refl}
 use native.Mathlib.Omega.{arith}
-use lib.ListN.{length-map}
-use Rattle.words.specs.Fields.{member_node}
 use Rattle.bitset.specs.Code.Members.{In}
-use Rattle.bitset.proofs.In.{in_single, in_zero, empty_entry}
+use Rattle.bitset.proofs.In.{in_single, in_zero}
 use Rattle.covering.specs.Code.Cover.{entry_at}
 use Rattle.ending.specs.Code.Search.{ReadsWith}
 use Rattle.ending.proofs.Leaves.{ends_ready, top_ends}
-use Rattle.sets.proofs.Stored.{row-found, every-unpruned, no_begins}
+use Rattle.sets.proofs.Stored.{row-found, unpruned_of, filled_of, no_begins}
 use Rattle.sets.proofs.placing.place_by_tables.Goals as goal
 use Rattle.sets.proofs.placing.place_by_tables.Goals.{After-row, Start}
 
@@ -23,7 +21,7 @@ begins : (c : After-row) → let a = c.args in ReadsWith c.fill.new.tables a.b a
 begins c =
     let a = c.args in
     let g = c.row.ensures.0 in
-    let f = row-found _ c.row.result _ c.fill.ensures (le_refl a.b) refl refl g c.row.ensures.1 in
+    let f = row-found _ c.row.result _ (filled_of c.args.members.now c.args.values.now c.args.table.now c.unpruned-tables.ensures c.fill.ensures) (le_refl a.b) refl refl g c.row.ensures.1 in
     let found = f.finds a.e (le_refl a.e) ((in_single c.single.ensures a.e).1 refl) c.requires.rule in
     subst (λ (x : ℕ). ReadsWith c.fill.new.tables a.b x (entry_at c.row.result.begins))
     g.upto (g.begins (λ z. in_zero refl z) (subst (λ (x : ℕ). In c.row.result.ends x) (sym g.upto) found))
@@ -31,16 +29,8 @@ begins c =
 pub fill-requires : goal.fill-requires
 fill-requires c =
     let g = c.requires in
-    record {
-      formed = g.formed;
-      rows = g.rows;
-      forward = (moments (goal.at.fill-requires c).Start).0;
-      upto = (moments (goal.at.fill-requires c).Start).1;
-      count = sym (length-map c.args.members.now member_node);
-      unpruned_ends = every-unpruned c.from-every.result c.from-every.ensures;
-      unpruned_goes = every-unpruned c.from-every.result c.from-every.ensures;
-      unbounded = λ q. empty_entry 2052 q;
-    }
+    let m = moments (goal.at.fill-requires c).Start in
+    unpruned_of c.args.members.now c.args.values.now c.args.table.now c.unpruned-tables.ensures g.formed g.rows m.0 m.1
 
 pub single-requires : goal.single-requires
 single-requires c = omega (arith, moments (goal.at.single-requires c).Start)
@@ -59,6 +49,6 @@ greatest_ends-ends-requires c =
 pub returns : goal.returns
 returns c =
     let a = c.args in
-    let t = c.fill.ensures in
+    let t = filled_of c.args.members.now c.args.values.now c.args.table.now c.unpruned-tables.ensures c.fill.ensures in
     t.reads a.b a.e _ _ (le_refl a.b) (le_refl a.e)
     (top_ends t.ready c.ends_at-masks.ensures (begins (goal.at.returns c).After-row).masked c.greatest_ends-ends.ensures)

@@ -1,17 +1,16 @@
 -- `sets::rows::set_rows` meets its contract. The invariant: the rows before b are right. Assumes nothing.
 use Prim.Native.Nat.{ℕ, ◌+◌, ◌*◌, ◌≤◌, ◌<◌}
-use mathlib.Core.Path.{refl, sym}
+use mathlib.Core.Path.{refl}
 use mathlib.Core.Logic.{◌↔◌}
 use native.Mathlib.Omega.{arith}
 use native.Mathlib.Nat.{le_refl}
-use lib.ListN.{length, set, length-map}
-use Rattle.words.specs.Fields.{member_node}
+use lib.ListN.{length, set}
 use Rattle.bitset.specs.Code.Members.{In}
-use Rattle.bitset.proofs.In.{in_between, empty_entry}
+use Rattle.bitset.proofs.In.{in_between}
 use Rattle.model.specs.Code.Table.{InTable}
 use Rattle.sets.specs.Code.Set.{SetRule}
 use Rattle.sets.specs.Code.Rows.{task_set_of}
-use Rattle.sets.proofs.Stored.{RowsTo, no_rows_yet, rows_more, rows_done, ready_from, row-found, every-unpruned}
+use Rattle.sets.proofs.Stored.{RowsTo, no_rows_yet, rows_more, rows_done, ready_from, row-found, unpruned_of, filled_of}
 use Rattle.sets.proofs.rows.set_rows.Goals as goal
 use Rattle.sets.proofs.rows.set_rows.Goals.{After-row-found}
 
@@ -19,7 +18,7 @@ use Rattle.sets.proofs.rows.set_rows.Goals.{After-row-found}
 found : (c : After-row-found) (e : ℕ) → let a = c.args in
     In c.row-found.result.ends e ↔ SetRule (task_set_of a.members.now a.conds.now a.values.now a.n) (InTable a.table.now) c.loop-b.b e
 found c e =
-    let r = row-found _ c.row-found.result _ c.fill.ensures (omega arith) refl refl c.row-found.ensures.0 c.row-found.ensures.1 in
+    let r = row-found _ c.row-found.result _ (filled_of c.args.members.now c.args.values.now c.args.table.now c.unpruned-tables.ensures c.fill.ensures) (omega arith) refl refl c.row-found.ensures.0 c.row-found.ensures.1 in
     (r.reads e, λ h. let p = h.placing in r.finds e p.within ((in_between c.between-goal.ensures e).1 (p.onward, p.within)) h)
 
 -- the place of the row in the table
@@ -32,16 +31,7 @@ room c =
 pub fill-requires : goal.fill-requires
 fill-requires c =
     let g = c.requires in
-    record {
-      formed = g.formed;
-      rows = λ i l. omega (arith, g.lower i l, g.room);
-      forward = omega arith;
-      upto = le_refl _;
-      count = sym (length-map c.args.members.now member_node);
-      unpruned_ends = every-unpruned c.from-every.result c.from-every.ensures;
-      unpruned_goes = every-unpruned c.from-every.result c.from-every.ensures;
-      unbounded = λ q. empty_entry 2052 q;
-    }
+    unpruned_of c.args.members.now c.args.values.now c.args.table.now c.unpruned-tables.ensures g.formed (λ i l. omega (arith, g.lower i l, g.room)) (omega arith) (le_refl _)
 
 pub loop-b-init : goal.loop-b-init
 loop-b-init c = no_rows_yet

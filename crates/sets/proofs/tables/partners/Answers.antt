@@ -25,7 +25,7 @@ loop-y-preserved c =
     let a = c.args in
     let drop = in_without (turn.1.rest m turn.0) in
     λ y d e t p q r s u. ⊎_elim inl (λ v. by_cases (ℕ_discrete y m)
-    (λ k. not_both (c.together.ensures d e p (begun-at a.ends.now a.i a.j k q) (begun-at a.ends.now a.j a.j k r) s (begun-at a.goes.now a.j a.i k u)) c.if-together.false)
+    (λ k. not_both (c.together.ensures d e p (begun-at a.tables.now.ends a.i a.j k q) (begun-at a.tables.now.ends a.j a.j k r) s (begun-at a.tables.now.goes a.j a.i k u)) c.if-together.false)
     (λ k. inr ((drop y).1 (v, k)))) (c.loop-y.invariant y d e t p q r s u)
 
 pub returns : goal.returns
