@@ -2,25 +2,30 @@
 -- that starts in hand alone do. Assumes nothing.
 use mathlib.Core.Bool.{Bool, true, false, ◌&&◌}
 use mathlib.Core.List.{List, ◌∷◌}
-use mathlib.Core.Path.{◌≡◌, refl, sym, ◌∙◌}
+use mathlib.Core.Path.{◌≡◌, refl, ap, sym, ◌∙◌}
 use Prim.Native.Nat.{ℕ, ◌<◌, ◌≤◌}
 use native.Mathlib.Omega.{arith}
-use borrow.Author.Tests.{le-leb, le-ltb, lt-ltb, ltb-false}
-use lib.Dec.{eqb, leb, ltb}
+use borrow.Author.Tests.{le-leb, lt-ltb}
+use lib.Dec.{eqb, ltb}
+use lib.ListN.{length, get_or, take}
+use lib.Seq.{sets}
+use Rattle.std.proofs.lemmas.Grind.{get_or_default_zero}
 use Rattle.words.specs.Fields.{start_moment, start_action, start_word}
 use Rattle.words.specs.Scan.{any, filter}
+use Rattle.words.proofs.Copies.{sets_first}
 use Rattle.words.proofs.Choices.{both_true, same_test}
 use Rattle.words.proofs.Filter.{any-filter, each_filter, filter-agree}
 use Rattle.words.proofs.Scan.{any-agree}
-use Rattle.words.proofs.Lists.{each_map, each_with}
+use Rattle.words.proofs.Lists.{each_at, each_map, each_with}
 use Rattle.job.specs.Parts.{actions, last_moment, duration}
 use Rattle.job.specs.Code.WellFormed.{WellFormed}
 use Rattle.history.specs.Actions.{finish, in_hand}
 use Rattle.history.specs.Held.{held_at}
-use Rattle.history.specs.Code.Held.{unfinished_by}
+use Rattle.history.specs.Code.Held.{unfinished_by, Filtered}
 use Rattle.history.proofs.Held.{in_hand-true}
 use Rattle.history.proofs.Moments.{finish-tabled}
 use Rattle.starts.specs.Rows.{clash, together, clashing, over_limit}
+use Rattle.starts.specs.Code.Given.{Paired}
 use Rattle.starts.proofs.GroupLimits.{one_in_front}
 use Rattle.starts.proofs.Opposed.{together-later}
 use Rattle.starts.proofs.StartsFormed.{word_moment, word_action}
@@ -29,10 +34,6 @@ use Rattle.groups.specs.declared.Groups.{Groups}
 use Rattle.groups.proofs.GroupTable.{some_read}
 use Rattle.moves.specs.Trials.{busy}
 use Rattle.applicable.specs.Code.Given.{Facing, FacingAll}
-
-pub busy-read : (job : List ℕ) (u a s : ℕ) {x y z : ℕ} → x ≡ start_action s → y ≡ start_moment s → z ≡ finish job s
-    → busy job u a s ≡ (eqb x a && (leb y u && ltb u z))
-busy-read job u a s p q r = rw (p, q, r)
 
 -- the word of a new start
 module _ {job : List ℕ} {u a : ℕ} (formed : WellFormed job) (present : u ≤ last_moment job) (new : a < actions job) where
@@ -53,11 +54,30 @@ module _ {job durations effects : List ℕ} {s u a : ℕ} (given : Facing job du
   together-new =
       together-later job s (start_word u a) (rw at-now given.past) (omega (arith, lasts given.tables.formed given.present given.new)) (rw at-now given.present) ∙ rw at-now
 
-  pub clashing-over : finish job s ≤ u → clashing job s (start_word u a) ≡ false
-  clashing-over l = rw (together-new, le-ltb u (finish job s) l)
+  pub clashing-now : clashing job s (start_word u a) ≡ (ltb u (finish job s) && clash job (start_action s) a)
+  clashing-now = rw (together-new, of_a given.tables.formed given.present given.new)
 
-  pub clashing-yet : u < finish job s → clashing job s (start_word u a) ≡ clash job (start_action s) a
-  clashing-yet l = rw (together-new, lt-ltb u (finish job s) l, of_a given.tables.formed given.present given.new)
+-- its action and the new one, by what the code has read of them
+pub pair_of : {job durations effects : List ℕ} {s u a : ℕ} → Facing job durations effects s u a → {b : ℕ} → b ≡ start_action s → Paired job effects b a
+pair_of given e = record { formed = given.tables.formed; makes = given.tables.makes; first = rw e given.action; second = given.new }
+
+-- one of all starts of a plan
+pub facing_at : {job durations effects starts : List ℕ} {u a : ℕ} → FacingAll job durations effects starts u a → (i : ℕ) → i < length starts
+    → Facing job durations effects (get_or starts i 0) u a
+facing_at given i l = record { tables = given.tables; action = each_at given.action i l; past = each_at given.past i l; present = given.present; new = given.new }
+
+-- also of the start that the code has read there
+pub facing_read : {job durations effects starts : List ℕ} {u a : ℕ} → FacingAll job durations effects starts u a → {s : ℕ} (i : ℕ) → i < length starts → s ≡ get_or starts i s
+    → Facing job durations effects s u a
+facing_read {starts} given {s} i l e = rw (e ∙ get_or_default_zero starts i s l) (facing_at given i l)
+
+-- what the code has kept of a copy of some starts
+pub kept : (durations starts buffer : List ℕ) (u : ℕ) {copied held : List ℕ} {count : ℕ} → length starts ≤ length buffer → copied ≡ sets buffer 0 starts
+    → Filtered (unfinished_by durations u) (length starts) copied count held → take count held ≡ filter (unfinished_by durations u) starts
+kept durations starts buffer u few copy f =
+    f.words
+    ∙ ap (λ (l : List ℕ). filter (unfinished_by durations u) (take (length starts) l)) copy
+    ∙ ap (λ (l : List ℕ). filter (unfinished_by durations u) l) (sets_first buffer starts few)
 
 -- of all starts of a plan: only those in hand are of the same action in hand, or clash
 module _ {job durations effects starts : List ℕ} {u a : ℕ} (given : FacingAll job durations effects starts u a) where
@@ -96,7 +116,7 @@ module _ {job durations effects starts : List ℕ} {u a : ℕ} (given : FacingAl
 
           cases : (b : Bool) → ltb u (finish job s) ≡ b → (unfinished_by durations u s && clashing job s (start_word u a)) ≡ clashing job s (start_word u a)
           cases true e = rw (tabled s k, e)
-          cases false e = rw (tabled s k, e) (sym (clashing-over facing (ltb-false u (finish job s) e)))
+          cases false e = rw (tabled s k, e) (sym (clashing-now facing ∙ rw e))
 
   -- the unfinished ones are those in hand
   pub held_in_hand : filter (unfinished_by durations u) starts ≡ held_at job starts u

@@ -1,24 +1,25 @@
 -- Rows 6 to 10, 15 and 16 of a new start, one after the other, and the room that an accepted one has. Assumes nothing.
-use mathlib.Core.Bool.{Bool, true, false, not}
+use mathlib.Core.Bool.{Bool, true, false}
 use mathlib.Core.List.{List, [], ◌∷◌, ◌++◌}
 use mathlib.Core.Path.{◌≡◌, refl, ap, sym, ◌∙◌}
 use Prim.Native.Nat.{ℕ, ◌+◌, ◌*◌, ◌^◌, ◌<◌, ◌≤◌}
 use native.Mathlib.Omega.{arith}
 use lib.Dec.{leb, ltb}
 use lib.ListN.{length, get_or, take, drop}
+use Rattle.std.specs.Prelude.{⊤, Ok, Err}
 use Rattle.words.specs.Fields.{start_word}
 use Rattle.words.specs.Scan.{any}
 use Rattle.words.specs.Lists.{Each, Pairs}
 use Rattle.words.proofs.Lists.{each_of, each_at, small_at, pairs_of}
 use Rattle.words.proofs.Insert.{insert-length}
 use Rattle.answers.specs.declared.Refusal.{Refusal}
-use Rattle.answers.specs.Rows.{refusal, row, first_refusal, first_row}
+use Rattle.answers.specs.Rows.{refusal, passed, row, first_refusal, first_row, ruled}
 use Rattle.job.specs.Parts.{head_word, actions, last_moment, duration, laws_of}
 use Rattle.job.specs.Refusal.{job_refusal}
 use Rattle.job.specs.Code.WellFormed.{WellFormed, Indexed}
-use Rattle.answers.proofs.Rows.{or_none, or_assoc}
+use Rattle.answers.proofs.Rows.{or_none, or_refused, or_passed, or_assoc, ok-passed, err-refused}
 use Rattle.history.specs.Code.Tables.{Ruled}
-use Rattle.starts.specs.Rows.{clashing, may_start, over_limit, unmet, unmet_at, starts_refusal}
+use Rattle.starts.specs.Rows.{unmet, unmet_at, starts_refusal}
 use Rattle.starts.specs.Lawful.{Lawful}
 use Rattle.starts.specs.Code.Given.{StartsFormed, Recorded}
 use Rattle.starts.proofs.Needs.{needs_read}
@@ -27,7 +28,7 @@ use Rattle.starts.proofs.Lawful.{lawful}
 use Rattle.theory.specs.Answers.{plan_refusal}
 use Rattle.theory.specs.declared.Plan.{Plan}
 use Rattle.theory.proofs.Passing.{job_clear, plan_formed, actions-indexed}
-use Rattle.moves.specs.Trials.{Trial, Start, busy, new_start_rows, start_refusal}
+use Rattle.moves.specs.Trials.{Trial, Start, new_start_rows, start_refusal}
 use Rattle.moves.proofs.Passing.{Passing, lawful_few}
 use Rattle.moves.proofs.Played.{move_passes}
 use Rattle.applicable.specs.Code.Given.{FacingAll, Present, held_refusal, StartTested}
@@ -88,8 +89,12 @@ module _ {job starts : List ℕ} {u : ℕ} {plan : Plan} (given : Present job st
       let more = move_passes job present_formed T (Start a) passing e in
       omega (arith, lawful_few more.small more.lawful, insert-length (start_word u a) starts)
 
-  pub tested : {a : ℕ} {r : Refusal} → Each (λ s. s < 2 ^ 32) starts → r ≡ start_refusal job (record { moment = u; starts = starts }) a → StartTested job starts u a r
-  tested {a} small e = record { refusal = e; room = λ z. new_room a small (ap (λ (r : Refusal). r.number) (sym e) ∙ z) }
+  -- what a refused start gives, and one that is not refused
+  pub tested_err : (a : ℕ) {r : Refusal} → r ≡ start_refusal job (record { moment = u; starts = starts }) a → (r.number ≡ 0 → ⊥) → StartTested job starts u a (Err r)
+  tested_err a e h = (e, λ z. h (ap (λ (r : Refusal). r.number) e ∙ z))
+
+  pub tested_ok : (a : ℕ) → Each (λ s. s < 2 ^ 32) starts → (start_refusal job (record { moment = u; starts = starts }) a).number ≡ 0 → StartTested job starts u a (Ok (tt {0}))
+  tested_ok a small z = (z, new_room a small z)
 
 -- rows, and then one more
 last_row : (rs : List Refusal) (r : Refusal) → first_row (rs ++ (r ∷ [])) ≡ first_refusal (first_row rs) r
@@ -102,12 +107,6 @@ module _ (job starts : List ℕ) (u a : ℕ) where
   abbrev T : Trial
   T = record { moment = u; starts = starts }
 
-  -- past rows 8 and 9, of the answers that the code has read
-  pub held_rest : any (busy job u a) starts ≡ false → any (λ s. clashing job s (start_word u a)) starts ≡ false
-      → {outside over r : Refusal} {may full : Bool} → r ≡ first_refusal outside over → outside ≡ row (not may) 15 0 → may ≡ may_start job u a
-      → over ≡ row full 16 0 → full ≡ over_limit job (start_word u a ∷ starts) (start_word u a) → r ≡ held_refusal job starts u a
-  held_rest n8 n9 e eo em eg ef = e ∙ rw (eo, em, eg, ef, n8, n9)
-
   pub row-6 : leb (actions job) a ≡ true → refusal 6 0 ≡ start_refusal job (record { moment = u; starts = starts }) a
   unfolding start_refusal
   row-6 e = rw e
@@ -118,8 +117,25 @@ module _ (job starts : List ℕ) (u a : ℕ) where
     row-7 e = rw (n6, e)
 
     module _ (n7 : ltb (last_moment job) (u + duration job a) ≡ false) where
-      -- rows 8, 9, 15 and 16, and then row 10, of the answers that the code has read
-      pub rows_rest : {held needs r : Refusal} {unmet : Bool} → r ≡ first_refusal held needs → held ≡ held_refusal job starts u a
-          → needs ≡ row unmet 10 0 → unmet ≡ unmet_at job starts u a → r ≡ start_refusal job (record { moment = u; starts = starts }) a
+      -- rows 8, 9, 15 and 16, and then row 10
+      abbrev held : Refusal
+      held = held_refusal job starts u a
+
+      then_held : start_refusal job (record { moment = u; starts = starts }) a ≡ first_refusal held (row (unmet_at job starts u a) 10 0)
       unfolding start_refusal
-      rows_rest e eh en eu = e ∙ rw (eh, en, eu, n6, n7) (sym (last_row (take 4 (drop 2 (new_start_rows job T a))) (row (unmet_at job starts u a) 10 0)))
+      then_held = rw (n6, n7) (last_row (take 4 (drop 2 (new_start_rows job T a))) (row (unmet_at job starts u a) 10 0))
+
+      pub row_held : {e : Refusal} → Err e ≡ ruled (held_refusal job starts u a) (tt {0}) → (e ≡ start_refusal job (record { moment = u; starts = starts }) a) × (e.number ≡ 0 → ⊥)
+      row_held h =
+          let p = err-refused held (tt {0}) h in
+          (p.1 ∙ or_refused held _ p.0 ∙ sym then_held, λ z. p.0 (ap (λ (r : Refusal). r.number) (sym p.1) ∙ z))
+
+      module _ {x : ⊤} (ok : Ok x ≡ ruled (held_refusal job starts u a) (tt {0})) where
+        rest : start_refusal job (record { moment = u; starts = starts }) a ≡ row (unmet_at job starts u a) 10 0
+        rest = then_held ∙ sym (or_passed held _ (ok-passed held (tt {0}) ok).0)
+
+        pub row-10 : unmet_at job starts u a ≡ true → refusal 10 0 ≡ start_refusal job (record { moment = u; starts = starts }) a
+        row-10 e = sym (rest ∙ rw e)
+
+        pub no_row : unmet_at job starts u a ≡ false → (start_refusal job (record { moment = u; starts = starts }) a).number ≡ 0
+        no_row e = let clear : start_refusal job (record { moment = u; starts = starts }) a ≡ passed = rest ∙ rw e in ap (λ (r : Refusal). r.number) clear

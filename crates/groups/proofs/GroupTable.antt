@@ -1,12 +1,12 @@
 -- The groups of a job, one word of it after the other, and what their tables tell of a start. Assumes nothing.
-use mathlib.Core.Bool.{Bool, true, false, not, cond, ◌&&◌, ◌||◌, or_comm}
-use mathlib.Core.List.{List}
+use mathlib.Core.Bool.{Bool, true, false, cond, ◌&&◌, ◌||◌, or_comm}
+use mathlib.Core.List.{List, [], ◌∷◌}
 use mathlib.Core.Logic.{by_cases}
 use mathlib.Core.Path.{◌≡◌, refl, ap, sym, ◌∙◌}
-use Prim.Native.Nat.{ℕ, ◌+◌, ◌<◌}
+use Prim.Native.Nat.{ℕ, zero, suc, ◌+◌, ◌<◌}
 use native.Mathlib.Decide.{ℕ_discrete, dec_lt}
 use native.Mathlib.Omega.{arith}
-use borrow.Author.Tests.{not-false, eqb-true, eq-eqb, ne_eqb, le-leb, lt-leb, le-ltb, lt-ltb}
+use borrow.Author.Tests.{eqb-true, eq-eqb, ne_eqb, le-leb, lt-leb, le-ltb, lt-ltb}
 use lib.Dec.{eqb, leb, ltb}
 use lib.ListN.{length, get_or, drop, set, replicate, length-set}
 use lib.Seq.{get_or-set_same, get_or-set_other}
@@ -14,8 +14,9 @@ use Rattle.bitset.specs.Code.Members.{has, IsSetOf}
 use Rattle.bitset.proofs.Digits.{has-zero}
 use Rattle.bitset.proofs.In.{empty_entry}
 use Rattle.words.specs.Fields.{kind, start_moment, start_action, group_number, group_limit, group_action}
-use Rattle.words.specs.Scan.{any, any_below, find_or}
-use Rattle.words.proofs.AnyBelow.{some_none, none_below, some_cong}
+use Rattle.words.specs.Scan.{any, every, find_or}
+use Rattle.words.proofs.Choices.{both_true}
+use Rattle.words.proofs.AnyBelow.{some_none, some_cong}
 use Rattle.words.proofs.Filter.{filter-agree}
 use Rattle.words.proofs.Lists.{each_of}
 use Rattle.words.proofs.Scan.{drop-next, gives_end, any-end}
@@ -85,6 +86,12 @@ module _ (w : ℕ) (table : List ℕ) where
       cases g a (yes e) = rw (e, eq-eqb x x refl, get_or-set_same table x sum 0 l, is_sum a, is_one a) (or_comm (has (get_or table x 0) a) (eqb a b))
       cases g a (no n) = rw (ne_eqb g x n, get_or-set_other table x g sum 0 n)
 
+-- an entry of a table of which each passes, and 0 does
+every-entry : (test : ℕ → Bool) (ws : List ℕ) (i : ℕ) → every test ws ≡ true → test 0 ≡ true → test (get_or ws i 0) ≡ true
+every-entry test [] i e z = z
+every-entry test (w ∷ ws) zero e z = (both_true (test w) (every test ws) e).0
+every-entry test (w ∷ ws) (suc i) e z = every-entry test ws i (both_true (test w) (every test ws) e).1 z
+
 -- a start s beside the starts S in hand at its moment: a group has no room for it exactly where it exceeds the limit with them
 module _ {job : List ℕ} {groups : Groups} (table : GroupTable job groups) where
   full_read : (g : ℕ) → g < 8 → (s : ℕ) → 0 < duration job (start_action s) → {S C : List ℕ} → OneMore job (in_group job g) s S C
@@ -122,11 +129,11 @@ module _ {job : List ℕ} {groups : Groups} (table : GroupTable job groups) wher
   some_read s lasts more eh ea = rw (eh, ea) (some_cong _ _ 8 (λ g l. full_read g l s lasts (more (in_group job g))))
 
   -- where no group has an action, none is over its limit
-  pub empty_clear : any_below (λ g. not (eqb (get_or groups.members g 0) 0)) 8 ≡ false → (C : List ℕ) (s : ℕ) → over_limit job C s ≡ false
+  pub empty_clear : every (λ m. eqb m 0) groups.members ≡ true → (C : List ℕ) (s : ℕ) → over_limit job C s ≡ false
   unfolding over_limit
   empty_clear e C s = some_none _ 8 (λ g l. rw (none g l))
     where
       none : (g : ℕ) → g < 8 → in_group job g (start_action s) ≡ false
       none g l =
-          let z : get_or groups.members g 0 ≡ 0 = eqb-true _ 0 (not-false _ (none_below _ 8 e g l)) in
+          let z : get_or groups.members g 0 ≡ 0 = eqb-true _ 0 (every-entry (λ m. eqb m 0) groups.members g e refl) in
           sym (table.members g l (start_action s)) ∙ rw z (has-zero (start_action s))

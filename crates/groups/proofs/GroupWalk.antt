@@ -10,7 +10,6 @@ use lib.ListN.{length, get_or, take, set, replicate, length-set}
 use lib.Seq.{get_or-take, length-take-le, take-suc, take-suc-set}
 use Rattle.words.specs.Fields.{start_moment, start_action}
 use Rattle.words.specs.Lists.{Each, each_none}
-use Rattle.words.specs.Scan.{filter}
 use Rattle.words.proofs.Lists.{each_of, each_map, each_with, each_last, pairs-at}
 use Rattle.words.proofs.Filter.{filter-agree, filter-hit, each_filter, each_kept}
 use Rattle.job.specs.Parts.{actions, duration}

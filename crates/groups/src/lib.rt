@@ -1,17 +1,17 @@
 // Row 16: groups that exceed their limit.
 #![tactic(auto)]
 
-ghost use Rattle.std.specs.Prelude.{true, not, ◌≡◌, ℕ, ◌<◌, ◌≤◌, eqb, length, get_or, take};
+ghost use Rattle.std.specs.Prelude.{true, ◌≡◌, ℕ, ◌<◌, ◌≤◌, eqb, length, get_or, take};
 ghost use Rattle.words.specs.Fields.{kind, group_number};
-ghost use Rattle.words.specs.Scan.{any_below};
+ghost use Rattle.words.specs.Scan.{every};
 ghost use Rattle.words.specs.Lists.{Each};
-ghost use Rattle.answers.specs.Rows.{first_of};
+ghost use Rattle.answers.specs.Rows.{first_of, ruled};
 ghost use Rattle.job.specs.Code.WellFormed.{WellFormed};
 ghost use Rattle.history.specs.Code.Held.{unfinished_by, Filtered};
 ghost use Rattle.starts.specs.Rows.{group_exceeded, numbered};
 ghost use Rattle.groups.specs.Code.GroupTable.{GroupTable, LimitStored, MemberStored, held_of, is_full, some_full, Grouped};
 
-use answers::{GROUP_OVER_LIMIT, Refusal, none, refuse};
+use answers::{GROUP_OVER_LIMIT, Refusal, refuse};
 use bitset::{has, single, union};
 use history::keep_unfinished;
 use words::*;
@@ -51,10 +51,7 @@ pub fn groups_of(job: &[u32]) -> Groups
 {
     let mut limits = [0usize; GROUPS];
     let mut members = [0u64; GROUPS];
-    let mut i = job.len();
-    while 0 < i {
-        i -= 1;
-        let w = job[i];
+    for &w in job.iter().rev() {
         store_limit(w, &mut limits);
         store_member(w, &mut members);
     }
@@ -65,15 +62,9 @@ pub fn groups_of(job: &[u32]) -> Groups
 fn held_of(members: u64, held: &[u32]) -> usize
     ensures { result ≡ held_of members held.now }
 {
-    let mut n = 0;
-    let mut i = 0;
-    while i < held.len() {
-        if has(members, start_action(held[i]) as u32) {
-            n += 1;
-        }
-        i += 1;
-    }
-    n
+    held.iter()
+        .filter(|&&s| has(members, start_action(s) as u32))
+        .count()
 }
 
 // Returns whether a group, by its limit and the set of its actions, has no room for a start of action `a` beside those in hand.
@@ -81,39 +72,24 @@ fn is_full(limit: usize, members: u64, held: &[u32], a: usize) -> bool
     requires { a < 64 }
     ensures { result ≡ is_full limit members held.now a }
 {
-    if !has(members, a as u32) {
-        return false;
-    }
-    limit <= held_of(members, held)
+    has(members, a as u32) && limit <= held_of(members, held)
 }
 
-// Returns whether some group has no room for a start of action `a` beside those in hand.
-pub fn some_full(limits: &[usize; GROUPS], members: &[u64; GROUPS], held: &[u32], a: usize) -> bool
-    requires { a < 64 }
-    ensures { result ≡ some_full limits.now members.now held.now a }
-{
-    let mut g = 0;
-    while g < GROUPS {
-        if is_full(limits[g], members[g], held, a) {
-            return true;
-        }
-        g += 1;
+impl Groups {
+    // Returns whether some group has no room for a start of action `a` beside those in hand.
+    pub fn some_full(&self, held: &[u32], a: usize) -> bool
+        requires { a < 64 }
+        ensures { result ≡ some_full self.now.limits self.now.members held.now a }
+    {
+        (0..GROUPS).any(|g| is_full(self.limits[g], self.members[g], held, a))
     }
-    false
-}
 
-// Returns whether no group has an action.
-fn all_empty(members: &[u64; GROUPS]) -> bool
-    ensures { result ≡ not (any_below (λ g. not (eqb (get_or members.now g 0) 0)) 8) }
-{
-    let mut g = 0;
-    while g < GROUPS {
-        if members[g] != 0 {
-            return false;
-        }
-        g += 1;
+    // Returns whether no group has an action.
+    fn all_empty(&self) -> bool
+        ensures { result ≡ every (λ m. eqb m 0) self.now.members }
+    {
+        self.members.iter().all(|&m| m == 0)
     }
-    true
 }
 
 // Keeps of the first `count` starts, which all finish after moment `t`, those that finish after moment `u`, which is not before `t`.
@@ -139,32 +115,27 @@ fn keep_from(
 pub fn over_limit(
     job: &[u32],
     durations: &[usize; ACTIONS],
-    groups: Groups,
+    groups: &Groups,
     starts: &[u32],
-) -> Refusal
-    requires { Grouped job.now durations.now starts.now groups }
-    ensures { result ≡ first_of (numbered 16 (group_exceeded job.now starts.now)) (length starts.now) }
+) -> Result<(), Refusal>
+    requires { Grouped job.now durations.now starts.now groups.now }
+    ensures { result ≡ ruled (first_of (numbered 16 (group_exceeded job.now starts.now)) (length starts.now)) tt }
 {
-    let limits = groups.limits;
-    let members = groups.members;
-    if all_empty(&members) {
-        return none();
+    if groups.all_empty() {
+        return Ok(());
     }
     let mut held = [0u32; MOST_STARTS];
     let mut count = 0;
     let mut t = 0;
-    let mut i = 0;
-    while i < starts.len() {
-        let s = starts[i];
+    for (i, &s) in starts.iter().enumerate() {
         let u = start_moment(s);
         count = keep_from(durations, t, u, &mut held, count);
-        if some_full(&limits, &members, &held[..count], start_action(s)) {
-            return refuse(GROUP_OVER_LIMIT, i);
+        if groups.some_full(&held[..count], start_action(s)) {
+            return Err(refuse(GROUP_OVER_LIMIT, i));
         }
         held[count] = s;
         count += 1;
         t = u;
-        i += 1;
     }
-    none()
+    Ok(())
 }

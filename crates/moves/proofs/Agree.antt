@@ -19,7 +19,7 @@ use Rattle.words.proofs.Insert.{each_insert, pairs-insert, order_insert}
 use Rattle.answers.specs.declared.Refusal.{Refusal}
 use Rattle.answers.specs.Rows.{row, first_refusal, first_row, first_of}
 use Rattle.answers.proofs.Range.{first_all}
-use Rattle.answers.proofs.Rows.{or_passed}
+use Rattle.answers.proofs.Rows.{or_refused, or_passed}
 use Rattle.job.specs.Parts.{actions, last_moment, duration, limit_of, in_group}
 use Rattle.job.specs.Refusal.{job_refusal}
 use Rattle.job.specs.Code.WellFormed.{WellFormed}
@@ -27,7 +27,7 @@ use Rattle.job.proofs.WellFormed.{well_formed}
 use Rattle.history.specs.Actions.{finish}
 use Rattle.history.specs.Held.{Ascending}
 use Rattle.starts.specs.Rows.{is_start, wrong_word, ends_late, restarts, in_hand_already, clashing, clashes, may_start, outside_windows, over_limit, group_exceeded, unmet_at, needs_unmet, numbered, rows_refusal, starts_refusal}
-use Rattle.starts.proofs.Rows.{NoneFits, no_row, and_row, none_rows, row-clear, rows_last, rows_found, rows_next}
+use Rattle.starts.proofs.Rows.{NoneFits, no_row, and_row, none_rows, row-clear, rows_last}
 use Rattle.starts.proofs.StartsFormed.{right_of, word_is, word_moment, word_action, is_start-at, words_formed, ascending}
 use Rattle.starts.proofs.GroupLimits.{rows_keep, keeps_rows, start_keeps, keeps_start}
 use Rattle.starts.proofs.Needs.{unmet-before}
@@ -77,11 +77,11 @@ same_number {n} (beside {b} {number} {test} {rs} {rest} positive alike later) = 
     cases true e ih =
         let found : (first_of (numbered number test) n).number ≡ 0 → ⊥ = λ z. true≢false (sym e ∙ alike.from (row-clear number test n positive z)) in
         rw (ne_eqb number 0 (λ z. omega arith))
-        (sym (own_number number test n found) ∙ ap (λ (r : Refusal). r.number) (rows_found number test n rest refl found))
+        (sym (own_number number test n found) ∙ ap (λ (r : Refusal). r.number) (or_refused (first_of (numbered number test) n) (rows_refusal rest n) found))
     cases false e ih =
         let none : NoneFits n ((number, test) ∷ []) = and_row (alike.to e) no_row in
         let clear : (first_of (numbered number test) n).number ≡ 0 = ap (λ (r : Refusal). r.number) (rows_last number test n) ∙ none_rows none in
-        ih e ∙ ap (λ (r : Refusal). r.number) (rows_next number test n rest refl clear refl)
+        ih e ∙ ap (λ (r : Refusal). r.number) (or_passed (first_of (numbered number test) n) (rows_refusal rest n) clear)
 
 -- what is so of each word of a list with w put in is so of w
 module _ {P : ℕ → Type 0} (w : ℕ) where

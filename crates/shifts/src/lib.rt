@@ -2,14 +2,14 @@
 #![tactic(auto)]
 
 ghost use Rattle.std.specs.Prelude.{not, ◌||◌, ◌≡◌, ◌<◌, length, get_or};
-ghost use Rattle.answers.specs.Rows.{first_of};
+ghost use Rattle.answers.specs.Rows.{first_of, ruled};
 ghost use Rattle.bitset.specs.Code.Members.{has, IsSetOf};
 ghost use Rattle.history.specs.Code.Tables.{Durations};
 ghost use Rattle.starts.specs.Rows.{inside_window, outside_windows, numbered};
 ghost use Rattle.starts.specs.Code.Given.{StartsFormed};
 ghost use Rattle.shifts.specs.Code.ShiftSets.{ShiftTable};
 
-use answers::{Refusal, START_OUTSIDE_WINDOWS, none, refuse};
+use answers::{Refusal, START_OUTSIDE_WINDOWS, refused_at};
 use bitset::{between, has, single, union};
 use words::*;
 
@@ -38,10 +38,7 @@ pub fn shifts_of(job: &[u32], durations: &[usize; ACTIONS]) -> Shifts
 {
     let mut windowed: u64 = 0;
     let mut inside = [0u64; ACTIONS];
-    let mut i = job.len();
-    while 0 < i {
-        i -= 1;
-        let w = job[i];
+    for &w in job.iter().rev() {
         if kind_of(w) == SHIFT_WINDOW {
             let a = shift_window_action(w);
             windowed = union(windowed, single(a as u32));
@@ -51,28 +48,25 @@ pub fn shifts_of(job: &[u32], durations: &[usize; ACTIONS]) -> Shifts
     Shifts { windowed, inside }
 }
 
-// Returns whether action `a` may start at moment `u`, by its shift windows.
-pub fn may_start(windowed: u64, inside: &[u64; ACTIONS], u: usize, a: usize) -> bool
-    requires { (u < 64) × (a < 64) }
-    ensures { result ≡ (not (has windowed a) || has (get_or inside.now a 0) u) }
-{
-    !has(windowed, a as u32) | has(inside[a], u as u32)
+impl Shifts {
+    // Returns whether action `a` may start at moment `u`, by its shift windows.
+    pub fn may_start(&self, u: usize, a: usize) -> bool
+        requires { (u < 64) × (a < 64) }
+        ensures { result ≡ (not (has self.now.windowed a) || has (get_or self.now.inside a 0) u) }
+    {
+        !has(self.windowed, a as u32) | has(self.inside[a], u as u32)
+    }
 }
 
 // Row 15: refuses the first start outside the shift windows of its action.
-pub fn outside_windows(job: &[u32], shifts: Shifts, starts: &[u32]) -> Refusal
-    requires { ShiftTable job.now shifts × StartsFormed job.now starts.now }
-    ensures { result ≡ first_of (numbered 15 (outside_windows job.now starts.now)) (length starts.now) }
+pub fn outside_windows(job: &[u32], shifts: &Shifts, starts: &[u32]) -> Result<(), Refusal>
+    requires { ShiftTable job.now shifts.now × StartsFormed job.now starts.now }
+    ensures { result ≡ ruled (first_of (numbered 15 (outside_windows job.now starts.now)) (length starts.now)) tt }
 {
-    let windowed = shifts.windowed;
-    let inside = shifts.inside;
-    let mut i = 0;
-    while i < starts.len() {
-        let s = starts[i];
-        if !may_start(windowed, &inside, start_moment(s), start_action(s)) {
-            return refuse(START_OUTSIDE_WINDOWS, i);
-        }
-        i += 1;
-    }
-    none()
+    refused_at(
+        START_OUTSIDE_WINDOWS,
+        starts
+            .iter()
+            .position(|&s| !shifts.may_start(start_moment(s), start_action(s))),
+    )
 }

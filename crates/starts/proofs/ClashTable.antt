@@ -10,7 +10,10 @@ use borrow.Author.Tests.{ltb-true}
 use lib.Dec.{eqb, ltb}
 use lib.ListN.{length, get_or, set, replicate, length-set, length-replicate}
 use lib.Seq.{get_or-set_same, get_or-set_other}
+use Rattle.std.specs.List.{range_with_len}
 use Rattle.words.specs.Tests.{indicator}
+use Rattle.words.specs.Scan.{any, any_below}
+use Rattle.words.proofs.AnyBelow.{some_cong, any-range}
 use Rattle.words.proofs.Entries.{entry_set, entries_alike}
 use Rattle.job.specs.Parts.{fluents, actions}
 use Rattle.job.specs.Code.WellFormed.{WellFormed}
@@ -39,6 +42,12 @@ clash_read {job} {latest} {table} {b} given u a l = cases (ltb u (get_or latest 
     cases true e =
         let finish = ltb-true u (get_or latest a 0) e in
         clash-swap job a b ∙ rw (given.told a l (omega arith)) (sym (is_one (clash job b a)))
+
+-- so does a search of all actions
+pub clash_sought : {job latest table : List ℕ} {b : ℕ} → Compared job latest table b → (u : ℕ)
+    → any (λ a. ltb u (get_or latest a 0) && eqb (get_or table (b * 64 + a) 0) 1) (range_with_len 0 (actions job)) ≡ any_below (clashes_after job latest b u) (actions job)
+clash_sought {job} {latest} {table} {b} given u =
+    any-range _ (actions job) ∙ some_cong _ _ (actions job) (λ a l. sym (clash_read given u a l))
 
 -- a store of what is so
 module _ {job : List ℕ} (formed : WellFormed job) {a b v : ℕ} (ha : a < actions job) (hb : b < actions job) (ev : v ≡ indicator (clash job a b))

@@ -5,12 +5,13 @@ use mathlib.Core.Path.{◌≡◌, refl, ap, sym, ◌∙◌}
 use Prim.Native.Nat.{ℕ, zero, suc, ◌+◌, ◌≤◌, ◌<◌}
 use native.Mathlib.Omega.{arith}
 use borrow.Author.Tests.{ltb-true, eq-eqb, ne_eqb}
+use Rattle.std.specs.Prelude.{⊤, Result, Ok, Err, position}
 use lib.Dec.{eqb, ltb}
-use lib.ListN.{length, take, drop}
+use lib.ListN.{length, get_or, take, drop}
 use Rattle.words.proofs.Choices.{both_true}
 use Rattle.answers.specs.declared.Refusal.{Refusal}
-use Rattle.answers.specs.Rows.{refusal, passed, first_refusal, refusal_at, first_of}
-use Rattle.answers.proofs.Rows.{or_none, first_start, first_more, first_found, first_none, or_assoc}
+use Rattle.answers.specs.Rows.{refusal, passed, first_refusal, refusal_at, first_of, ruled, refused_at}
+use Rattle.answers.proofs.Rows.{or_none, or_refused, or_passed, or_assoc, first_start, first_more, first_found, first_none, ruled-refused, ok-passed, err-refused, position-first}
 use Rattle.starts.specs.Rows.{outside_windows, group_exceeded, needs_unmet, start_rows, numbered, rows_refusal, starts_refusal}
 use Rattle.starts.specs.Code.Given.{time_rows}
 
@@ -26,13 +27,26 @@ module _ {number : ℕ} {test : ℕ → Bool} {n : ℕ} where
   pub tried_more : {i : ℕ} → Tried number test n i → i < n → test i ≡ false → Tried number test n (i + 1)
   tried_more {i} p l e = record { inside = omega arith; none = first_more (numbered number test) i p.none (rw e) }
 
-  pub tried_found : {i : ℕ} → Tried number test n i → 0 < number → i < n → test i ≡ true → refusal number i ≡ first_of (numbered number test) n
+  pub tried_found : {i : ℕ} → Tried number test n i → 0 < number → i < n → test i ≡ true → Err (refusal number i) ≡ ruled (first_of (numbered number test) n) (tt {0})
   tried_found {i} p k l e =
       let same : numbered number test i ≡ number = rw e in
-      sym (rw same at (first_found (numbered number test) i n p.none (λ z. omega arith) l))
+      let found : first_of (numbered number test) n ≡ refusal number i = rw same at (first_found (numbered number test) i n p.none (λ z. omega arith) l) in
+      rw found (sym (ruled-refused (refusal number i) (tt {0}) (λ z. omega arith)))
 
-  pub tried_end : {i : ℕ} → Tried number test n i → n ≤ i → passed ≡ first_of (numbered number test) n
-  tried_end {i} p l = let e : i ≡ n = omega (arith, p.inside) in rw (← e) (sym p.none)
+  pub tried_end : {i : ℕ} → Tried number test n i → n ≤ i → Ok (tt {0}) ≡ ruled (first_of (numbered number test) n) (tt {0})
+  tried_end {i} p l = let e : i ≡ n = omega (arith, p.inside) in rw (← e, p.none)
+
+-- a row that tests each word alone, by the library's search for the first that it fits
+first-agree : (f g : ℕ → ℕ) (n : ℕ) → ((i : ℕ) → i < n → f i ≡ g i) → first_of f n ≡ first_of g n
+unfolding first_of
+first-agree f g zero h = refl
+first-agree f g (suc n) h = rw (first-agree f g n (λ i l. h i (omega arith)), h n (omega arith))
+
+pub row-sought : (number : ℕ) (row test : ℕ → Bool) (ws : List ℕ) → 0 < number → ((i : ℕ) → i < length ws → row i ≡ test (get_or ws i 0))
+    → refused_at number (position test ws) ≡ ruled (first_of (numbered number row) (length ws)) (tt {0})
+row-sought number row test ws k h =
+    position-first number test ws k
+    ∙ ap (λ (r : Refusal). ruled r (tt {0})) (first-agree _ _ (length ws) (λ i l. ap (λ (t : Bool). cond t number 0) (sym (h i l))))
 
 module _ (number : ℕ) (test : ℕ → Bool) where
   -- a row with no number fits no word, and the other way round
@@ -71,15 +85,19 @@ unfolding rows_refusal
 none_rows no_row = refl
 none_rows (and_row {row} h rest) = rw (clear_row row.0 row.1 _ h) (none_rows rest)
 
--- rows one after the other: the first of them, whose answer is r, fits a word; it fits none; it is the last
-module _ (number : ℕ) (test : ℕ → Bool) (n : ℕ) (rest : List (ℕ × (ℕ → Bool))) {r : Refusal} (is : r ≡ first_of (numbered number test) n) where
-  pub rows_found : (r.number ≡ 0 → ⊥) → r ≡ rows_refusal ((number, test) ∷ rest) n
-  unfolding rows_refusal
-  rows_found h = rw (← is, ne_eqb r.number 0 h)
+-- rows one after the other: the first of them fits a word; it fits none; it is the last
+module _ (number : ℕ) (test : ℕ → Bool) (n : ℕ) (rest : List (ℕ × (ℕ → Bool))) where
+  abbrev first : Refusal
+  first = first_of (numbered number test) n
 
-  pub rows_next : r.number ≡ 0 → {later : Refusal} → later ≡ rows_refusal rest n → later ≡ rows_refusal ((number, test) ∷ rest) n
+  pub rows_found : {e : Refusal} → Err e ≡ ruled (first_of (numbered number test) n) (tt {0}) → Err e ≡ ruled (rows_refusal ((number, test) ∷ rest) n) (tt {0})
   unfolding rows_refusal
-  rows_next h e = rw (← is, eq-eqb r.number 0 h) e
+  rows_found h = h ∙ ap (λ (r : Refusal). ruled r (tt {0})) (or_refused first (rows_refusal rest n) (err-refused first (tt {0}) h).0)
+
+  pub rows_next : {x : ⊤} → Ok x ≡ ruled (first_of (numbered number test) n) (tt {0}) → {later : Result ⊤ Refusal} → later ≡ ruled (rows_refusal rest n) (tt {0})
+      → later ≡ ruled (rows_refusal ((number, test) ∷ rest) n) (tt {0})
+  unfolding rows_refusal
+  rows_next h e = e ∙ ap (λ (r : Refusal). ruled r (tt {0})) (or_passed first (rows_refusal rest n) (ok-passed first (tt {0}) h).0)
 
 module _ (number : ℕ) (test : ℕ → Bool) (n : ℕ) where
   pub rows_last : first_of (numbered number test) n ≡ rows_refusal ((number, test) ∷ []) n

@@ -5,6 +5,7 @@ use mathlib.Core.Path.{◌≡◌, refl}
 use Prim.Native.Nat.{ℕ, zero, suc, ◌+◌, ◌-◌, ◌^◌, ◌≤◌, ◌<◌}
 use native.Mathlib.Decide.{dec_lt}
 use native.Mathlib.Omega.{arith}
+use Rattle.std.specs.Prelude.{⊤, Ok}
 use borrow.Author.Tests.{not-false, eqb-true, leb-true, ltb-true, lt-ltb, ne_eqb}
 use lib.Dec.{eqb}
 use lib.ListN.{length, get_or, drop}
@@ -18,10 +19,10 @@ use Rattle.history.specs.Code.Tables.{Durations, tabled_finish, Named}
 use Rattle.history.specs.Held.{Ascending}
 use Rattle.history.proofs.Moments.{finish-tabled}
 use Rattle.answers.specs.declared.Refusal.{Refusal}
-use Rattle.answers.specs.Rows.{first_of}
-use Rattle.answers.proofs.Rows.{or_none}
+use Rattle.answers.specs.Rows.{first_of, ruled}
+use Rattle.answers.proofs.Rows.{or_none, ok-passed}
 use Rattle.starts.specs.Rows.{is_start, ascends, wrong_word, start_rows, numbered, rows_refusal, starts_refusal}
-use Rattle.starts.specs.Code.Given.{time_rows, StartsFormed}
+use Rattle.starts.specs.Code.Given.{time_rows, StartsFormed, Tabled, Timed}
 use Rattle.starts.proofs.Rows.{row-clear}
 
 -- what a right word says
@@ -72,9 +73,13 @@ words_formed {job} {starts} words order = record { right = λ i l. rw (each_at w
         let same : suc i - 1 ≡ i = omega arith in
         rw (ne_eqb (suc i) 0 (λ z. omega arith), same) (lt-ltb _ _ (pairs-at order (suc i) i (omega arith) l))
 
--- once row 6 gives no number, alone, before others, before rows 7 to 9, before all others
+-- once row 6 gives no number, alone (also as its function's result), before others, before rows 7 to 9, before all others
 pub row-passed : {job starts : List ℕ} {r : Refusal} → r ≡ first_of (numbered 6 (wrong_word job starts)) (length starts) → r.number ≡ 0 → StartsFormed job starts
 row-passed {job} {starts} is e = record { right = row-clear 6 (wrong_word job starts) (length starts) (omega arith) (rw is at e) }
+
+pub timed : {job durations effects starts : List ℕ} → Tabled job durations effects → {x : ⊤} → Ok x ≡ ruled (first_of (numbered 6 (wrong_word job starts)) (length starts)) (tt {0})
+    → Timed job durations starts
+timed given e = record { formed = given.formed; lasts = given.lasts; words = row-passed refl (ok-passed _ (tt {0}) e).0 }
 
 rows_passed : {job starts : List ℕ} (rest : List (ℕ × (ℕ → Bool))) → (rows_refusal ((6, wrong_word job starts) ∷ rest) (length starts)).number ≡ 0 → StartsFormed job starts
 unfolding rows_refusal

@@ -1,14 +1,14 @@
 // Row 9: starts that clash.
 ghost use Rattle.std.specs.Prelude.{◌≡◌, length};
 ghost use Rattle.words.specs.Scan.{any_below};
-ghost use Rattle.answers.specs.Rows.{first_of};
+ghost use Rattle.answers.specs.Rows.{first_of, ruled};
 ghost use Rattle.job.specs.Parts.{actions};
 ghost use Rattle.history.specs.Code.Tables.{Effects};
 ghost use Rattle.starts.specs.Rows.{clash, clashes, numbered};
 ghost use Rattle.starts.specs.Code.Latest.{PairStored, ClashesWith, clashes_after};
 ghost use Rattle.starts.specs.Code.Given.{Timed, Paired, PairStorable, Comparable, Compared};
 
-use answers::{Refusal, START_CLASHES, none, refuse};
+use answers::{Refusal, START_CLASHES, refuse};
 use history::finish_of;
 use words::*;
 
@@ -19,12 +19,10 @@ pub fn has_clash(job: &[u32], effects: &[u8; EFFECTS], a: usize, b: usize) -> bo
 {
     let n = fluents_of(job[0]);
     let mut found = false;
-    let mut f = 0;
-    while f < n {
+    for f in 0..n {
         let x = effects[a * FLUENTS + f];
         let y = effects[b * FLUENTS + f];
         found |= ((x == HOLDS) & (y == FAILS)) | ((x == FAILS) & (y == HOLDS));
-        f += 1;
     }
     found
 }
@@ -60,12 +58,10 @@ fn compare_action(
         return;
     }
     let n = actions_of(job[0]);
-    let mut b = 0;
-    while b < n {
+    for b in 0..n {
         if 0 < latest[b] {
             store_pair(job, effects, a, b, table);
         }
-        b += 1;
     }
 }
 
@@ -81,14 +77,7 @@ fn clashes_after(
     ensures { result ≡ any_below (clashes_after job.now latest.now b u) (actions job.now) }
 {
     let n = actions_of(job[0]);
-    let mut a = 0;
-    while a < n {
-        if (u < latest[a]) & (table[b * ACTIONS + a] == 1) {
-            return true;
-        }
-        a += 1;
-    }
-    false
+    (0..n).any(|a| (u < latest[a]) & (table[b * ACTIONS + a] == 1))
 }
 
 // Row 9: refuses the first start that clashes with an earlier one. `latest` has the latest finish of each action's starts so far, 0 for an
@@ -98,22 +87,19 @@ pub fn first_clash(
     durations: &[usize; ACTIONS],
     effects: &[u8; EFFECTS],
     starts: &[u32],
-) -> Refusal
+) -> Result<(), Refusal>
     requires { Timed job.now durations.now starts.now × Effects job.now effects.now }
-    ensures { result ≡ first_of (numbered 9 (clashes job.now starts.now)) (length starts.now) }
+    ensures { result ≡ ruled (first_of (numbered 9 (clashes job.now starts.now)) (length starts.now)) tt }
 {
     let mut table = [0u8; ACTION_PAIRS];
     let mut latest = [0usize; ACTIONS];
-    let mut i = 0;
-    while i < starts.len() {
-        let s = starts[i];
+    for (i, &s) in starts.iter().enumerate() {
         let a = start_action(s);
         compare_action(job, effects, &latest, a, &mut table);
         if clashes_after(job, &latest, &table, a, start_moment(s)) {
-            return refuse(START_CLASHES, i);
+            return Err(refuse(START_CLASHES, i));
         }
         latest[a] = finish_of(durations, s);
-        i += 1;
     }
-    none()
+    Ok(())
 }

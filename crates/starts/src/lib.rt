@@ -3,6 +3,7 @@
 #![tactic(auto)]
 
 ghost use Rattle.std.specs.Prelude.{◌≡◌, length};
+ghost use Rattle.answers.specs.Rows.{ruled};
 ghost use Rattle.starts.specs.Rows.{rows_refusal};
 ghost use Rattle.starts.specs.Code.Given.{time_rows, Tabled};
 
@@ -25,21 +26,12 @@ pub fn check_times(
     durations: &[usize; ACTIONS],
     effects: &[u8; EFFECTS],
     starts: &[u32],
-) -> Refusal
+) -> Result<(), Refusal>
     requires { Tabled job.now durations.now effects.now }
-    ensures { result ≡ rows_refusal (time_rows job.now starts.now) (length starts.now) }
+    ensures { result ≡ ruled (rows_refusal (time_rows job.now starts.now) (length starts.now)) tt }
 {
-    let wrong = wrong_word(job, starts);
-    if wrong.number != 0 {
-        return wrong;
-    }
-    let late = late_end(job, durations, starts);
-    if late.number != 0 {
-        return late;
-    }
-    let again = restart(job, durations, starts);
-    if again.number != 0 {
-        return again;
-    }
+    wrong_word(job, starts)?;
+    late_end(job, durations, starts)?;
+    restart(job, durations, starts)?;
     first_clash(job, durations, effects, starts)
 }

@@ -1,10 +1,10 @@
 // Row 6: the words of a plan's starts, and their order.
 ghost use Rattle.std.specs.Prelude.{◌≡◌, ◌<◌, length};
-ghost use Rattle.answers.specs.Rows.{first_of};
+ghost use Rattle.answers.specs.Rows.{first_of, ruled};
 ghost use Rattle.job.specs.Code.WellFormed.{WellFormed};
 ghost use Rattle.starts.specs.Rows.{is_start, ascends, wrong_word, numbered};
 
-use answers::{Refusal, START_WORD, none, refuse};
+use answers::{Refusal, START_WORD, refuse};
 use words::*;
 
 // Returns whether a word is a start of the job.
@@ -31,16 +31,14 @@ fn is_above(starts: &[u32], i: usize) -> bool
 }
 
 // Row 6: refuses the first word that is no start of the job or not above the word before it.
-pub fn wrong_word(job: &[u32], starts: &[u32]) -> Refusal
+pub fn wrong_word(job: &[u32], starts: &[u32]) -> Result<(), Refusal>
     requires { WellFormed job.now }
-    ensures { result ≡ first_of (numbered 6 (wrong_word job.now starts.now)) (length starts.now) }
+    ensures { result ≡ ruled (first_of (numbered 6 (wrong_word job.now starts.now)) (length starts.now)) tt }
 {
-    let mut i = 0;
-    while i < starts.len() {
-        if !(is_start(job, starts[i]) & is_above(starts, i)) {
-            return refuse(START_WORD, i);
+    for (i, &s) in starts.iter().enumerate() {
+        if !(is_start(job, s) & is_above(starts, i)) {
+            return Err(refuse(START_WORD, i));
         }
-        i += 1;
     }
-    none()
+    Ok(())
 }

@@ -1,44 +1,37 @@
 // Rows 7 and 8: when starts finish.
 ghost use Rattle.std.specs.Prelude.{◌≡◌, length};
-ghost use Rattle.answers.specs.Rows.{first_of};
+ghost use Rattle.answers.specs.Rows.{first_of, ruled};
 ghost use Rattle.starts.specs.Rows.{ends_late, in_hand_already, numbered};
 ghost use Rattle.starts.specs.Code.Given.{Timed};
 
-use answers::{Refusal, START_ENDS_LATE, START_IN_HAND, none, refuse};
+use answers::{Refusal, START_ENDS_LATE, START_IN_HAND, refuse, refused_at};
 use history::finish_of;
 use words::*;
 
 // Row 7: refuses the first start that finishes after the last moment.
-pub fn late_end(job: &[u32], durations: &[usize; ACTIONS], starts: &[u32]) -> Refusal
+pub fn late_end(job: &[u32], durations: &[usize; ACTIONS], starts: &[u32]) -> Result<(), Refusal>
     requires { Timed job.now durations.now starts.now }
-    ensures { result ≡ first_of (numbered 7 (ends_late job.now starts.now)) (length starts.now) }
+    ensures { result ≡ ruled (first_of (numbered 7 (ends_late job.now starts.now)) (length starts.now)) tt }
 {
     let last = last_of(job[0]);
-    let mut i = 0;
-    while i < starts.len() {
-        if last < finish_of(durations, starts[i]) {
-            return refuse(START_ENDS_LATE, i);
-        }
-        i += 1;
-    }
-    none()
+    refused_at(
+        START_ENDS_LATE,
+        starts.iter().position(|&s| last < finish_of(durations, s)),
+    )
 }
 
 // Row 8: refuses the first start whose action is in hand already. `latest` has the latest finish of each action's starts so far.
-pub fn restart(job: &[u32], durations: &[usize; ACTIONS], starts: &[u32]) -> Refusal
+pub fn restart(job: &[u32], durations: &[usize; ACTIONS], starts: &[u32]) -> Result<(), Refusal>
     requires { Timed job.now durations.now starts.now }
-    ensures { result ≡ first_of (numbered 8 (in_hand_already job.now starts.now)) (length starts.now) }
+    ensures { result ≡ ruled (first_of (numbered 8 (in_hand_already job.now starts.now)) (length starts.now)) tt }
 {
     let mut latest = [0usize; ACTIONS];
-    let mut i = 0;
-    while i < starts.len() {
-        let s = starts[i];
+    for (i, &s) in starts.iter().enumerate() {
         let a = start_action(s);
         if start_moment(s) < latest[a] {
-            return refuse(START_IN_HAND, i);
+            return Err(refuse(START_IN_HAND, i));
         }
         latest[a] = finish_of(durations, s);
-        i += 1;
     }
-    none()
+    Ok(())
 }

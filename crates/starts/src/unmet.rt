@@ -1,11 +1,11 @@
 // Row 10: needs that are not met, by the history of the plan.
 ghost use Rattle.std.specs.Prelude.{◌≡◌, ◌+◌, ◌*◌, ◌<◌, length, get_or};
 ghost use Rattle.words.specs.Scan.{any};
-ghost use Rattle.answers.specs.Rows.{first_of};
+ghost use Rattle.answers.specs.Rows.{first_of, ruled};
 ghost use Rattle.starts.specs.Rows.{unmet, needs_unmet, numbered};
 ghost use Rattle.starts.specs.Code.Given.{Recorded};
 
-use answers::{Refusal, START_NEEDS, none, refuse};
+use answers::{Refusal, START_NEEDS, refuse};
 use history::laws_of;
 use words::*;
 
@@ -24,14 +24,7 @@ pub fn has_unmet(head: u32, history: &[u8; STATES], t: usize, laws: &[u32]) -> b
     requires { t < 64 }
     ensures { result ≡ any (unmet head (λ f. get_or history.now (t * 256 + f) 0)) laws.now }
 {
-    let mut i = 0;
-    while i < laws.len() {
-        if is_unmet(head, history, t, laws[i]) {
-            return true;
-        }
-        i += 1;
-    }
-    false
+    laws.iter().any(|&w| is_unmet(head, history, t, w))
 }
 
 // Row 10: refuses the first start whose needs are not known at its moment.
@@ -41,19 +34,16 @@ pub fn check_needs(
     ends: &[usize; ACTIONS],
     history: &[u8; STATES],
     starts: &[u32],
-) -> Refusal
+) -> Result<(), Refusal>
     requires { Recorded job.now places.now ends.now history.now starts.now }
-    ensures { result ≡ first_of (numbered 10 (needs_unmet job.now starts.now)) (length starts.now) }
+    ensures { result ≡ ruled (first_of (numbered 10 (needs_unmet job.now starts.now)) (length starts.now)) tt }
 {
     let head = job[0];
-    let mut i = 0;
-    while i < starts.len() {
-        let s = starts[i];
+    for (i, &s) in starts.iter().enumerate() {
         let laws = laws_of(job, places, ends, start_action(s));
         if has_unmet(head, history, start_moment(s), laws) {
-            return refuse(START_NEEDS, i);
+            return Err(refuse(START_NEEDS, i));
         }
-        i += 1;
     }
-    none()
+    Ok(())
 }

@@ -1,12 +1,15 @@
 -- Whether some number below n passes a test. Assumes nothing.
-use mathlib.Core.Bool.{Bool, true, false, ◌||◌, true≢false, or-true}
+use mathlib.Core.Bool.{Bool, true, false, ◌||◌, true≢false, or-true, or-false}
 use mathlib.Core.Logic.{◌↔◌}
-use mathlib.Core.Path.{◌≡◌, refl, sym, ◌∙◌}
+use mathlib.Core.List.{List, [], ◌∷◌, ◌++◌}
+use mathlib.Core.Path.{◌≡◌, refl, ap, sym, ◌∙◌}
 use Prim.Native.Nat.{ℕ, zero, suc, ◌+◌, ◌≤◌, ◌<◌}
 use native.Mathlib.Decide.{dec_lt}
 use native.Mathlib.Numerals.{add-one}
 use native.Mathlib.Omega.{arith}
-use Rattle.words.specs.Scan.{any_below}
+use Rattle.std.specs.List.{range_with_len}
+use Rattle.std.proofs.lemmas.List.Folds.{list_any-append}
+use Rattle.words.specs.Scan.{any, any_below}
 use Rattle.words.proofs.Choices.{is_false, same_test}
 
 module _ (test : ℕ → Bool) where
@@ -51,6 +54,18 @@ pub some_cong : (f g : ℕ → Bool) (n : ℕ) → ((i : ℕ) → i < n → f i 
 unfolding any_below
 some_cong f g zero h = refl
 some_cong f g (suc n) h = rw (some_cong f g n (λ i l. h i (omega arith)), h n (omega arith))
+
+-- so does a list of the numbers below n
+range-more : (a n : ℕ) → range_with_len a (suc n) ≡ range_with_len a n ++ ((a + n) ∷ [])
+range-more a zero = let e : a + 0 ≡ a = omega arith in rw e
+range-more a (suc n) = let e : a + suc n ≡ (a + 1) + n = omega arith in rw e (ap (λ (l : List ℕ). a ∷ l) (range-more (a + 1) n))
+
+pub any-range : (test : ℕ → Bool) (n : ℕ) → any test (range_with_len 0 n) ≡ any_below test n
+unfolding any_below
+any-range test zero = refl
+any-range test (suc n) =
+    let e : 0 + n ≡ n = omega arith in
+    ap (any test) (range-more 0 n) ∙ list_any-append test (range_with_len 0 n) ((0 + n) ∷ []) ∙ rw (any-range test n, e, or-false (test n))
 
 -- a loop at number i of n: none before it passes
 pub record Sought (test : ℕ → Bool) (n i : ℕ) : Type 0 where

@@ -1,116 +1,78 @@
--- `applicable::held_refusal` meets its contract: row 8 or 9 fits among the starts in hand, or rows 15 and 16 decide. Assumes nothing.
-use mathlib.Core.Bool.{false}
-use mathlib.Core.Path.{◌≡◌, refl, sym, ap, ◌∙◌}
-use mathlib.Core.List.{List}
-use Prim.Native.Nat.{ℕ, ◌≤◌, ◌<◌}
+-- `applicable::held_refusal` meets its contract: of the starts those in hand decide rows 8, 9 and 16. Assumes nothing.
+use mathlib.Core.Bool.{true, false}
+use mathlib.Core.Path.{◌≡◌, refl, sym, ◌∙◌}
+use mathlib.Core.List.{◌∷◌}
 use native.Mathlib.Omega.{arith}
-use lib.ListN.{length, take}
-use lib.Seq.{length-take-le}
 use Rattle.words.specs.Fields.{start_word}
-use Rattle.words.specs.Scan.{any, filter}
-use Rattle.words.proofs.Copies.{sets_first}
+use Rattle.words.specs.Scan.{any}
 use Rattle.words.proofs.Lists.{each_at}
-use Rattle.history.specs.Code.Held.{unfinished_by}
-use Rattle.starts.specs.Rows.{clashing}
+use Rattle.starts.specs.Rows.{clashing, may_start, over_limit}
 use Rattle.shifts.proofs.ShiftSets.{may_start-read}
 use Rattle.moves.specs.Trials.{busy}
-use Rattle.applicable.specs.Code.Given.{FacingAll}
-use Rattle.applicable.proofs.Facing.{held_facing, held_busy, held_clash, held_full}
-use Rattle.theory.specs.declared.Plan.{Plan}
-use Rattle.applicable.proofs.NewStart.{present_formed, present_facing, held_rest}
+use Rattle.applicable.proofs.Facing.{kept, held_facing, held_busy, held_clash, held_full}
+use Rattle.applicable.proofs.NewStart.{present_formed, present_facing}
 use Rattle.applicable.proofs.held_refusal.Goals as goal
 
 pub keep_unfinished-count-requires : goal.keep_unfinished-count-requires
 keep_unfinished-count-requires c = (c.requires.0.passed.durations.small, omega (arith, c.copy_words.auto.buffer, c.requires.2))
 
-pub slice_bounds-some_busy-end : goal.slice_bounds-some_busy-end
-slice_bounds-some_busy-end c =
-    let inside : c.keep_unfinished-count.result ≤ length c.keep_unfinished-count.new.held = omega (arith, c.keep_unfinished-count.ensures.few, c.keep_unfinished-count.auto.held, c.copy_words.auto.buffer, c.requires.2) in
-    sym (length-take-le _ _ inside)
-
 pub some_busy-requires : goal.some_busy-requires
 some_busy-requires c =
-    let plan : Plan = c.args.plan in
-    let facing : FacingAll c.args.job.now plan.durations plan.effects c.args.starts.now c.args.u c.args.a = present_facing c.requires.0 c.requires.1 in
-    let in_hand_lem : take c.keep_unfinished-count.result c.keep_unfinished-count.new.held ≡ filter (unfinished_by plan.durations c.args.u) c.args.starts.now = let of : List ℕ → List ℕ = filter (unfinished_by plan.durations c.args.u) in
-    c.keep_unfinished-count.ensures.words
-    ∙ ap (λ (l : List ℕ). of (take (length c.args.starts.now) l)) c.copy_words.ensures
-    ∙ ap of (sets_first _ c.args.starts.now c.requires.2) in
-    let f = held_facing facing in
+    let f = held_facing (present_facing c.requires.0 c.requires.1) in
+    let in_hand_lem = kept _ _ _ _ c.requires.2 c.copy_words.ensures c.keep_unfinished-count.ensures in
     (f.tables.lasts, rw in_hand_lem (record { action = each_at f.action }))
 
 pub returns-then-some_busy : goal.returns-then-some_busy
 returns-then-some_busy c =
-    let plan : Plan = c.args.plan in
-    let facing : FacingAll c.args.job.now plan.durations plan.effects c.args.starts.now c.args.u c.args.a = present_facing c.requires.0 c.requires.1 in
-    let in_hand_lem : take c.keep_unfinished-count.result c.keep_unfinished-count.new.held ≡ filter (unfinished_by plan.durations c.args.u) c.args.starts.now = let of : List ℕ → List ℕ = filter (unfinished_by plan.durations c.args.u) in
-    c.keep_unfinished-count.ensures.words
-    ∙ ap (λ (l : List ℕ). of (take (length c.args.starts.now) l)) c.copy_words.ensures
-    ∙ ap of (sets_first _ c.args.starts.now c.requires.2) in
-    c.refuse.ensures ∙ rw (sym (held_busy facing), ← in_hand_lem, ← c.some_busy.ensures, c.if-some_busy.true)
-
-pub slice_bounds-some_clash-end : goal.slice_bounds-some_clash-end
-slice_bounds-some_clash-end c =
-    let inside : c.keep_unfinished-count.result ≤ length c.keep_unfinished-count.new.held = omega (arith, c.keep_unfinished-count.ensures.few, c.keep_unfinished-count.auto.held, c.copy_words.auto.buffer, c.requires.2) in
-    sym (length-take-le _ _ inside)
+    let facing = present_facing c.requires.0 c.requires.1 in
+    let in_hand_lem = kept _ _ _ _ c.requires.2 c.copy_words.ensures c.keep_unfinished-count.ensures in
+    let busy_is : let args = c.args in any (busy args.job.now args.u args.a) args.starts.now ≡ true = sym (held_busy facing) ∙ rw (← in_hand_lem) (sym c.some_busy.ensures ∙ c.if-some_busy.true) in
+    rw (c.refuse.ensures, busy_is)
 
 pub some_clash-requires : goal.some_clash-requires
 some_clash-requires c =
-    let plan : Plan = c.args.plan in
-    let facing : FacingAll c.args.job.now plan.durations plan.effects c.args.starts.now c.args.u c.args.a = present_facing c.requires.0 c.requires.1 in
-    let in_hand_lem : take c.keep_unfinished-count.result c.keep_unfinished-count.new.held ≡ filter (unfinished_by plan.durations c.args.u) c.args.starts.now = let of : List ℕ → List ℕ = filter (unfinished_by plan.durations c.args.u) in
-    c.keep_unfinished-count.ensures.words
-    ∙ ap (λ (l : List ℕ). of (take (length c.args.starts.now) l)) c.copy_words.ensures
-    ∙ ap of (sets_first _ c.args.starts.now c.requires.2) in
-    rw in_hand_lem (held_facing facing)
+    let in_hand_lem = kept _ _ _ _ c.requires.2 c.copy_words.ensures c.keep_unfinished-count.ensures in
+    rw in_hand_lem (held_facing (present_facing c.requires.0 c.requires.1))
 
 pub returns-then-some_clash : goal.returns-then-some_clash
 returns-then-some_clash c =
-    let plan : Plan = c.args.plan in
-    let facing : FacingAll c.args.job.now plan.durations plan.effects c.args.starts.now c.args.u c.args.a = present_facing c.requires.0 c.requires.1 in
-    let in_hand_lem : take c.keep_unfinished-count.result c.keep_unfinished-count.new.held ≡ filter (unfinished_by plan.durations c.args.u) c.args.starts.now = let of : List ℕ → List ℕ = filter (unfinished_by plan.durations c.args.u) in
-    c.keep_unfinished-count.ensures.words
-    ∙ ap (λ (l : List ℕ). of (take (length c.args.starts.now) l)) c.copy_words.ensures
-    ∙ ap of (sets_first _ c.args.starts.now c.requires.2) in
-    let not-busy : let args = c.args in any (busy args.job.now args.u args.a) args.starts.now ≡ false = sym (held_busy facing) ∙ rw (← in_hand_lem) (sym c.some_busy.ensures ∙ c.if-some_busy.false) in
-    let clash-is : let args = c.args in c.some_clash.result ≡ any (λ s. clashing args.job.now s (start_word args.u args.a)) args.starts.now = c.some_clash.ensures ∙ rw in_hand_lem (held_clash facing) in
-    c.refuse-then-some_clash.ensures ∙ rw (not-busy, ← clash-is, c.if-some_clash.true)
+    let facing = present_facing c.requires.0 c.requires.1 in
+    let in_hand_lem = kept _ _ _ _ c.requires.2 c.copy_words.ensures c.keep_unfinished-count.ensures in
+    let busy_is : let args = c.args in any (busy args.job.now args.u args.a) args.starts.now ≡ false = sym (held_busy facing) ∙ rw (← in_hand_lem) (sym c.some_busy.ensures ∙ c.if-some_busy.false) in
+    let clash_is : let args = c.args in any (λ s. clashing args.job.now s (start_word args.u args.a)) args.starts.now ≡ true = sym (held_clash facing) ∙ rw (← in_hand_lem) (sym c.some_clash.ensures ∙ c.if-some_clash.true) in
+    rw (c.refuse-then-some_clash.ensures, busy_is, clash_is)
 
 pub may_start-requires : goal.may_start-requires
-may_start-requires c =
-    let low : (c.args.u < 64) × (c.args.a < 64) = let given = c.requires.0 in
-    omega (arith, given.present, (present_formed given).few_moments, c.requires.1, (present_formed given).few_actions) in
-    low
+may_start-requires c = let given = c.requires.0 in omega (arith, given.present, (present_formed given).few_moments, c.requires.1, (present_formed given).few_actions)
 
-pub slice_bounds-held-end-3 : goal.slice_bounds-held-end-3
-slice_bounds-held-end-3 c =
-    let inside : c.keep_unfinished-count.result ≤ length c.keep_unfinished-count.new.held = omega (arith, c.keep_unfinished-count.ensures.few, c.keep_unfinished-count.auto.held, c.copy_words.auto.buffer, c.requires.2) in
-    inside
-
-pub slice_bounds-some_full-end : goal.slice_bounds-some_full-end
-slice_bounds-some_full-end c =
-    let inside : c.keep_unfinished-count.result ≤ length c.keep_unfinished-count.new.held = omega (arith, c.keep_unfinished-count.ensures.few, c.keep_unfinished-count.auto.held, c.copy_words.auto.buffer, c.requires.2) in
-    sym (length-take-le _ _ inside)
+pub returns-then-not-may_start : goal.returns-then-not-may_start
+returns-then-not-may_start c =
+    let facing = present_facing c.requires.0 c.requires.1 in
+    let in_hand_lem = kept _ _ _ _ c.requires.2 c.copy_words.ensures c.keep_unfinished-count.ensures in
+    let busy_is : let args = c.args in any (busy args.job.now args.u args.a) args.starts.now ≡ false = sym (held_busy facing) ∙ rw (← in_hand_lem) (sym c.some_busy.ensures ∙ c.if-some_busy.false) in
+    let clash_is : let args = c.args in any (λ s. clashing args.job.now s (start_word args.u args.a)) args.starts.now ≡ false = sym (held_clash facing) ∙ rw (← in_hand_lem) (sym c.some_clash.ensures ∙ c.if-some_clash.false) in
+    let may_is : let args = c.args in may_start args.job.now args.u args.a ≡ false = sym (may_start-read c.requires.0.passed.shifts _ _ c.may_start.ensures refl refl c.requires.1) ∙ c.if-not-may_start.true in
+    rw (c.refuse-then-not-may_start.ensures, busy_is, clash_is, may_is)
 
 pub some_full-requires : goal.some_full-requires
-some_full-requires c =
-    let low : (c.args.u < 64) × (c.args.a < 64) = let given = c.requires.0 in
-    omega (arith, given.present, (present_formed given).few_moments, c.requires.1, (present_formed given).few_actions) in
-    low.1
+some_full-requires c = omega (arith, c.requires.1, (present_formed c.requires.0).few_actions)
+
+pub returns-then-some_full : goal.returns-then-some_full
+returns-then-some_full c =
+    let facing = present_facing c.requires.0 c.requires.1 in
+    let in_hand_lem = kept _ _ _ _ c.requires.2 c.copy_words.ensures c.keep_unfinished-count.ensures in
+    let busy_is : let args = c.args in any (busy args.job.now args.u args.a) args.starts.now ≡ false = sym (held_busy facing) ∙ rw (← in_hand_lem) (sym c.some_busy.ensures ∙ c.if-some_busy.false) in
+    let clash_is : let args = c.args in any (λ s. clashing args.job.now s (start_word args.u args.a)) args.starts.now ≡ false = sym (held_clash facing) ∙ rw (← in_hand_lem) (sym c.some_clash.ensures ∙ c.if-some_clash.false) in
+    let may_is : let args = c.args in may_start args.job.now args.u args.a ≡ true = sym (may_start-read c.requires.0.passed.shifts _ _ c.may_start.ensures refl refl c.requires.1) ∙ c.if-not-may_start.false in
+    let full_is : let args = c.args in over_limit args.job.now (start_word args.u args.a ∷ args.starts.now) (start_word args.u args.a) ≡ true = sym (held_full facing c.requires.0.passed.groups (c.some_full.ensures ∙ rw in_hand_lem)) ∙ c.if-some_full.true in
+    rw (c.refuse-then-some_full.ensures, busy_is, clash_is, may_is, full_is)
 
 pub returns : goal.returns
 returns c =
-    let plan : Plan = c.args.plan in
-    let facing : FacingAll c.args.job.now plan.durations plan.effects c.args.starts.now c.args.u c.args.a = present_facing c.requires.0 c.requires.1 in
-    let in_hand_lem : take c.keep_unfinished-count.result c.keep_unfinished-count.new.held ≡ filter (unfinished_by plan.durations c.args.u) c.args.starts.now = let of : List ℕ → List ℕ = filter (unfinished_by plan.durations c.args.u) in
-    c.keep_unfinished-count.ensures.words
-    ∙ ap (λ (l : List ℕ). of (take (length c.args.starts.now) l)) c.copy_words.ensures
-    ∙ ap of (sets_first _ c.args.starts.now c.requires.2) in
-    let not-busy : let args = c.args in any (busy args.job.now args.u args.a) args.starts.now ≡ false = sym (held_busy facing) ∙ rw (← in_hand_lem) (sym c.some_busy.ensures ∙ c.if-some_busy.false) in
-    let clash-is : let args = c.args in c.some_clash.result ≡ any (λ s. clashing args.job.now s (start_word args.u args.a)) args.starts.now = c.some_clash.ensures ∙ rw in_hand_lem (held_clash facing) in
-    let given = c.requires.0.passed in
-    held_rest _ _ _ _ not-busy (sym clash-is ∙ c.if-some_clash.false) c.first_refusal.ensures
-    c.row_of-outside.ensures
-    (may_start-read given.shifts _ _ c.may_start.ensures refl refl c.requires.1)
-    c.row_of-over.ensures
-    (held_full facing given.groups (c.some_full.ensures ∙ rw in_hand_lem))
+    let facing = present_facing c.requires.0 c.requires.1 in
+    let in_hand_lem = kept _ _ _ _ c.requires.2 c.copy_words.ensures c.keep_unfinished-count.ensures in
+    let busy_is : let args = c.args in any (busy args.job.now args.u args.a) args.starts.now ≡ false = sym (held_busy facing) ∙ rw (← in_hand_lem) (sym c.some_busy.ensures ∙ c.if-some_busy.false) in
+    let clash_is : let args = c.args in any (λ s. clashing args.job.now s (start_word args.u args.a)) args.starts.now ≡ false = sym (held_clash facing) ∙ rw (← in_hand_lem) (sym c.some_clash.ensures ∙ c.if-some_clash.false) in
+    let may_is : let args = c.args in may_start args.job.now args.u args.a ≡ true = sym (may_start-read c.requires.0.passed.shifts _ _ c.may_start.ensures refl refl c.requires.1) ∙ c.if-not-may_start.false in
+    let full_is : let args = c.args in over_limit args.job.now (start_word args.u args.a ∷ args.starts.now) (start_word args.u args.a) ≡ false = sym (held_full facing c.requires.0.passed.groups (c.some_full.ensures ∙ rw in_hand_lem)) ∙ c.if-some_full.false in
+    rw (busy_is, clash_is, may_is, full_is)

@@ -1,10 +1,10 @@
 -- Between functions: what the tests of a new start ask and give.
-use Rattle.std.specs.Prelude.{List, ◌≡◌, ℕ, ◌≤◌, ◌<◌, length, take, drop}
+use Rattle.std.specs.Prelude.{Result, ⊤, List, ℕ, ◌≤◌, ◌<◌, length, take, drop}
 use Rattle.words.specs.Fields.{start_moment, start_action}
 use Rattle.words.specs.Lists.{Each}
 use Rattle.job.specs.Parts.{actions, last_moment}
 use Rattle.answers.specs.declared.Refusal.{Refusal}
-use Rattle.answers.specs.Rows.{first_row}
+use Rattle.answers.specs.Rows.{first_row, RuledBy}
 use Rattle.starts.specs.Code.Given.{Tabled}
 use Rattle.theory.specs.declared.Plan.{Plan}
 use Rattle.theory.specs.Code.Judged.{PassedUpto}
@@ -37,7 +37,6 @@ abbrev pub held_refusal : List ℕ → List ℕ → ℕ → ℕ → Refusal
 held_refusal job starts u a =
     first_row (take 4 (drop 2 (new_start_rows job (record { moment = u; starts = starts }) a)))
 
--- its refusal by rows 6 to 10, 15 and 16, and room for it where there is none
-pub record StartTested (job starts : List ℕ) (u a : ℕ) (r : Refusal) : Type 0 where
-  pub refusal : r ≡ start_refusal job (record { moment = u; starts = starts }) a
-  pub room : r.number ≡ 0 → length starts < 4096
+-- its refusal by rows 6 to 10, 15 and 16; or none, and room for it
+abbrev pub StartTested : List ℕ → List ℕ → ℕ → ℕ → Result ⊤ Refusal → Type 0
+StartTested job starts u a result = RuledBy (start_refusal job (record { moment = u; starts = starts }) a) (λ x. length starts < 4096) result

@@ -1,26 +1,34 @@
--- `groups::groups_of` meets its contract. The invariant: the tables are those of the words from `i` on. Assumes nothing.
-use mathlib.Core.Path.{◌≡◌}
-use Prim.Native.Nat.{◌-◌}
-use native.Mathlib.Omega.{arith}
+-- `groups::groups_of` meets its contract. The invariant: the tables are those of the words that have been taken. Assumes nothing.
+use mathlib.Core.Path.{ap, ◌∙◌}
+use Rattle.words.proofs.Back.{back_start, back_taken}
 use Rattle.groups.proofs.GroupTable.{groups_none, groups_more, groups_all}
 use Rattle.groups.proofs.groups_of.Goals as goal
 
-pub loop-i-init : goal.loop-i-init
-loop-i-init c = (omega arith, groups_none c.args.job.now)
+pub loop-w-init : goal.loop-w-init
+loop-w-init c =
+    let e = ap (λ r. r.iter.rest.now) c.into_iter-w-iterator.ensures.into_iter_gives ∙ ap (λ i. i.rest.now) c.rev-w-items.ensures.source ∙ c.iter.ensures.rest in
+    record { walk = rw e (back_start _); tables = rw e (groups_none c.args.job.now) }
 
 pub store_limit-requires : goal.store_limit-requires
-store_limit-requires c = (c.requires.group _ (omega (arith, c.loop-i-test.true, c.loop-i.invariant.0)), c.loop-i.invariant.1.limit_size)
+store_limit-requires c =
+    let turn = c.loop-w.invariant in
+    let taken = back_taken _ turn.walk c.in-Some.ensures.steps in
+    (rw taken.word at (c.requires.group _ taken.inside), turn.tables.limit_size)
 
 pub store_member-requires : goal.store_member-requires
-store_member-requires c = (c.requires.group_member _ (omega (arith, c.loop-i-test.true, c.loop-i.invariant.0)), c.loop-i.invariant.1.member-size)
+store_member-requires c =
+    let turn = c.loop-w.invariant in
+    let taken = back_taken _ turn.walk c.in-Some.ensures.steps in
+    (rw taken.word at (c.requires.group_member _ taken.inside), turn.tables.member-size)
 
-pub loop-i-preserved : goal.loop-i-preserved
-loop-i-preserved c =
-    let i = c.loop-i.i in
-    let taken = c.loop-i-test.true in (
-      omega (arith, c.loop-i.invariant.0),
-      groups_more _ (i - 1) i c.loop-i.invariant.1 (omega arith) (omega (arith, c.loop-i.invariant.0)) c.store_limit.ensures c.store_member.ensures,
-    )
+pub loop-w-preserved : goal.loop-w-preserved
+loop-w-preserved c =
+    let turn = c.loop-w.invariant in
+    let taken = back_taken _ turn.walk c.in-Some.ensures.steps in
+    record {
+      walk = taken.walk;
+      tables = groups_more _ _ _ turn.tables taken.next taken.inside (rw taken.word c.store_limit.ensures) (rw taken.word c.store_member.ensures);
+    }
 
 pub returns : goal.returns
-returns c = let e : c.loop-i.i ≡ 0 = omega arith in groups_all (rw e at c.loop-i.invariant.1)
+returns c = groups_all (rw c.in-None.ensures.steps.0 at c.loop-w.invariant.tables)

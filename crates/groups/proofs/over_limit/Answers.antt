@@ -3,7 +3,6 @@
 use mathlib.Core.Path.{◌≡◌, sym, ◌∙◌}
 use Prim.Native.Nat.{suc, ◌≤◌}
 use native.Mathlib.Omega.{arith}
-use borrow.Author.Tests.{not-true}
 use lib.ListN.{length, get_or, take}
 use lib.Seq.{length-take-le}
 use Rattle.words.specs.Fields.{start_moment}
@@ -18,11 +17,11 @@ use Rattle.groups.proofs.over_limit.Goals as goal
 pub returns-then-all_empty : goal.returns-then-all_empty
 unfolding group_exceeded
 returns-then-all_empty c =
-    let none = not-true _ (sym c.all_empty.ensures ∙ c.if-all_empty.true) in
+    let none = sym c.all_empty.ensures ∙ c.if-all_empty.true in
     let args = c.args in
     let job = args.job.now in
     let starts = args.starts.now in
-    c.none.ensures ∙ sym (clear_row 16 (group_exceeded job starts) (length starts) (λ i l. empty_clear c.requires.table none (take (suc i) starts) (get_or starts i 0)))
+    rw (clear_row 16 (group_exceeded job starts) (length starts) (λ i l. empty_clear c.requires.table none (take (suc i) starts) (get_or starts i 0)))
 
 pub loop-i-init : goal.loop-i-init
 loop-i-init c = carrying_none c.requires
@@ -50,7 +49,7 @@ pub returns-then-some_full : goal.returns-then-some_full
 returns-then-some_full c =
     let filtered : let args = c.args in Filtered (unfinished_by args.durations.now (start_moment (get_or args.starts.now c.loop-i.i 0))) c.loop-i.count c.loop-i.held c.keep_from-count.result c.keep_from-count.new.held = rw c.start_moment-u.ensures.0 at c.keep_from-count.ensures in
     let value : let args = c.args in group_exceeded args.job.now args.starts.now c.loop-i.i ≡ c.some_full.result = full_at c.requires c.loop-i.invariant c.loop-i-test.true filtered c.start_action.ensures.0 c.some_full.ensures in
-    c.refuse.ensures ∙ tried_found c.loop-i.invariant.tried (omega arith) c.loop-i-test.true (value ∙ c.if-some_full.true)
+    rw c.refuse.ensures (tried_found c.loop-i.invariant.tried (omega arith) c.loop-i-test.true (value ∙ c.if-some_full.true))
 
 pub loop-i-preserved : goal.loop-i-preserved
 loop-i-preserved c =
@@ -60,4 +59,4 @@ loop-i-preserved c =
     (carrying_more c.requires c.loop-i.invariant c.loop-i-test.true filtered c.keep_from-count.auto.held (value ∙ c.if-some_full.false))
 
 pub returns : goal.returns
-returns c = c.none-2.ensures ∙ tried_end c.loop-i.invariant.tried (omega arith)
+returns c = tried_end c.loop-i.invariant.tried (omega arith)

@@ -1,12 +1,7 @@
 -- `groups::over_limit` meets its contract. The invariant: the row fits no word before `i`, and of these the ones in hand are carried.
 -- Assumes nothing.
-use Prim.Native.Nat.{◌-◌}
-use lib.ListN.{length}
 use Rattle.groups.proofs.GroupWalk.{Carrying}
 use Rattle.groups.proofs.over_limit.Given as goal
 
 abbrev pub invariant-loop-i : goal.invariant-loop-i
 invariant-loop-i l = Carrying l.job l.starts l.held l.count l.t l.i
-
-abbrev pub decreases-loop-i : goal.decreases-loop-i
-decreases-loop-i l = length l.starts - l.i

@@ -1,38 +1,26 @@
--- `shifts::outside_windows` meets its contract. The invariant: the row fits no word before `i`. Assumes nothing.
-use mathlib.Core.Bool.{not}
-use mathlib.Core.Path.{◌≡◌, ap, sym, ◌∙◌}
+-- `shifts::outside_windows` meets its contract: the search finds the first start outside its windows. Assumes nothing.
+use mathlib.Core.Bool.{not, ◌||◌}
+use mathlib.Core.Path.{◌≡◌, refl, ap, sym, ◌∙◌}
 use native.Mathlib.Omega.{arith}
 use lib.ListN.{get_or}
+use Rattle.std.specs.Prelude.{position}
+use Rattle.std.proofs.Common.{rules, tests}
+use Rattle.std.proofs.lemmas.Iterator.{YieldsList-from_slice}
+use Rattle.std.proofs.lemmas.Iterator.Search.{position_from_yields_List}
 use Rattle.words.specs.Fields.{start_moment, start_action}
-use Rattle.starts.specs.Rows.{may_start, outside_windows}
-use Rattle.starts.proofs.Rows.{tried_start, tried_more, tried_found, tried_end}
+use Rattle.answers.specs.Rows.{refused_at}
+use Rattle.bitset.specs.Code.Members.{has}
+use Rattle.starts.specs.Rows.{outside_windows}
+use Rattle.starts.proofs.Rows.{row-sought}
 use Rattle.starts.proofs.StartsFormed.{right_word}
 use Rattle.shifts.proofs.ShiftSets.{may_start-read}
 use Rattle.shifts.proofs.outside_windows.Goals as goal
 
-pub loop-i-init : goal.loop-i-init
-loop-i-init c = tried_start
-
-pub returns-then-not-may_start : goal.returns-then-not-may_start
-unfolding outside_windows
-returns-then-not-may_start c =
-    let tested : let args = c.args in let s = get_or args.starts.now c.loop-i.i 0 in c.may_start.result ≡ may_start args.job.now (start_moment s) (start_action s) = let given = c.requires in
-    let l = c.loop-i-test.true in
-    may_start-read given.0 _ _ c.may_start.ensures c.start_moment.ensures.0 c.start_action.ensures.0
-    (right_word given.1 _ l).action in
-    let value : let args = c.args in outside_windows args.job.now args.starts.now c.loop-i.i ≡ not c.may_start.result = ap not (sym tested) in
-    c.refuse.ensures
-    ∙ tried_found c.loop-i.invariant (omega arith) c.loop-i-test.true (value ∙ (ap not c.if-not-may_start.true))
-
-pub loop-i-preserved : goal.loop-i-preserved
-unfolding outside_windows
-loop-i-preserved c =
-    let tested : let args = c.args in let s = get_or args.starts.now c.loop-i.i 0 in c.may_start.result ≡ may_start args.job.now (start_moment s) (start_action s) = let given = c.requires in
-    let l = c.loop-i-test.true in
-    may_start-read given.0 _ _ c.may_start.ensures c.start_moment.ensures.0 c.start_action.ensures.0
-    (right_word given.1 _ l).action in
-    let value : let args = c.args in outside_windows args.job.now args.starts.now c.loop-i.i ≡ not c.may_start.result = ap not (sym tested) in
-    tried_more c.loop-i.invariant c.loop-i-test.true (value ∙ (ap not c.if-not-may_start.false))
-
 pub returns : goal.returns
-returns c = c.none.ensures ∙ tried_end c.loop-i.invariant (omega arith)
+unfolding outside_windows
+returns c =
+    let found : c.position.result ≡ position (λ s. not (not (has c.args.shifts.now.windowed (start_action s)) || has (get_or c.args.shifts.now.inside (start_action s) 0) (start_moment s))) c.args.starts.now = position_from_yields_List _ _ _ c.position.result c.position.ensures.ran (YieldsList-from_slice _ c.iter.ensures.rest) (λ x b q k. search (rules, tests)) in
+    c.refused_at.ensures
+    ∙ ap (refused_at 15) found
+    ∙ row-sought 15 (outside_windows c.args.job.now c.args.starts.now) _ c.args.starts.now (omega arith)
+    (λ i l. ap not (sym (may_start-read c.requires.0 _ _ refl refl refl (right_word c.requires.1 i l).action)))

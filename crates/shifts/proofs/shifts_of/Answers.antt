@@ -1,33 +1,39 @@
--- `shifts::shifts_of` meets its contract. The invariant: the sets are those of the words from `i` on. Assumes nothing.
-use mathlib.Core.Path.{◌≡◌, sym, ◌∙◌}
-use Prim.Native.Nat.{◌-◌}
-use native.Mathlib.Omega.{arith}
+-- `shifts::shifts_of` meets its contract. The invariant: the sets are those of the words that have been taken. Assumes nothing.
+use mathlib.Core.Path.{ap, sym, ◌∙◌}
+use Rattle.words.proofs.Back.{back_start, back_taken}
 use Rattle.shifts.proofs.ShiftSets.{shifts_none, shifts_other, shifts_more, shifts_all}
 use Rattle.shifts.proofs.shifts_of.Goals as goal
 
-pub loop-i-init : goal.loop-i-init
-loop-i-init c = (omega arith, shifts_none c.args.job.now)
+pub loop-w-init : goal.loop-w-init
+loop-w-init c =
+    let e = ap (λ r. r.iter.rest.now) c.into_iter-w-iterator.ensures.into_iter_gives ∙ ap (λ i. i.rest.now) c.rev-w-items.ensures.source ∙ c.iter.ensures.rest in
+    record { walk = rw e (back_start _); sets = rw e (shifts_none c.args.job.now) }
 
-pub loop-i-preserved-then-kind_of-eq-SHIFT_WINDOW : goal.loop-i-preserved-then-kind_of-eq-SHIFT_WINDOW
-loop-i-preserved-then-kind_of-eq-SHIFT_WINDOW c =
-    let at = c.loop-i in
-    let taken = c.loop-i-test.true in (
-      omega arith,
-      shifts_more _ (at.i - 1) at.i at.invariant.1 (omega arith) (omega arith) c.single.result c.union-windowed.result c.moments_in.result c.union.result
-          (sym c.kind_of.ensures.0 ∙ c.if-kind_of-eq-SHIFT_WINDOW.true)
-          c.shift_window_action-a.ensures.0
+pub loop-w-preserved-then-kind_of-eq-SHIFT_WINDOW : goal.loop-w-preserved-then-kind_of-eq-SHIFT_WINDOW
+loop-w-preserved-then-kind_of-eq-SHIFT_WINDOW c =
+    let turn = c.loop-w.invariant in
+    let taken = back_taken _ turn.walk c.in-Some.ensures.steps in
+    record {
+      walk = taken.walk;
+      sets =
+          shifts_more _ _ _ turn.sets taken.next taken.inside c.single.result c.union-windowed.result c.moments_in.result c.union.result
+          (rw taken.word (sym c.kind_of.ensures.0 ∙ c.if-kind_of-eq-SHIFT_WINDOW.true))
+          (rw taken.word c.shift_window_action-a.ensures.0)
           c.shift_window_action-a.ensures.1
           c.single.ensures
           c.union-windowed.ensures
-          c.moments_in.ensures
-          c.union.ensures,
-    )
+          (rw taken.word c.moments_in.ensures)
+          c.union.ensures;
+    }
 
-pub loop-i-preserved : goal.loop-i-preserved
-loop-i-preserved c =
-    let at = c.loop-i in
-    let taken = c.loop-i-test.true in
-    (omega arith, shifts_other _ (at.i - 1) at.i at.invariant.1 (omega arith) (omega arith) (λ z. c.if-kind_of-eq-SHIFT_WINDOW.false (c.kind_of.ensures.0 ∙ z)))
+pub loop-w-preserved : goal.loop-w-preserved
+loop-w-preserved c =
+    let turn = c.loop-w.invariant in
+    let taken = back_taken _ turn.walk c.in-Some.ensures.steps in
+    record {
+      walk = taken.walk;
+      sets = shifts_other _ _ _ turn.sets taken.next taken.inside (rw taken.word (λ z. c.if-kind_of-eq-SHIFT_WINDOW.false (c.kind_of.ensures.0 ∙ z)));
+    }
 
 pub returns : goal.returns
-returns c = let e : c.loop-i.i ≡ 0 = omega arith in shifts_all c.requires (rw e at c.loop-i.invariant.1)
+returns c = shifts_all c.requires (rw c.in-None.ensures.steps.0 at c.loop-w.invariant.sets)

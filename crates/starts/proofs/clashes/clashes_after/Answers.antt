@@ -1,60 +1,19 @@
--- `starts::clashes::clashes_after` meets its contract. The invariant: no action below `a` clashes and is in hand. Assumes nothing.
-use mathlib.Core.Path.{◌∙◌}
-use Prim.Native.Nat.{◌<◌}
-use Rattle.job.specs.Parts.{actions}
-use Rattle.words.proofs.AnyBelow.{sought_start, sought_more, sought_found, sought_end}
-use Rattle.starts.proofs.ClashTable.{clash_read}
+-- `starts::clashes::clashes_after` meets its contract: the search finds an action that clashes and is in hand. Assumes nothing.
+use mathlib.Core.Bool.{◌&&◌}
+use mathlib.Core.Path.{◌≡◌, refl, ◌∙◌}
+use Prim.Native.Nat.{◌+◌, ◌*◌}
 use native.Mathlib.Omega.{arith}
+use lib.Dec.{eqb, ltb}
+use lib.ListN.{get_or}
+use Rattle.std.proofs.Common.{rules}
+use Rattle.std.proofs.lemmas.Iterator.{YieldsList-from_range}
+use Rattle.std.proofs.lemmas.Iterator.Search.{any_from_yields_List}
+use Rattle.std.specs.List.{range_with_len}
+use Rattle.words.specs.Scan.{any}
+use Rattle.starts.proofs.ClashTable.{clash_sought}
 use Rattle.starts.proofs.clashes.clashes_after.Goals as goal
 
-pub loop-a-init : goal.loop-a-init
-loop-a-init c = sought_start
-
-pub offset_bounds-latest-a : goal.offset_bounds-latest-a
-offset_bounds-latest-a c =
-    let below : c.loop-a.a < actions c.args.job.now = omega (arith, c.actions_of-n.ensures.0) in
-    let rows : (c.loop-a.a < 64) × (c.args.b < 64) = let pre = c.requires in omega (arith, below, pre.action, pre.formed.few_actions) in
-    omega (arith, rows)
-
-pub bounds-latest-a : goal.bounds-latest-a
-bounds-latest-a c =
-    let below : c.loop-a.a < actions c.args.job.now = omega (arith, c.actions_of-n.ensures.0) in
-    let rows : (c.loop-a.a < 64) × (c.args.b < 64) = let pre = c.requires in omega (arith, below, pre.action, pre.formed.few_actions) in
-    omega (arith, rows)
-
-pub overflow_mul-b : goal.overflow_mul-b
-overflow_mul-b c =
-    let below : c.loop-a.a < actions c.args.job.now = omega (arith, c.actions_of-n.ensures.0) in
-    let rows : (c.loop-a.a < 64) × (c.args.b < 64) = let pre = c.requires in omega (arith, below, pre.action, pre.formed.few_actions) in
-    omega (arith, rows)
-
-pub overflow_add-b : goal.overflow_add-b
-overflow_add-b c =
-    let below : c.loop-a.a < actions c.args.job.now = omega (arith, c.actions_of-n.ensures.0) in
-    let rows : (c.loop-a.a < 64) × (c.args.b < 64) = let pre = c.requires in omega (arith, below, pre.action, pre.formed.few_actions) in
-    omega (arith, rows)
-
-pub bounds-table-b : goal.bounds-table-b
-bounds-table-b c =
-    let below : c.loop-a.a < actions c.args.job.now = omega (arith, c.actions_of-n.ensures.0) in
-    let rows : (c.loop-a.a < 64) × (c.args.b < 64) = let pre = c.requires in omega (arith, below, pre.action, pre.formed.few_actions) in
-    omega (arith, rows)
-
-pub returns-then-u-latest : goal.returns-then-u-latest
-returns-then-u-latest c =
-    let below : c.loop-a.a < actions c.args.job.now = omega (arith, c.actions_of-n.ensures.0) in
-    sought_found c.loop-a.invariant below (clash_read c.requires c.args.u c.loop-a.a below ∙ c.if-u-latest.true)
-
-pub overflow_add-a : goal.overflow_add-a
-overflow_add-a c = omega arith
-
-pub loop-a-smaller : goal.loop-a-smaller
-loop-a-smaller c = omega arith
-
-pub loop-a-preserved : goal.loop-a-preserved
-loop-a-preserved c =
-    let below : c.loop-a.a < actions c.args.job.now = omega (arith, c.actions_of-n.ensures.0) in
-    sought_more c.loop-a.invariant below (clash_read c.requires c.args.u c.loop-a.a below ∙ c.if-u-latest.false)
-
 pub returns : goal.returns
-returns c = sought_end c.loop-a.invariant (omega (arith, c.actions_of-n.ensures.0))
+returns c =
+    let sought : let args = c.args in c.any.result ≡ any (λ a. ltb args.u (get_or args.latest.now a 0) && eqb (get_or args.table.now (args.b * 64 + a) 0) 1) (range_with_len 0 c.actions_of-n.result) = any_from_yields_List _ _ _ _ c.any.ensures.ran (YieldsList-from_range 0 c.actions_of-n.result c.actions_of-n.result refl (omega arith)) (λ x b q k. search rules) in
+    sought ∙ rw c.actions_of-n.ensures.0 (clash_sought c.requires c.args.u)

@@ -21,7 +21,7 @@ pub returns-then-latest-a-gt0 : goal.returns-then-latest-a-gt0
 returns-then-latest-a-gt0 c = let pre = c.requires in compared_before pre.action c.if-latest-a-gt0.true pre.told
 
 pub loop-b-init : goal.loop-b-init
-loop-b-init c = let pre = c.requires in (omega arith, comparing_start pre.action pre.told)
+loop-b-init c = let pre = c.requires in comparing_start pre.action pre.told
 
 pub offset_bounds-latest-b : goal.offset_bounds-latest-b
 offset_bounds-latest-b c =
@@ -39,26 +39,18 @@ store_pair-requires c =
     let pre = c.requires in
     record {
       two = record { formed = pre.formed; makes = pre.makes; first = pre.action; second = below.0 };
-      size = c.loop-b.invariant.1.others.size;
+      size = c.loop-b.invariant.others.size;
     }
-
-pub overflow_add-b : goal.overflow_add-b
-overflow_add-b c = omega arith
-
-pub loop-b-smaller : goal.loop-b-smaller
-loop-b-smaller c = omega arith
 
 pub loop-b-preserved : goal.loop-b-preserved
 loop-b-preserved c =
     let below : (c.loop-b.b < actions c.args.job.now) × (c.loop-b.b < 64) = omega (arith, c.actions_of-n.ensures.0, c.requires.formed.few_actions) in
     let pre = c.requires in
-    let so = c.loop-b.invariant.1 in (
-      omega (arith, below.0),
-      elim c.if-latest-b-gt0.branch [
-        | then-latest-b-gt0 w ↦ rw w.table-is (comparing_stored pre.action so w.store_pair.ensures)
-        | else-latest-b-gt0 w ↦ rw w.table-is (comparing_skipped pre.action so (omega (arith, w.if-latest-b-gt0.false)))
-      ],
-    )
+    let so = c.loop-b.invariant in
+    elim c.if-latest-b-gt0.branch [
+      | then-latest-b-gt0 w ↦ rw w.table-is (comparing_stored pre.action so w.store_pair.ensures)
+      | else-latest-b-gt0 w ↦ rw w.table-is (comparing_skipped pre.action so (omega (arith, w.if-latest-b-gt0.false)))
+    ]
 
 pub returns : goal.returns
-returns c = comparing_all c.requires.action (omega (arith, c.actions_of-n.ensures.0)) c.loop-b.invariant.1
+returns c = comparing_all c.requires.action (omega (arith, c.actions_of-n.ensures.0)) c.loop-b.invariant

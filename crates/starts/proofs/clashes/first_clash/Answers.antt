@@ -15,12 +15,6 @@ use Rattle.starts.proofs.clashes.first_clash.Goals as goal
 pub loop-i-init : goal.loop-i-init
 loop-i-init c = (tried_start, latest-start _ _, clashes-start _)
 
-pub offset_bounds-starts-i : goal.offset_bounds-starts-i
-offset_bounds-starts-i c = omega arith
-
-pub bounds-starts-i : goal.bounds-starts-i
-bounds-starts-i c = omega arith
-
 pub compare_action-requires : goal.compare_action-requires
 compare_action-requires c =
     let inside : c.loop-i.i < length c.args.starts.now = c.loop-i-test.true in
@@ -40,7 +34,7 @@ returns-then-clashes_after c =
     let words : (j : ℕ) → get_or c.args.starts.now j 0 < 2 ^ 32 = λ j. omega (arith, c.type_inv.starts j) in
     let value : clashes c.args.job.now c.args.starts.now c.loop-i.i ≡ c.clashes_after.result = latest-clash c.requires.0 words inside c.loop-i.invariant.1 c.start_action-a.ensures.0 c.start_moment.ensures.0
     ∙ sym c.clashes_after.ensures in
-    c.refuse.ensures ∙ tried_found c.loop-i.invariant.0 (omega arith) inside (value ∙ c.if-clashes_after.true)
+    rw c.refuse.ensures (tried_found c.loop-i.invariant.0 (omega arith) inside (value ∙ c.if-clashes_after.true))
 
 pub finish_of-requires : goal.finish_of-requires
 finish_of-requires c = c.requires.0.lasts.small _
@@ -50,12 +44,6 @@ offset_bounds-latest-a c = omega arith
 
 pub bounds-latest-a : goal.bounds-latest-a
 bounds-latest-a c = omega (arith, c.loop-i.invariant.1.size)
-
-pub overflow_add-i : goal.overflow_add-i
-overflow_add-i c = omega arith
-
-pub loop-i-smaller : goal.loop-i-smaller
-loop-i-smaller c = omega arith
 
 pub loop-i-preserved : goal.loop-i-preserved
 loop-i-preserved c =
@@ -70,4 +58,4 @@ loop-i-preserved c =
     )
 
 pub returns : goal.returns
-returns c = c.none.ensures ∙ tried_end c.loop-i.invariant.0 (omega arith)
+returns c = tried_end c.loop-i.invariant.0 (omega arith)

@@ -1,6 +1,5 @@
 -- `starts::clashes::first_clash` meets its contract. The invariant: the row fits no word before `i`, `latest` has the latest finishes of the
 -- starts before `i`, and `table` tells of each two actions that have one. Assumes nothing.
-use Prim.Native.Nat.{◌-◌}
 use lib.ListN.{length}
 use Rattle.starts.specs.Rows.{clashes}
 use Rattle.starts.specs.Code.Latest.{Latest, Clashes}
@@ -10,6 +9,3 @@ use Rattle.starts.proofs.clashes.first_clash.Given as goal
 abbrev pub invariant-loop-i : goal.invariant-loop-i
 invariant-loop-i l =
     Tried 9 (clashes l.job l.starts) (length l.starts) l.i × Latest l.job l.starts l.i l.latest × Clashes l.job l.latest l.table
-
-abbrev pub decreases-loop-i : goal.decreases-loop-i
-decreases-loop-i l = length l.starts - l.i

@@ -1,13 +1,8 @@
 -- `starts::clashes::has_clash` meets its contract. The invariant: whether the actions are opposed on a fluent below `f` is found. Assumes nothing.
 use mathlib.Core.Path.{◌≡◌}
-use Prim.Native.Nat.{◌-◌, ◌≤◌}
 use Rattle.words.specs.Scan.{any_below}
-use Rattle.job.specs.Parts.{fluents}
 use Rattle.starts.specs.Rows.{opposed}
 use Rattle.starts.proofs.clashes.has_clash.Given as goal
 
 abbrev pub invariant-loop-f : goal.invariant-loop-f
-invariant-loop-f l = (l.f ≤ fluents l.job) × (l.found ≡ any_below (opposed l.job l.a l.b) l.f)
-
-abbrev pub decreases-loop-f : goal.decreases-loop-f
-decreases-loop-f l = l.n - l.f
+invariant-loop-f l = l.found ≡ any_below (opposed l.job l.a l.b) l.f

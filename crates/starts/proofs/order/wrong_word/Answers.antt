@@ -1,38 +1,20 @@
 -- `starts::order::wrong_word` meets its contract. The invariant: the row fits no word before `i`. Assumes nothing.
 use mathlib.Core.Bool.{not}
-use mathlib.Core.Path.{◌∙◌, ap}
+use mathlib.Core.Path.{ap}
+use native.Mathlib.Omega.{arith}
 use Rattle.starts.specs.Rows.{wrong_word}
 use Rattle.starts.proofs.Rows.{tried_start, tried_more, tried_found, tried_end}
-use native.Mathlib.Omega.{arith}
 use Rattle.starts.proofs.order.wrong_word.Goals as goal
 
 pub loop-i-init : goal.loop-i-init
 loop-i-init c = tried_start
 
-pub offset_bounds-starts-i : goal.offset_bounds-starts-i
-offset_bounds-starts-i c = omega arith
-
-pub bounds-starts-i : goal.bounds-starts-i
-bounds-starts-i c = omega arith
-
-pub is_start-requires : goal.is_start-requires
-is_start-requires c = c.requires.some
-
-pub is_above-requires : goal.is_above-requires
-is_above-requires c = omega arith
-
 pub returns-then-not-is_start-is_above : goal.returns-then-not-is_start-is_above
 unfolding wrong_word
 returns-then-not-is_start-is_above c =
-    c.refuse.ensures
-    ∙ tried_found c.loop-i.invariant (omega arith) (omega arith)
-    (rw (← c.is_start.ensures, ← c.is_above.ensures) (ap not c.if-not-is_start-is_above.true))
-
-pub overflow_add-i : goal.overflow_add-i
-overflow_add-i c = omega arith
-
-pub loop-i-smaller : goal.loop-i-smaller
-loop-i-smaller c = omega arith
+    rw c.refuse.ensures
+    (tried_found c.loop-i.invariant (omega arith) (omega arith)
+    (rw (← c.is_start.ensures, ← c.is_above.ensures) (ap not c.if-not-is_start-is_above.true)))
 
 pub loop-i-preserved : goal.loop-i-preserved
 unfolding wrong_word
@@ -41,4 +23,4 @@ loop-i-preserved c =
     (rw (← c.is_start.ensures, ← c.is_above.ensures) (ap not c.if-not-is_start-is_above.false))
 
 pub returns : goal.returns
-returns c = c.none.ensures ∙ tried_end c.loop-i.invariant (omega arith)
+returns c = tried_end c.loop-i.invariant (omega arith)

@@ -14,12 +14,6 @@ use Rattle.starts.proofs.times.restart.Goals as goal
 pub loop-i-init : goal.loop-i-init
 loop-i-init c = (tried_start, latest-start _ _)
 
-pub offset_bounds-starts-i : goal.offset_bounds-starts-i
-offset_bounds-starts-i c = omega arith
-
-pub bounds-starts-i : goal.bounds-starts-i
-bounds-starts-i c = omega arith
-
 pub offset_bounds-latest-a : goal.offset_bounds-latest-a
 offset_bounds-latest-a c = omega arith
 
@@ -31,9 +25,7 @@ returns-then-start_moment-latest c =
     let words : (j : ℕ) → get_or c.args.starts.now j 0 < 2 ^ 32 = λ j. omega (arith, c.type_inv.starts j) in
     let value : in_hand_already c.args.job.now c.args.starts.now c.loop-i.i ≡ ltb c.start_moment.result (get_or c.loop-i.latest c.start_action-a.result 0) = latest-restart c.requires words c.loop-i-test.true c.loop-i.invariant.1
     c.start_action-a.ensures.0 c.start_moment.ensures.0 in
-    c.refuse.ensures
-    ∙ tried_found c.loop-i.invariant.0 (omega arith) c.loop-i-test.true
-    (value ∙ lt-ltb _ _ c.if-start_moment-latest.true)
+    rw c.refuse.ensures (tried_found c.loop-i.invariant.0 (omega arith) c.loop-i-test.true (value ∙ lt-ltb _ _ c.if-start_moment-latest.true))
 
 pub finish_of-requires : goal.finish_of-requires
 finish_of-requires c = c.requires.lasts.small _
@@ -43,12 +35,6 @@ offset_bounds-latest-a-in-loop-i c = omega arith
 
 pub bounds-latest-a-in-loop-i : goal.bounds-latest-a-in-loop-i
 bounds-latest-a-in-loop-i c = omega arith
-
-pub overflow_add-i : goal.overflow_add-i
-overflow_add-i c = omega arith
-
-pub loop-i-smaller : goal.loop-i-smaller
-loop-i-smaller c = omega arith
 
 pub loop-i-preserved : goal.loop-i-preserved
 loop-i-preserved c =
@@ -61,4 +47,4 @@ loop-i-preserved c =
     )
 
 pub returns : goal.returns
-returns c = c.none.ensures ∙ tried_end c.loop-i.invariant.0 (omega arith)
+returns c = tried_end c.loop-i.invariant.0 (omega arith)

@@ -1,6 +1,5 @@
 -- `starts::times::restart` meets its contract. The invariant: the row fits no word before `i`, and the table has the latest finishes of the
 -- starts before `i`. Assumes nothing.
-use Prim.Native.Nat.{◌-◌}
 use lib.ListN.{length}
 use Rattle.starts.specs.Rows.{in_hand_already}
 use Rattle.starts.specs.Code.Latest.{Latest}
@@ -9,6 +8,3 @@ use Rattle.starts.proofs.times.restart.Given as goal
 
 abbrev pub invariant-loop-i : goal.invariant-loop-i
 invariant-loop-i l = Tried 8 (in_hand_already l.job l.starts) (length l.starts) l.i × Latest l.job l.starts l.i l.latest
-
-abbrev pub decreases-loop-i : goal.decreases-loop-i
-decreases-loop-i l = length l.starts - l.i

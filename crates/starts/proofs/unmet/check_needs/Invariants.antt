@@ -1,5 +1,4 @@
 -- `starts::unmet::check_needs` meets its contract. The invariant: the row fits no word before `i`. Assumes nothing.
-use Prim.Native.Nat.{◌-◌}
 use lib.ListN.{length}
 use Rattle.starts.specs.Rows.{needs_unmet}
 use Rattle.starts.proofs.Rows.{Tried}
@@ -7,6 +6,3 @@ use Rattle.starts.proofs.unmet.check_needs.Given as goal
 
 abbrev pub invariant-loop-i : goal.invariant-loop-i
 invariant-loop-i l = Tried 10 (needs_unmet l.job l.starts) (length l.starts) l.i
-
-abbrev pub decreases-loop-i : goal.decreases-loop-i
-decreases-loop-i l = length l.starts - l.i

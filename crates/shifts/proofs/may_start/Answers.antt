@@ -1,5 +1,0 @@
--- `shifts::may_start` meets its contract. Assumes nothing.
-use Rattle.shifts.proofs.may_start.Goals as goal
-
-pub returns : goal.returns
-returns c = rw (c.has.ensures, c.has-2.ensures)
