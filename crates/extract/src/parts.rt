@@ -23,7 +23,7 @@ const NO_PART: Triple = Triple {
     end: 0,
 };
 
-// The first `count` of the triples, in order.
+// The first `count` of the triples, in order: there is no heap, so the array has room for the members of any task set.
 #[derive(Clone, Copy)]
 pub struct Parts {
     pub count: usize,

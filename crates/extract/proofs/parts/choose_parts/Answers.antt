@@ -1,8 +1,8 @@
 -- `extract::parts::choose_parts` meets its contract: in each arm the rule of the form gives what the search asks, and what it finds is a
 -- choice of parts. Assumes nothing.
-use mathlib.Core.Path.{◌≡◌, sym, ap, ◌∙◌}
+use mathlib.Core.Path.{sym, ap, ◌∙◌}
 use mathlib.Core.List.{List}
-use Prim.Native.Nat.{ℕ, ◌+◌, ◌*◌, ◌<◌, ◌≤◌}
+use Prim.Native.Nat.{ℕ, ◌+◌, ◌*◌, ◌<◌}
 use native.Mathlib.Omega.{arith}
 use lib.ListN.{get_or}
 use Rattle.std.proofs.Common.{rules}
@@ -10,7 +10,7 @@ use Rattle.model.specs.Procedure.{Procedure}
 use Rattle.model.specs.Trajectory.{Trajectory}
 use Rattle.model.specs.Forms.{form_number}
 use Rattle.model.specs.declared.Triple.{Triple}
-use Rattle.model.proofs.Forms.{no_form}
+use Rattle.model.proofs.Forms.{reserved}
 use Rattle.extract.specs.Code.Search.{Within}
 use Rattle.extract.specs.Code.Parts.{Choosable}
 use Rattle.extract.proofs.Choice.{end_last, act_chosen, test_chosen, reserved_chosen, choice_some, choice_chosen, if_chosen, sequence_some, sequence_chosen, end_some, end_chosen, start_some, start_chosen, set-some, set-chosen}
@@ -108,7 +108,5 @@ returns-in-8 c = let h = c.requires in set-chosen h.prepared h.known h.within h.
 pub returns-in-9-to-4294967295 : goal.returns-in-9-to-4294967295
 returns-in-9-to-4294967295 c =
     let h = c.requires in
-    let late : 9 ≤ c.node_of-node.result.form = omega arith in
-    let none : ((((((((((((((((((9 ≤ c.node_of-node.result.form) × (c.node_of-node.result.form ≡ 0 → ⊥))) × (c.node_of-node.result.form ≡ 1 → ⊥))) × (c.node_of-node.result.form ≡ 2 → ⊥))) × (c.node_of-node.result.form ≡ 3 → ⊥))) × (c.node_of-node.result.form ≡ 4 → ⊥))) × (c.node_of-node.result.form ≡ 5 → ⊥))) × (c.node_of-node.result.form ≡ 6 → ⊥))) × (c.node_of-node.result.form ≡ 7 → ⊥))) × (c.node_of-node.result.form ≡ 8 → ⊥))
-    = (((((((((late, λ q. omega arith), λ q. omega arith), λ q. omega arith), λ q. omega arith), λ q. omega arith), λ q. omega arith), λ q. omega arith), λ q. omega arith), λ q. omega arith) in
-    rw c.parts_of-in-9-to-4294967295.ensures (omega arith, reserved_chosen h.prepared h.known h.within h.found (ap form_number (sym c.node_of-node.ensures.form.0) ∙ no_form c.node_of-node.result.form none))
+    let node = c.node_of-node in
+    rw c.parts_of-in-9-to-4294967295.ensures (omega arith, reserved_chosen h.prepared h.known h.within h.found (ap form_number (sym node.ensures.form.0) ∙ reserved node.result.form (omega arith)))
