@@ -6,7 +6,8 @@ ghost use Rattle.answers.specs.Rows.{refused_at, refusal, passed, row, first_ref
 ghost use Rattle.answers.specs.Packed.{answered, answer_of, packed, fields};
 ghost use Rattle.answers.specs.Code.Packed.{Fits, InRange};
 
-// The numbers of the refusals, by the names of the C header.
+// The numbers of the refusals, by the names of the C header. They are no enum: the definitions of the rows give a refusal by its number, which the
+// host in C gets.
 pub const JOB_LENGTH: u32 = 1;
 
 pub const JOB_SHAPE: u32 = 2;
@@ -53,6 +54,7 @@ pub struct Refusal {
     pub position: usize,
 }
 
+// What a call answers. It is not the library's `Result`: both cases have a count, and `packed` and `written` speak of the two by these names.
 #[derive(Clone, Copy)]
 pub enum Answer {
     // `length` words were written to the lent buffer.

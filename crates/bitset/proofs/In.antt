@@ -1,5 +1,5 @@
 -- The members of the sets that the operations make, by the relation `In`. Assumes nothing.
-use Prim.Native.Nat.{ℕ, zero, ◌+◌, ◌^◌, ◌≤◌, ◌<◌, max}
+use Prim.Native.Nat.{ℕ, zero, ◌+◌, ◌^◌, ◌≤◌, ◌<◌}
 use mathlib.Core.Path.{◌≡◌, refl, sym, ap, ◌∙◌}
 use mathlib.Core.Bool.{true, not, ◌&&◌, ◌||◌}
 use mathlib.Core.Logic.{◌↔◌, ◌⊎◌, inl, inr, ⊎_elim}
@@ -7,7 +7,7 @@ use mathlib.Core.List.{List}
 use lib.Dec.{leb, ltb, eqb}
 use lib.ListN.{get_or, replicate}
 use borrow.Author.Tests.{leb-true, ltb-true, eqb-true, le-leb, lt-ltb, eq-eqb, ne_eqb}
-use Rattle.bitset.specs.Code.Members.{has, IsSetOf, In, Lowest, Dropped, Max, InSomeRow}
+use Rattle.bitset.specs.Code.Members.{has, IsSetOf, In, Lowest, Dropped, InSomeRow}
 use Rattle.words.proofs.Choices.{both_true}
 use Rattle.words.proofs.Entries.{entries_alike}
 use Rattle.bitset.proofs.Bools.{not_both, either, or_cases, or_left, or_right, both}
@@ -82,12 +82,6 @@ pub in_joined : {r x base : ℕ} {rows : List ℕ} → ((k : ℕ) → (has r k �
 in_joined h k = (
   λ t. let j = (h k).0 t.yes in (j.m, record { yes = j.in_x }, record { yes = j.in_row }),
   λ j. record { yes = (h k).1 (record { m = j.0; in_x = j.1.yes; in_row = j.2.yes }) },
-)
-
-pub in_max : {r a b : ℕ} → ((k : ℕ) → (has r k ≡ true) ↔ Max a b k) → (k : ℕ) → In r k ↔ ((i : ℕ) × (j : ℕ) × (k ≡ max i j) × In a i × In b j)
-in_max h k = (
-  λ t. let m = (h k).0 t.yes in (m.i, m.j, m.is_max, record { yes = m.in_a }, record { yes = m.in_b }),
-  λ m. record { yes = (h k).1 (record { i = m.0; j = m.1; in_a = m.3.yes; in_b = m.4.yes; is_max = m.2 }) },
 )
 
 -- an array of empty sets

@@ -10,7 +10,7 @@ use native.Mathlib.Decide.{dec_le}
 use native.Mathlib.Omega.{arith}
 use Rattle.bitset.specs.Code.Members.{Highest, In}
 use Rattle.bitset.proofs.Bools.{not_both}
-use Rattle.covering.specs.Code.Cover.{Some, Reaches, Needed, Coverable, Covering}
+use Rattle.covering.specs.Code.Cover.{SomeBelow, Reaches, Needed, Coverable, Covering}
 
 module _ {count : ℕ} {bs Es : ℕ → ℕ} {b e : ℕ} (some : 0 < count)
     (after : (i : ℕ) → i < count → b ≤ bs i) (onward : (i x : ℕ) → i < count → In (Es i) x → bs i ≤ x) where
@@ -20,7 +20,7 @@ module _ {count : ℕ} {bs Es : ℕ → ℕ} {b e : ℕ} (some : 0 < count)
       order : (i : ℕ) → i < count → (b ≤ bs i) × (bs i ≤ es i) × (es i ≤ e)
       order i l = (after i l, onward i (es i) l (h.chosen i l).0, (h.chosen i l).1)
 
-      last : Some count (λ i. In (Es i) e)
+      last : SomeBelow count (λ i. In (Es i) e)
       last =
           let o = order 0 some in
           let k = h.covers e (omega arith) (omega arith) in
@@ -30,7 +30,7 @@ module _ {count : ℕ} {bs Es : ℕ → ℕ} {b e : ℕ} (some : 0 < count)
           let q : es k.0 ≡ e = omega arith in
           record { at = k.0; below = k.1; is = subst (λ (x : ℕ). In (Es k.0) x) q m.0 }
 
-      first : Some count (λ i. bs i ≡ b)
+      first : SomeBelow count (λ i. bs i ≡ b)
       first =
           let o = order 0 some in
           let k = h.covers b (omega arith) (omega arith) in
@@ -73,3 +73,25 @@ module _ {count : ℕ} {bs Es : ℕ → ℕ} {b e : ℕ} (some : 0 < count)
           let m = j.is.0 in
           let z = reached j.at (bs k.0 - 1) j.below j.is.1 in
           (j.at, j.below, omega arith, omega arith))
+
+-- what covers rests on the begins and masks of the members alone
+module _ {count e : ℕ} {bs bs' Es Es' : ℕ → ℕ} (same : (i : ℕ) → i < count → bs i ≡ bs' i) (alike : (i : ℕ) → i < count → Es i ≡ Es' i) where
+  reaches_as : {i x : ℕ} → i < count → Reaches Es i x e → Reaches Es' i x e
+  reaches_as {i} l r = record { end = r.end; member = subst (λ (m : ℕ). In m r.end) (alike i l) r.member; late = r.late; upto = r.upto }
+
+  needed_as : {b i : ℕ} → i < count → Needed count bs Es b i e → Needed count bs' Es' b i e
+  needed_as {i = i} l h = record {
+    each = reaches_as l h.each;
+    bridged = λ g. let q = same i l in let k = h.bridged (omega arith) in let p = same k.at k.below in let u = k.is.0 in record {
+      at = k.at;
+      below = k.below;
+      is = (omega arith, reaches_as k.below (subst (λ (x : ℕ). Reaches Es k.at (x - 1) e) q k.is.1));
+    };
+  }
+
+  pub coverable_as : {b : ℕ} → Coverable count bs Es b e → Coverable count bs' Es' b e
+  coverable_as h = record {
+    last = let k = h.last in record { at = k.at; below = k.below; is = subst (λ (m : ℕ). In m e) (alike k.at k.below) k.is };
+    first = let k = h.first in let q = same k.at k.below in let u = k.is in record { at = k.at; below = k.below; is = omega arith };
+    needs = λ i l. needed_as l (h.needs i l);
+  }

@@ -1,4 +1,4 @@
--- `Some` over one number more, and what a loop gains. Assumes nothing.
+-- `SomeBelow` over one number more, and what a loop gains. Assumes nothing.
 use Prim.Native.Nat.{ℕ, ◌+◌, ◌<◌}
 use mathlib.Core.Path.{◌≡◌, subst}
 use mathlib.Core.Bool.{◌||◌}
@@ -7,18 +7,18 @@ use native.Mathlib.Decide.{dec_lt}
 use native.Mathlib.Omega.{arith}
 use Rattle.bitset.specs.Code.Members.{has, IsSetOf, In}
 use Rattle.bitset.proofs.In.{in_union}
-use Rattle.covering.specs.Code.Cover.{Some}
+use Rattle.covering.specs.Code.Cover.{SomeBelow}
 
-pub some_none : {P : ℕ → Type 0} → Some 0 P → ⊥
+pub some_none : {P : ℕ → Type 0} → SomeBelow 0 P → ⊥
 some_none s = let l = s.below in omega arith
 
-pub some_more : {P : ℕ → Type 0} (k : ℕ) → Some (k + 1) P ↔ (Some k P ⊎ P k)
+pub some_more : {P : ℕ → Type 0} (k : ℕ) → SomeBelow (k + 1) P ↔ (SomeBelow k P ⊎ P k)
 some_more {P} k = (
   λ s. by_cases (dec_lt s.at k) (λ l. inl (record { at = s.at; below = l; is = s.is })) (λ l. inr (subst P (last s l) s.is)),
   ⊎_elim (λ s. let l = s.below in record { at = s.at; below = omega arith; is = s.is }) (λ p. record { at = k; below = omega arith; is = p }),
 )
   where
-    last : (s : Some (k + 1) P) → (s.at < k → ⊥) → s.at ≡ k
+    last : (s : SomeBelow (k + 1) P) → (s.at < k → ⊥) → s.at ≡ k
     last s l = let u = s.below in omega arith
 
 -- the gain in other words

@@ -4,7 +4,7 @@ use mathlib.Core.Logic.{◌↔◌}
 use native.Mathlib.Omega.{arith}
 use borrow.Author.Count.{below_more}
 use Rattle.bitset.specs.Code.Members.{In}
-use Rattle.covering.specs.Code.Cover.{Some, Reaches, Bridged, Needed}
+use Rattle.covering.specs.Code.Cover.{SomeBelow, Reaches, Bridged, Needed}
 
 -- r is the least member of m from x on, as far as e
 abbrev pub LeastAt : ℕ → ℕ → ℕ → ℕ → Type 0
@@ -16,7 +16,7 @@ reaches h = (
   λ s. h.1 (s.end, s.member, s.late, s.upto),
 )
 
-pub bridges : {count x e r : ℕ} {bs Es : ℕ → ℕ} (m : ℕ) → ((y : ℕ) → In m y ↔ Some count (λ i. (bs i < x) × In (Es i) y)) → LeastAt m (x - 1) r e
+pub bridges : {count x e r : ℕ} {bs Es : ℕ → ℕ} (m : ℕ) → ((y : ℕ) → In m y ↔ SomeBelow count (λ i. (bs i < x) × In (Es i) y)) → LeastAt m (x - 1) r e
     → (r ≤ e) ↔ Bridged count bs Es x e
 bridges m is h = (
   λ l. let s = h.0 l in let j = (is s.0).0 s.1 in

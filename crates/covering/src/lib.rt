@@ -1,96 +1,78 @@
 // The ends of a set whose members' begins are fixed, by the masks of the members' ends, with no search.
 #![tactic(auto)]
 
-ghost use Rattle.std.specs.Prelude.{◌≡◌, true, ◌↔◌, ℕ, ◌<◌, ◌≤◌};
+ghost use Rattle.std.specs.Prelude.{◌≡◌, true, ◌↔◌, ℕ, ◌<◌, ◌≤◌, length, IfSome, IsSomeAnd};
 ghost use Rattle.bitset.specs.Code.Members.{In};
-ghost use Rattle.covering.specs.Code.Cover.{Some, Needed, Coverable, CoverReady, entry_at};
+ghost use Rattle.covering.specs.Code.Cover.{SomeBelow, Needed, Coverable, CoverReady, entry_at};
 
-use words::{MEMBERS, MOMENTS};
-
-// What stands for an end that does not exist: moments are 0 to 63.
-const NO_END: u32 = MOMENTS as u32;
+use words::MOMENTS;
 
 // The ends of the members that begin before x.
-fn ends_before(begins: [u32; MEMBERS], ends: [u64; MEMBERS], count: usize, x: u32) -> u64
-    requires { count ≤ 4 }
-    ensures { (e : ℕ) → In result e ↔ Some count (λ i. (entry_at begins i < x) × (In (entry_at ends i) e)) }
+fn ends_before(begins: &[u32], ends: &[u64], x: u32) -> u64
+    requires { length ends.now ≡ length begins.now }
+    ensures { (e : ℕ) → In result e ↔ SomeBelow (length begins.now) (λ i. (entry_at begins.now i < x) × (In (entry_at ends.now i) e)) }
 {
     let mut r = 0;
-    let mut i = 0;
-    while i < count {
-        if begins[i] < x {
+    for (i, &begin) in begins.iter().enumerate() {
+        if begin < x {
             r = bitset::union(r, ends[i]);
         }
-        i += 1;
     }
     r
 }
 
-// The least member from a on, or NO_END.
-fn least_from(x: u64, a: u32) -> u32
+// The least member from a on.
+fn least_from(x: u64, a: u32) -> Option<u32>
     requires { a < 64 }
-    ensures { (e : ℕ) → e < 64 → (result ≤ e) ↔ ((y : ℕ) × (In x y) × (a ≤ y) × (y ≤ e)) }
+    ensures moment { IfSome result (λ m. m < 64) }
+    ensures least { (e : ℕ) → e < 64 → IsSomeAnd result (λ m. m ≤ e) ↔ ((y : ℕ) × (In x y) × (a ≤ y) × (y ≤ e)) }
 {
     let late = bitset::inter(x, bitset::from(a));
     if late == 0 {
-        return NO_END;
+        return None;
     }
-    bitset::lowest(late)
+    Some(bitset::lowest(late))
 }
 
-// The end from which on member i asks nothing more, or NO_END.
-fn need(begins: [u32; MEMBERS], ends: [u64; MEMBERS], count: usize, b: u32, i: usize) -> u32
-    requires { (count ≤ 4) × (i < count) × (entry_at begins i < 64) }
-    ensures { (e : ℕ) → e < 64 → (result ≤ e) ↔ Needed count (entry_at begins) (entry_at ends) b i e }
+// The end from which on member i asks nothing more.
+fn need(begins: &[u32], ends: &[u64], b: u32, i: usize) -> Option<u32>
+    requires { (length ends.now ≡ length begins.now) × (i < length begins.now) × (entry_at begins.now i < 64) }
+    ensures moment { IfSome result (λ m. m < 64) }
+    ensures least { (e : ℕ) → e < 64 → IsSomeAnd result (λ m. m ≤ e) ↔ Needed (length begins.now) (entry_at begins.now) (entry_at ends.now) b i e }
 {
-    let own = least_from(ends[i], 0);
+    let own = least_from(ends[i], 0)?;
     let x = begins[i];
     if b < x {
-        let bridge = least_from(ends_before(begins, ends, count, x), x - 1);
-        if own < bridge {
-            return bridge;
-        }
+        let bridge = least_from(ends_before(begins, ends, x), x - 1)?;
+        return Some(own.max(bridge));
     }
-    own
+    Some(own)
 }
 
-// Whether one of the first count members begins at b.
-fn begins_at(begins: [u32; MEMBERS], count: usize, b: u32) -> bool
-    requires { count ≤ 4 }
-    ensures { (result ≡ true) ↔ Some count (λ i. entry_at begins i ≡ b) }
+// Whether one of the members begins at b.
+fn begins_at(begins: &[u32], b: u32) -> bool
+    ensures { (result ≡ true) ↔ SomeBelow (length begins.now) (λ i. entry_at begins.now i ≡ b) }
 {
-    let mut i = 0;
-    while i < count {
-        if begins[i] == b {
-            return true;
-        }
-        i += 1;
-    }
-    false
+    begins.contains(&b)
 }
 
-// The ends e of which some choice of ends covers b..e.
-pub fn covered(begins: [u32; MEMBERS], ends: [u64; MEMBERS], count: usize, b: u32) -> u64
-    requires { CoverReady count (entry_at begins) (entry_at ends) }
-    ensures { (e : ℕ) → In result e ↔ Coverable count (entry_at begins) (entry_at ends) b e }
+// The ends e of which some choice of ends covers b..e. Begins and ends are two lists and no list of pairs, since a search keeps the begins alone.
+pub fn covered(begins: &[u32], ends: &[u64], b: u32) -> u64
+    requires { CoverReady (length begins.now) (entry_at begins.now) (entry_at ends.now) × (length ends.now ≡ length begins.now) }
+    ensures { (e : ℕ) → In result e ↔ Coverable (length begins.now) (entry_at begins.now) (entry_at ends.now) b e }
 {
-    if !begins_at(begins, count, b) {
+    if !begins_at(begins, b) {
         return 0;
     }
     let mut least = 0;
-    let mut i = 0;
-    while i < count {
-        let own = need(begins, ends, count, b, i);
-        if NO_END <= own {
+    for i in 0..begins.len() {
+        let Some(own) = need(begins, ends, b, i) else {
             return 0;
-        }
-        if least < own {
-            least = own;
-        }
-        i += 1;
+        };
+        least = own.max(least);
     }
     bitset::inter(
-        ends_before(begins, ends, count, NO_END),
+        ends_before(begins, ends, MOMENTS as u32),
         bitset::from(least),
     )
 }

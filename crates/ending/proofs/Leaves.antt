@@ -1,22 +1,24 @@
 -- A set whose begins are all fixed: the ends that its members may have. Assumes nothing.
 use Prim.Native.Nat.{ℕ, zero, suc, ◌+◌, ◌*◌, ◌≤◌, ◌<◌}
-use mathlib.Core.Path.{◌≡◌, refl, subst}
+use mathlib.Core.Path.{◌≡◌, refl, sym, subst}
 use mathlib.Core.Bool.{false}
 use mathlib.Core.Logic.{◌↔◌, ◌⊎◌, inl, inr, by_cases, ⊎_elim}
 use mathlib.Core.List.{List}
 use native.Mathlib.Decide.{dec_lt}
 use native.Mathlib.Nat.{le_refl}
 use native.Mathlib.Omega.{arith}
-use lib.ListN.{get_or}
+use lib.ListN.{length, get_or, take}
+use Rattle.std.proofs.lemmas.List.{get_or-take, length-take-le}
 use Rattle.bitset.specs.Code.Members.{has, Highest, In}
 use Rattle.bitset.proofs.Bools.{not_both, either}
 use Rattle.words.specs.Fields.{condition_i}
 use Rattle.model.specs.Forms.{condition_form}
-use Rattle.covering.specs.Code.Cover.{entry_at, Coverable}
+use Rattle.covering.specs.Code.Cover.{entry_at, Coverable, CoverReady}
 use Rattle.ending.specs.Code.Ends.{EndsReady, asked, partner_of, MetByMask, EndAt}
 use Rattle.keeping.specs.Code.Tables.{pair_at}
+use Rattle.keeping.specs.declared.Tables.{Tables}
 use Rattle.ending.specs.Code.Search.{Masked, SearchReady, ReadsWith}
-use Rattle.covering.proofs.Cover.{coverable, covering}
+use Rattle.covering.proofs.Cover.{coverable, covering, coverable_as}
 use Rattle.ending.proofs.Conditions.{partner-less}
 
 -- the greatest member up to e, or there is none
@@ -36,10 +38,27 @@ greatest x (suc e) = ⊎_elim
     step : has x (suc e) ≡ false → (k : ℕ) → k ≤ suc e → (k ≤ e → has x k ≡ false) → has x k ≡ false
     step f k l h = by_cases (dec_lt k (suc e)) (λ g. h (omega arith)) (λ g. let q : suc e ≡ k = omega arith in subst (λ (j : ℕ). has x j ≡ false) q f)
 
+-- ---- the first n begins and masks of two lists
+
+module _ (l m : List ℕ) (n : ℕ) (few : n ≤ length l) (few' : n ≤ length m) where
+  pub front_ready : n ≤ 4 → ((i : ℕ) → i < n → entry_at l i < 64) → ((i e : ℕ) → i < n → In (entry_at m i) e → e < 64)
+      → CoverReady (length (take n l)) (entry_at (take n l)) (entry_at (take n m))
+  front_ready four begins ends = rw (length-take-le n l few) (record {
+    few = four;
+    begins = λ i k. rw (get_or-take n l i 0 k) (begins i k);
+    ends = λ i e k t. ends i e k (rw (get_or-take n m i 0 k) at t);
+  })
+
+  pub front_covers : {b e : ℕ} → Coverable (length (take n l)) (entry_at (take n l)) (entry_at (take n m)) b e ↔ Coverable n (entry_at l) (entry_at m) b e
+  front_covers = rw (length-take-le n l few) (
+    coverable_as (λ i k. get_or-take n l i 0 k) (λ i k. get_or-take n m i 0 k),
+    coverable_as (λ i k. sym (get_or-take n l i 0 k)) (λ i k. sym (get_or-take n m i 0 k)),
+  )
+
 -- ---- the ends depend on the begins of the members alone
 
 -- what the ends with given begins need, of a search
-pub ends_ready : {cs ends begins : List ℕ} {count lo hi : ℕ} → SearchReady cs ends count lo hi → ((i : ℕ) → entry_at begins i < 64) → EndsReady cs count begins
+pub ends_ready : {t : Tables} {begins : List ℕ} {lo hi : ℕ} → SearchReady t lo hi → ((i : ℕ) → entry_at begins i < 64) → EndsReady t begins
 ends_ready r moments = record {
   few = r.few;
   conditions = r.conditions;
@@ -53,44 +72,44 @@ met_same cs allow bs bs' c e p q h = let f = condition_form (get_or cs c 0) in
     subst (λ (x : ℕ). In (get_or allow (c * 64 + bs' (partner_of (get_or cs c 0))) 0) (asked f x e)) q
     (subst (λ (y : ℕ). In (get_or allow (c * 64 + y) 0) (asked f (bs (condition_i (get_or cs c 0))) e)) p h)
 
-pub end_same : {cs allow ends : List ℕ} {count lo hi : ℕ} {bs bs' : ℕ → ℕ} → SearchReady cs ends count lo hi → ((i : ℕ) → i < count → bs i ≡ bs' i)
-    → (i e : ℕ) → i < count → EndAt cs allow ends bs i e → EndAt cs allow ends bs' i e
-end_same {cs} {allow} {ends} {bs = bs} {bs' = bs'} r q i e l h = record {
-  reads = subst (λ (x : ℕ). In (pair_at ends i i x) e) (q i l) h.reads;
+pub end_same : {t : Tables} {lo hi : ℕ} {bs bs' : ℕ → ℕ} → SearchReady t lo hi → ((i : ℕ) → i < t.count → bs i ≡ bs' i)
+    → (i e : ℕ) → i < t.count → EndAt t bs i e → EndAt t bs' i e
+end_same {t} {bs = bs} {bs' = bs'} r q i e l h = record {
+  reads = subst (λ (x : ℕ). In (pair_at t.ends i i x) e) (q i l) h.reads;
   met = λ c m f. let n = r.named c m in
-      met_same cs allow bs bs' c e (q _ (partner-less (condition_form (get_or cs c 0)) n.0 n.1)) (q _ n.0) (h.met c m f);
+      met_same t.conditions.now t.allow bs bs' c e (q _ (partner-less (condition_form (get_or t.conditions.now c 0)) n.0 n.1)) (q _ n.0) (h.met c m f);
 }
 
-module _ {cs allow ends : List ℕ} {count b hi : ℕ} {bs Es : ℕ → ℕ} (ready : SearchReady cs ends count b hi)
-    (sets : (i e : ℕ) → i < count → In (Es i) e ↔ EndAt cs allow ends bs i e) (range : (i : ℕ) → i < count → (b ≤ bs i) × (bs i ≤ hi)) where
-  pub onward : (i e : ℕ) → i < count → In (Es i) e → (bs i ≤ e) × (e ≤ hi)
+module _ {t : Tables} {b hi : ℕ} {bs Es : ℕ → ℕ} (ready : SearchReady t b hi)
+    (sets : (i e : ℕ) → i < t.count → In (Es i) e ↔ EndAt t bs i e) (range : (i : ℕ) → i < t.count → (b ≤ bs i) × (bs i ≤ hi)) where
+  pub onward : (i e : ℕ) → i < t.count → In (Es i) e → (bs i ≤ e) × (e ≤ hi)
   onward i e l t = ready.onward i (bs i) e l (range i l).0 (range i l).1 ((sets i e l).0 t).reads
 
   -- the greatest ends do
-  pub masked_top : {e : ℕ} {es : ℕ → ℕ} → Coverable count bs Es b e → ((i : ℕ) → i < count → Highest (Es i) e (es i)) → Masked cs allow ends count b e bs es
+  pub masked_top : {e : ℕ} {es : ℕ → ℕ} → Coverable t.count bs Es b e → ((i : ℕ) → i < t.count → Highest (Es i) e (es i)) → Masked t b e bs es
   masked_top h top = let c = covering ready.some (λ i l. (range i l).0) (λ i x l t. (onward i x l t).0) h top in record {
     inside = λ i l. ((range i l).0, (onward i _ l (c.chosen i l).0).0, (c.chosen i l).1);
     covers = c.covers;
     lawful = λ i l. (sets i _ l).0 (c.chosen i l).0;
   }
 
-  pub reads_with : {e : ℕ} → Coverable count bs Es b e → ReadsWith cs allow ends count b e bs
+  pub reads_with : {e : ℕ} → Coverable t.count bs Es b e → ReadsWith t b e bs
   reads_with {e} h =
-      let top : (i : ℕ) → (m : ℕ) × (i < count → Highest (Es i) e m)
+      let top : (i : ℕ) → (m : ℕ) × (i < t.count → Highest (Es i) e m)
       = λ i. ⊎_elim (λ t. (t.0, λ l. t.1)) (λ n. (0, λ l. let r = (h.needs i l).each in not_both r.member.yes (n r.end r.upto))) (greatest (Es i) e) in
       record { es = λ i. (top i).0; masked = masked_top h (λ i l. (top i).1 l) }
 
   -- and no others
-  pub covers_all : {e : ℕ} {bs' es : ℕ → ℕ} → ((i : ℕ) → i < count → bs' i ≡ bs i) → Masked cs allow ends count b e bs' es → Coverable count bs Es b e
+  pub covers_all : {e : ℕ} {bs' es : ℕ → ℕ} → ((i : ℕ) → i < t.count → bs' i ≡ bs i) → Masked t b e bs' es → Coverable t.count bs Es b e
   covers_all q m = coverable ready.some (λ i l. (range i l).0) (λ i x l t. (onward i x l t).0) (record {
     chosen = λ i l. ((sets i _ l).1 (end_same ready q i _ l (m.lawful i l)), (m.inside i l).2);
     covers = λ t g u. let k = m.covers t g u in (k.0, k.1, subst (λ (x : ℕ). x ≤ t) (q k.0 k.1) k.2, k.3);
   })
 
 -- begins with which the set reads b to e, and the greatest ends for them
-pub top_ends : {cs allow ends : List ℕ} {count b e : ℕ} {bs Es es es' : ℕ → ℕ} → SearchReady cs ends count b e
-    → ((i e : ℕ) → i < count → In (Es i) e ↔ EndAt cs allow ends bs i e) → Masked cs allow ends count b e bs es
-    → ((i : ℕ) → i < count → Highest (Es i) e (es' i)) → Masked cs allow ends count b e bs es'
-top_ends {count = count} {b} {e} {bs} r sets m top =
-    let range : (i : ℕ) → i < count → (b ≤ bs i) × (bs i ≤ e) = λ i l. let o = m.inside i l in (o.0, omega (arith, o)) in
+pub top_ends : {t : Tables} {b e : ℕ} {bs Es es es' : ℕ → ℕ} → SearchReady t b e
+    → ((i e : ℕ) → i < t.count → In (Es i) e ↔ EndAt t bs i e) → Masked t b e bs es
+    → ((i : ℕ) → i < t.count → Highest (Es i) e (es' i)) → Masked t b e bs es'
+top_ends {t} {b} {e} {bs} r sets m top =
+    let range : (i : ℕ) → i < t.count → (b ≤ bs i) × (bs i ≤ e) = λ i l. let o = m.inside i l in (o.0, omega (arith, o)) in
     masked_top r sets range (covers_all r sets range (λ i l. refl) m) top

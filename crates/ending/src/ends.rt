@@ -6,7 +6,7 @@ ghost use Rattle.covering.specs.Code.Cover.{entry_at};
 ghost use Rattle.ending.specs.Code.Ends.{asked, partner, EndAt, EndsReady, Narrowable, Narrowed};
 ghost use Rattle.keeping.specs.Code.Tables.{pair_at};
 
-use keeping::{MASKS, PAIRS, pair_at};
+use keeping::{Tables, pair_at};
 use words::forms::{BEGIN_AFTER_BEGIN, HOLDS_AFTER, HOLDS_BEFORE};
 use words::{MEMBERS, MOMENTS};
 
@@ -41,53 +41,38 @@ fn end_mask(form: u32, m: u64, x: u32) -> u64
 }
 
 // The ends of each member in its own row.
-fn own_ends(ends: &[u64; PAIRS], count: usize, begins: [u32; MEMBERS]) -> [u64; MEMBERS]
-    requires { (count ≤ 4) × ((i : ℕ) → entry_at begins i < 64) }
-    ensures { ((i : ℕ) → i < count → entry_at result i ≡ pair_at ends.now i i (entry_at begins i)) × ((i e : ℕ) → In (entry_at result i) e → e < 64) }
+fn own_ends(tables: &Tables, begins: [u32; MEMBERS]) -> [u64; MEMBERS]
+    requires { (tables.now.count ≤ 4) × ((i : ℕ) → entry_at begins i < 64) }
+    ensures { ((i : ℕ) → i < tables.now.count → entry_at result i ≡ pair_at tables.now.ends i i (entry_at begins i)) × ((i e : ℕ) → In (entry_at result i) e → e < 64) }
 {
     let mut r = [0u64; MEMBERS];
-    let mut i = 0;
-    while i < count {
-        r[i] = pair_at(ends, i, i, begins[i]);
-        i += 1;
+    for i in 0..tables.count {
+        r[i] = pair_at(&tables.ends, i, i, begins[i]);
     }
     r
 }
 
 // The masks with all conditions.
-fn narrow(
-    conds: &[u32],
-    allow: &[u64; MASKS],
-    begins: [u32; MEMBERS],
-    ends: [u64; MEMBERS],
-) -> [u64; MEMBERS]
-    requires { Narrowable conds.now begins ends }
-    ensures { Narrowed conds.now allow.now begins ends (length conds.now) result }
+fn narrow(tables: &Tables, begins: [u32; MEMBERS], ends: [u64; MEMBERS]) -> [u64; MEMBERS]
+    requires { Narrowable tables.now begins ends }
+    ensures { Narrowed tables.now begins ends (length tables.now.conditions.now) result }
 {
     let mut next = ends;
-    let mut c = 0;
-    while c < conds.len() {
-        let w = conds[c];
+    for (c, &w) in tables.conditions.iter().enumerate() {
         let form = words::form_of(w);
         let i = words::condition_i(w);
         let j = partner(form, i, words::condition_j(w));
-        let mask = end_mask(form, allow[c * MOMENTS + begins[j] as usize], begins[i]);
+        let met = tables.allow[c * MOMENTS + begins[j] as usize];
+        let mask = end_mask(form, met, begins[i]);
         next[i] = bitset::inter(next[i], mask);
-        c += 1;
     }
     next
 }
 
 // The ends that each member may have with these begins.
-pub fn ends_at(
-    conds: &[u32],
-    allow: &[u64; MASKS],
-    ends: &[u64; PAIRS],
-    count: usize,
-    begins: [u32; MEMBERS],
-) -> [u64; MEMBERS]
-    requires { EndsReady conds.now count begins }
-    ensures { (i e : ℕ) → i < count → In (entry_at result i) e ↔ EndAt conds.now allow.now ends.now (entry_at begins) i e }
+pub fn ends_at(tables: &Tables, begins: [u32; MEMBERS]) -> [u64; MEMBERS]
+    requires { EndsReady tables.now begins }
+    ensures { (i e : ℕ) → i < tables.now.count → In (entry_at result i) e ↔ EndAt tables.now (entry_at begins) i e }
 {
-    narrow(conds, allow, begins, own_ends(ends, count, begins))
+    narrow(tables, begins, own_ends(tables, begins))
 }

@@ -4,13 +4,17 @@ use mathlib.Core.Path.{◌≡◌, sym, ◌∙◌}
 use mathlib.Core.Logic.{◌⊎◌, inl, inr, ⊎_elim}
 use mathlib.Core.List.{List, [], ◌∷◌, ◌++◌}
 use native.Mathlib.Omega.{arith}
-use lib.ListN.{length, get_or, length-map, get_or-map}
+use lib.ListN.{length, length-map, get_or-map, length-take}
+use lib.Seq.{get_or-take}
 use Rattle.words.specs.Scan.{concat_below}
 use Rattle.words.specs.Fields.{holds, member_node, reading_word}
 use Rattle.model.specs.Trajectory.{Trajectory}
 use Rattle.model.specs.Procedure.{Procedure}
+use Rattle.sets.specs.Set.{member_count}
+use Rattle.sets.specs.Code.Set.{member}
 use Rattle.sets.specs.Code.Rows.{task_set_of, entry_at, Placeable, Placed}
 use Rattle.model.specs.Code.Table.{InTable}
+use Rattle.model.specs.declared.Triple.{Triple}
 use Rattle.model.specs.Forms.{Form, Act, Test, Sequence, Choice, If, StartWindow, EndWindow, Set, Reserved, form_at, field_x, field_y, field_m, field_n}
 use Rattle.model.specs.Code.Forms.{children_as, Below}
 use Rattle.reading.specs.Forms.{set_at}
@@ -21,8 +25,9 @@ use Rattle.reading.proofs.Nodes.{members_lower}
 use Rattle.reading.proofs.Quiet.{quiet_law}
 use Rattle.reading.specs.Code.Quiet.{pause_of, at_once}
 use Rattle.extract.specs.Code.Search.{CutAt, StartAt}
+use Rattle.sets.specs.declared.placing.Placement.{Placement}
 use Rattle.extract.specs.declared.parts.Parts.{Parts}
-use Rattle.extract.specs.Code.Parts.{no_parts, one_part, two_parts, PlacedParts, Prepared, Chosen}
+use Rattle.extract.specs.Code.Parts.{triple_of, parts_in, part_of, IsPlaced, PlacedParts, Prepared, Chosen}
 
 -- what holds of 0 and of 1 holds of each number below 2
 below_two : (F : ℕ → Type 0) → F 0 → F 1 → (i : ℕ) → i < 2 → F i
@@ -63,37 +68,36 @@ module _ {P : Procedure} {T : Trajectory} {started size : ℕ} {places table : L
 
   -- ---- no part
 
-  chosen_none : Reads p b e (reading_word p b e ∷ []) → Chosen P T table p b e no_parts
+  chosen_none : Reads p b e (reading_word p b e ∷ []) → Chosen P T table p b e []
   unfolding concat_below
   chosen_none r =
       record {
-        few = omega arith;
         lower = λ i l. absurd (omega arith);
         begin = λ i l. absurd (omega arith);
         found = λ i l. absurd (omega arith);
         reads = λ us rs. r;
       }
 
-  pub act_chosen : form_at P p ≡ Act → Chosen P T table p b e no_parts
+  pub act_chosen : form_at P p ≡ Act → Chosen P T table p b e []
   act_chosen f = let r = rule Act f in chosen_none (act f r.0 r.1)
 
-  pub test_chosen : form_at P p ≡ Test → Chosen P T table p b e no_parts
+  pub test_chosen : form_at P p ≡ Test → Chosen P T table p b e []
   test_chosen f = let r = rule Test f in chosen_none (test f r.0 r.1)
 
   -- a node of a reserved form is not read
-  pub reserved_chosen : {r : Parts} → form_at P p ≡ Reserved → Chosen P T table p b e r
+  pub reserved_chosen : {ts : List Triple} → form_at P p ≡ Reserved → Chosen P T table p b e ts
   reserved_chosen f = absurd (rule Reserved f)
 
   -- ---- one part
 
-  chosen_one : {q : ℕ} → q < p → InTable table q b e → ((us : List ℕ) → Reads q b e us → Reads p b e (reading_word p b e ∷ us)) → Chosen P T table p b e (one_part q b e)
+  chosen_one : {q : ℕ} → q < p → InTable table q b e → ((us : List ℕ) → Reads q b e us → Reads p b e (reading_word p b e ∷ us)) → Chosen P T table p b e (triple_of q b e ∷ [])
   unfolding concat_below
   chosen_one {q} l t r =
+      let ts : List Triple = (triple_of q b e ∷ []) in
       record {
-        few = omega arith;
-        lower = below_one (λ i. get_or (q ∷ 0 ∷ 0 ∷ 0 ∷ []) i 0 < p) l;
-        begin = below_one (λ i. get_or (b ∷ 0 ∷ 0 ∷ 0 ∷ []) i 0 ≤ T.last) begin;
-        found = below_one (λ i. InTable table (get_or (q ∷ 0 ∷ 0 ∷ 0 ∷ []) i 0) (get_or (b ∷ 0 ∷ 0 ∷ 0 ∷ []) i 0) (get_or (e ∷ 0 ∷ 0 ∷ 0 ∷ []) i 0)) t;
+        lower = below_one (λ i. (part_of ts i).node < p) l;
+        begin = below_one (λ i. (part_of ts i).begin ≤ T.last) begin;
+        found = below_one (λ i. InTable table (part_of ts i).node (part_of ts i).begin (part_of ts i).end) t;
         reads = λ us rs. r (us 0) (rs 0 (omega arith));
       }
 
@@ -101,30 +105,30 @@ module _ {P : Procedure} {T : Trajectory} {started size : ℕ} {places table : L
     pub choice_some : InTable table x b e ⊎ InTable table y b e
     choice_some = rw (ex, ey) (rule Choice f)
 
-    pub choice_chosen : {q : ℕ} → (q ≡ x) ⊎ (q ≡ y) → InTable table q b e → Chosen P T table p b e (one_part q b e)
+    pub choice_chosen : {q : ℕ} → (q ≡ x) ⊎ (q ≡ y) → InTable table q b e → Chosen P T table p b e (triple_of q b e ∷ [])
     choice_chosen (inl h) t = let l = (lowers Choice f).0 in chosen_one (omega arith) t (λ us r. first f (rw (h, ex) at r))
     choice_chosen (inr h) t = let l = (lowers Choice f).1.0 in chosen_one (omega arith) t (λ us r. second f (rw (h, ey) at r))
 
   module _ {v y z : ℕ} (f : form_at P p ≡ If) (ev : v ≡ T.value (field_x P p) b) (ey : y ≡ field_y P p) (ez : z ≡ field_m P p) where
-    pub if_chosen : {r : Parts} → ((v ≡ holds) × (r ≡ one_part y b e)) ⊎ ((v ≡ holds → ⊥) × (r ≡ one_part z b e)) → Chosen P T table p b e r
-    if_chosen (inl h) = rw h.1 (⊎_elim
-        (λ g. let l = (lowers If f).0 in chosen_one (omega arith) (rw ey g.1) (λ us r. taken f g.0 (rw ey at r)))
-        (λ g. absurd (omega (arith, h.0, g.0))) (rule If f))
-    if_chosen (inr h) = rw h.1 (⊎_elim
+    pub if_chosen : {q : ℕ} → ((v ≡ holds) × (q ≡ y)) ⊎ ((v ≡ holds → ⊥) × (q ≡ z)) → Chosen P T table p b e (triple_of q b e ∷ [])
+    if_chosen (inl h) = ⊎_elim
+        (λ g. let l = (lowers If f).0 in chosen_one (omega (arith, h.1)) (rw (h.1, ey) g.1) (λ us r. taken f g.0 (rw (h.1, ey) at r)))
+        (λ g. absurd (omega (arith, h.0, g.0))) (rule If f)
+    if_chosen (inr h) = ⊎_elim
         (λ g. absurd (h.0 (ev ∙ g.0)))
-        (λ g. let l = (lowers If f).1.0 in chosen_one (omega arith) (rw ez g.1) (λ us r. otherwise f g.0 (rw ez at r))) (rule If f))
+        (λ g. let l = (lowers If f).1.0 in chosen_one (omega (arith, h.1)) (rw (h.1, ez) g.1) (λ us r. otherwise f g.0 (rw (h.1, ez) at r))) (rule If f)
 
   -- ---- two parts
 
   chosen_two : {x k y m l : ℕ} → x < p → y < p → InTable table x b k → InTable table y m l → m ≤ T.last
-      → ((us vs : List ℕ) → Reads x b k us → Reads y m l vs → Reads p b e (reading_word p b e ∷ (us ++ vs))) → Chosen P T table p b e (two_parts x b k y m l)
+      → ((us vs : List ℕ) → Reads x b k us → Reads y m l vs → Reads p b e (reading_word p b e ∷ (us ++ vs))) → Chosen P T table p b e (triple_of x b k ∷ triple_of y m l ∷ [])
   unfolding concat_below
   chosen_two {x} {k} {y} {m} {l} hx hy tx ty hm r =
+      let ts : List Triple = (triple_of x b k ∷ triple_of y m l ∷ []) in
       record {
-        few = omega arith;
-        lower = below_two (λ i. get_or (x ∷ y ∷ 0 ∷ 0 ∷ []) i 0 < p) hx hy;
-        begin = below_two (λ i. get_or (b ∷ m ∷ 0 ∷ 0 ∷ []) i 0 ≤ T.last) begin hm;
-        found = below_two (λ i. InTable table (get_or (x ∷ y ∷ 0 ∷ 0 ∷ []) i 0) (get_or (b ∷ m ∷ 0 ∷ 0 ∷ []) i 0) (get_or (k ∷ l ∷ 0 ∷ 0 ∷ []) i 0)) tx ty;
+        lower = below_two (λ i. (part_of ts i).node < p) hx hy;
+        begin = below_two (λ i. (part_of ts i).begin ≤ T.last) begin hm;
+        found = below_two (λ i. InTable table (part_of ts i).node (part_of ts i).begin (part_of ts i).end) tx ty;
         reads = λ us rs. r (us 0) (us 1) (rs 0 (omega arith)) (rs 1 (omega arith));
       }
 
@@ -136,7 +140,7 @@ module _ {P : Procedure} {T : Trajectory} {started size : ℕ} {places table : L
         let small = s.ready.moments in
         (r.m, r.m, record { after = r.early; end = omega arith; early = omega arith; late = omega arith; quiet = λ t i j. absurd (omega arith); begin = omega arith; ends = rw ex r.left; begins = rw ey r.right })
 
-    pub sequence_chosen : {k m : ℕ} → CutAt table x y b e at_once b k m → Chosen P T table p b e (two_parts x b k y m e)
+    pub sequence_chosen : {k m : ℕ} → CutAt table x y b e at_once b k m → Chosen P T table p b e (triple_of x b k ∷ triple_of y m e ∷ [])
     sequence_chosen {k} {m} c =
         let (lx, (ly, none)) = lowers Sequence f in
         let h = c.early in
@@ -153,7 +157,7 @@ module _ {P : Procedure} {T : Trajectory} {started size : ℕ} {places table : L
         let small = s.ready.moments in
         (r.k, r.m, record { after = r.after; end = omega arith; early = g; late = r.late; quiet = (quiet_law T s.mask r.k r.m).1 r.quiet; begin = omega arith; ends = rw ex r.left; begins = rw ey r.right })
 
-    pub end_chosen : {k m : ℕ} → CutAt table x y b e (pause_of (P.node p) started) b k m → Chosen P T table p b e (two_parts x b k y m e)
+    pub end_chosen : {k m : ℕ} → CutAt table x y b e (pause_of (P.node p) started) b k m → Chosen P T table p b e (triple_of x b k ∷ triple_of y m e ∷ [])
     end_chosen {k} {m} c =
         let (lx, (ly, none)) = lowers EndWindow f in
         chosen_two (omega arith) (omega arith) c.ends c.begins (moment _ _ _ c.begin c.begins)
@@ -167,7 +171,7 @@ module _ {P : Procedure} {T : Trajectory} {started size : ℕ} {places table : L
         let small = s.ready.moments in
         (r.k, r.m, r.l, record { early = rw em r.early; late = rw en r.late; begin = omega arith; ends = record { first = rw ex r.left; second = rw ey r.right; greater = r.greater } })
 
-    pub start_chosen : {k m l : ℕ} → StartAt table x y b e least most k m l → Chosen P T table p b e (two_parts x b k y m l)
+    pub start_chosen : {k m l : ℕ} → StartAt table x y b e least most k m l → Chosen P T table p b e (triple_of x b k ∷ triple_of y m l ∷ [])
     start_chosen c =
         let (lx, (ly, none)) = lowers StartWindow f in
         chosen_two (omega arith) (omega arith) c.ends.first c.ends.second (moment _ _ _ c.begin c.ends.second)
@@ -185,27 +189,33 @@ module _ {P : Procedure} {T : Trajectory} {started size : ℕ} {places table : L
           rule = rule Set f;
         }
 
-    pub set-chosen : {r : Parts} → PlacedParts (set_at P T p) table b e r → Chosen P T table p b e r
-    set-chosen {r} c =
+    pub set-chosen : {r : Parts} → length r.triples ≡ 4 → PlacedParts (set_at P T p) table b e r → (r.count ≤ 4) × Chosen P T table p b e (parts_in r)
+    set-chosen {r} long c =
         let l = members_lower P T p f (s.ready.formed p node) in
+        let few : r.count ≤ 4 = rw c.count ((s.ready.formed p node).set f).few in
         let pl = c.placed.placing in
         let within = pl.within in
-        record {
-          few = rw c.count ((s.ready.formed p node).set f).few;
-          lower = λ i h. let g = rw c.count at h in rw (c.nodes i g) (l i g);
-          begin = λ i h. let g = pl.inside i (rw c.count at h) in omega arith;
-          found = λ i h. let g = rw c.count at h in rw (c.nodes i g) (c.placed.reads i g);
-          reads = λ us rs. rw c.count (set f (λ i h. rw (c.nodes i h) at (rs i (rw c.count h))) pl);
-        }
+        let size : length (parts_in r) ≡ member_count (set_at P T p) = omega (arith, length-take r.count r.triples, long, few, c.count) in
+        let part : (i : ℕ) → i < member_count (set_at P T p) → part_of (parts_in r) i ≡ triple_of (member (set_at P T p) i) (c.begins i) (c.ends i)
+        = λ i h. get_or-take r.count r.triples i _ (omega (arith, c.count)) ∙ c.parts i h in (
+          few,
+          record {
+            lower = λ i h. let g = rw size at h in rw (part i g) (l i g);
+            begin = λ i h. let g = rw size at h in let inside = pl.inside i g in rw (part i g) (omega arith);
+            found = λ i h. let g = rw size at h in rw (part i g) (c.placed.reads i g);
+            reads = λ us rs. rw size (set f (λ i h. rw (part i h) at (rs i (rw size h))) pl);
+          },
+        )
 
 -- the members' nodes with a placement
-pub placed_parts : (ms cs vs table : List ℕ) (n b e count : ℕ) {nodes begins ends : List ℕ} → length ms ≡ count
-    → ((i : ℕ) → i < length ms → get_or nodes i 0 ≡ member_node (get_or ms i 0)) → Placed (task_set_of ms cs vs n) (InTable table) b e (entry_at begins) (entry_at ends)
-    → PlacedParts (task_set_of ms cs vs n) table b e (record { count = count; nodes = nodes; begins = begins; ends = ends })
-placed_parts ms cs vs table n b e count h f pl =
+pub set_placed : (ms cs vs table : List ℕ) (n b e : ℕ) (placed : Placement) {r : Parts} → IsPlaced ms placed r
+    → Placed (task_set_of ms cs vs n) (InTable table) b e (entry_at placed.begins) (entry_at placed.ends) → PlacedParts (task_set_of ms cs vs n) table b e r
+set_placed ms cs vs table n b e placed h pl =
     record {
-      count = sym h ∙ sym (length-map ms member_node);
-      nodes = λ i l. f i (rw (length-map ms member_node) at l) ∙ sym (get_or-map member_node ms i 0);
+      begins = entry_at placed.begins;
+      ends = entry_at placed.ends;
+      count = h.0 ∙ sym (length-map ms member_node);
+      parts = λ i l. rw (get_or-map member_node ms i 0) (h.1 i (rw (length-map ms member_node) at l));
       placed = pl;
     }
 

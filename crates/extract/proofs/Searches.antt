@@ -20,27 +20,15 @@ use Rattle.bitset.proofs.In.{in_zero, in_dropped}
 use Rattle.reading.specs.Code.Quiet.{QuietUpto}
 use Rattle.reading.specs.declared.pauses.Pause.{Pause}
 use Rattle.extract.specs.Code.Search.{Meets, FirstMeets, CutAt, EndPair, StartAt}
+use Rattle.std.specs.Prelude.{Option, Some, None, min}
 
 -- ---- a begin that meets
 
--- every begin that meets is m or later
-pub record Onward (xs : ℕ) (table : List ℕ) (y first end e m : ℕ) : Type 0 where
-  pub from : first ≤ m
-  pub left : (k : ℕ) → Meets xs table y first end e k → m ≤ k
-
-module _ {xs y first end e m : ℕ} {table : List ℕ} where
-  pub onward_more : Onward xs table y first end e m → (Max xs (row_at table y m) e → ⊥) → Onward xs table y first end e (m + 1)
-  onward_more o none =
-      let g = o.from in
-      record {
-        from = omega arith;
-        left = λ k h. by_cases (ℕ_discrete m k) (λ q. absurd (none (rw q h.max))) (λ q. let l = o.left k h in omega arith);
-      }
-
-  -- none meets, where those left are too late
-  pub none_meets : Onward xs table y first end e m → ((k : ℕ) → m ≤ k → k ≤ end → k < 64 → ⊥) → FirstMeets xs table y first end e 64
-  none_meets o late =
-      record { found = λ l. absurd (omega arith); any = λ k h. absurd (late k (o.left k h) h.upto h.moment) }
+module _ (xs y first end e : ℕ) (table : List ℕ) where
+  pub first_meets : (r : Option ℕ) → end < 128 → (r ≡ None → (m : ℕ) → first ≤ m → m ≤ min end 63 → Max xs (row_at table y m) e → ⊥)
+      → ((m : ℕ) → r ≡ Some m → (first ≤ m) × (m ≤ min end 63) × Max xs (row_at table y m) e) → FirstMeets xs table y first end e r
+  first_meets None h f g = λ m s. let a = s.upto in let b = s.moment in f refl m s.from (omega arith) s.max
+  first_meets (Some m) h f g = let (a, b, s) = g m refl in record { from = a; upto = omega arith; moment = omega arith; max = s }
 
 -- ---- the set of 0 alone asks for nothing
 
@@ -100,30 +88,28 @@ module _ {table : List ℕ} {x y b e from : ℕ} {pause : Pause} where
         all = λ k m c. record { yes = L k ∙ both c.ends.yes (F k ∙ both (le-leb from k c.after) (lt-ltb k 64 c.end)) };
       }
 
-  module _ {left k end m : ℕ} (l : Left table x y b e pause from left) (first : Lowest left k) (u : QuietUpto pause k end)
-      (f : FirstMeets 1 table y (k + pause.least) end e m) where
-    pub left_found : m < 64 → CutAt table x y b e pause from k m
-    left_found h =
-        let g = f.found h in
-        let (late, quiet) = (u.at m).0 g.upto in
+  module _ {left k end : ℕ} (l : Left table x y b e pause from left) (first : Lowest left k) (u : QuietUpto pause k end) where
+    pub left_found : {m : ℕ} → Meets 1 table y (k + pause.least) end e m → CutAt table x y b e pause from k m
+    left_found {m = m} f =
+        let (late, quiet) = (u.at m).0 f.upto in
         let here : In left k = record { yes = first.member } in
         record {
           after = l.after k here;
           end = first.below;
-          early = g.from;
+          early = f.from;
           late = late;
           quiet = quiet;
-          begin = h;
+          begin = f.moment;
           ends = l.end k here;
-          begins = alone-in g.max;
+          begins = alone-in f.max;
         }
 
-    pub left_turn : {left' : ℕ} → 64 ≤ m → Dropped left left' → Left table x y b e pause from left'
-    left_turn {left'} h d =
+    pub left_turn : {left' : ℕ} → ((m : ℕ) → Meets 1 table y (k + pause.least) end e m → ⊥) → Dropped left left' → Left table x y b e pause from left'
+    left_turn {left'} none d =
         record {
           end = λ j i. l.end j (old j i);
           after = λ j i. l.after j (old j i);
-          all = λ j i c. let other : j ≡ k → ⊥ = λ q. let n = f.any i (meets j i q c) in omega arith in
+          all = λ j i c. let other : j ≡ k → ⊥ = λ q. none i (meets j i q c) in
               (in_dropped first d j).1 (l.all j i c, other);
         }
       where

@@ -22,8 +22,7 @@ use Rattle.model.specs.declared.Triple.{Triple}
 use Rattle.reading.specs.Reading.{whole, passes, Reading, act, test, sequence, first, second, taken, otherwise, loop, done, pass, start_window, end_window, set}
 use Rattle.reading.proofs.Step.{onward}
 use Rattle.reading.specs.Code.Quiet.{at_once}
-use Rattle.extract.specs.declared.parts.Parts.{Parts}
-use Rattle.extract.specs.Code.Parts.{Prepared, Choosable, Chosen, node_of, begin_of, end_of, part_of}
+use Rattle.extract.specs.Code.Parts.{Prepared, Choosable, Chosen, part_of}
 use Rattle.extract.specs.Code.Search.{CutAt, CutReady}
 use Rattle.extract.proofs.Choice.{end_last, moment}
 use Rattle.extract.specs.Code.Contract.{Full, Rest, Writable, ReadingWritten}
@@ -79,17 +78,17 @@ holds_at l (pass t g y s) m us vs h x r = pass t h x r
 -- ---- the words of the parts so far
 
 -- ws are readings of the first i parts, one after the other
-pub record Done (P : Procedure) (T : Trajectory) (r : Parts) (i : ℕ) (ws : List ℕ) : Type 0 where
+pub record Done (P : Procedure) (T : Trajectory) (ts : List Triple) (i : ℕ) (ws : List ℕ) : Type 0 where
   pub lists : ℕ → List ℕ
-  pub reads : (j : ℕ) → j < i → Reading P T whole (node_of r j) (begin_of r j) (end_of r j) (lists j)
+  pub reads : (j : ℕ) → j < i → Reading P T whole (part_of ts j).node (part_of ts j).begin (part_of ts j).end (lists j)
   pub words : ws ≡ concat_below lists i
 
-module _ {P : Procedure} {T : Trajectory} {r : Parts} where
-  pub done_none : Done P T r 0 []
+module _ {P : Procedure} {T : Trajectory} {ts : List Triple} where
+  pub done_none : Done P T ts 0 []
   unfolding concat_below
   done_none = record { lists = λ j. []; reads = λ j l. absurd (omega arith); words = refl }
 
-  pub done_more : {i : ℕ} {ws us : List ℕ} → Done P T r i ws → Reading P T whole (node_of r i) (begin_of r i) (end_of r i) us → Done P T r (i + 1) (ws ++ us)
+  pub done_more : {i : ℕ} {ws us : List ℕ} → Done P T ts i ws → Reading P T whole (part_of ts i).node (part_of ts i).begin (part_of ts i).end us → Done P T ts (i + 1) (ws ++ us)
   unfolding concat_below
   done_more {i} {ws} {us} d x =
       record {
@@ -153,32 +152,32 @@ module _ {P : Procedure} {T : Trajectory} {started job : ℕ} {places table : Li
 module _ {P : Procedure} {T : Trajectory} {started job : ℕ} {places table : List ℕ} {t : Triple} {at size : ℕ} (s : Writable Rest P T started job places table t at size) where
   -- ---- parts
 
-  module _ {r : Parts} (c : Chosen P T table t.node t.begin t.end r) where
-    whole_parts : {ws : List ℕ} → Done P T r r.count ws → Rest P T t ws
+  module _ {ts : List Triple} (c : Chosen P T table t.node t.begin t.end ts) where
+    whole_parts : {ws : List ℕ} → Done P T ts (length ts) ws → Rest P T t ws
     whole_parts d = rw d.words (c.reads d.lists d.reads)
 
-    pub part_moments : (i : ℕ) → i < r.count → (begin_of r i < 64) × (end_of r i < 64)
+    pub part_moments : (i : ℕ) → i < length ts → ((part_of ts i).begin < 64) × ((part_of ts i).end < 64)
     part_moments i l =
         let n = c.lower i l in
         let m = s.known in
         let last = s.prepared.ready.moments in
         let begin = c.begin i l in
-        let end = end_last s.prepared {p = node_of r i} (omega arith) begin (c.found i l) in
+        let end = end_last s.prepared {p = (part_of ts i).node} (omega arith) begin (c.found i l) in
         (omega arith, omega arith)
 
     -- the parts that are left can be read
-    complete : (k i : ℕ) {ws : List ℕ} → i + k ≡ r.count → Done P T r i ws → (vs : List ℕ) × Done P T r r.count (ws ++ vs)
-    complete zero i {ws} h d = let q : i ≡ r.count = omega arith in ([], rw append-nil (rw q at d))
+    complete : (k i : ℕ) {ws : List ℕ} → i + k ≡ length ts → Done P T ts i ws → (vs : List ℕ) × Done P T ts (length ts) (ws ++ vs)
+    complete zero i {ws} h d = let q : i ≡ length ts = omega arith in ([], rw append-nil (rw q at d))
     complete (suc k) i {ws} h d =
-        let l : i < r.count = omega arith in
+        let l : i < length ts = omega arith in
         let n = c.lower i l in
         let m = s.known in
-        let (us, x) = read s.prepared {p = node_of r i} (omega arith) (c.begin i l) (c.found i l) in
+        let (us, x) = read s.prepared {p = (part_of ts i).node} (omega arith) (c.begin i l) (c.found i l) in
         let (vs, y) = complete k (i + 1) (omega arith) (done_more d x) in
         (us ++ vs, rw append_assoc at y)
 
-    module _ {before buf : List ℕ} {i end : ℕ} (l : i < r.count) (w : ReadingWritten (Done P T r i) before at buf end) where
-      pub part_child : Writable Full P T started job places table (part_of r i) end size
+    module _ {before buf : List ℕ} {i end : ℕ} (l : i < length ts) (w : ReadingWritten (Done P T ts i) before at buf end) where
+      pub part_child : Writable Full P T started job places table (part_of ts i) end size
       part_child = record {
         prepared = s.prepared;
         known = let n = c.lower i l in let m = s.known in omega arith;
@@ -190,13 +189,13 @@ module _ {P : Procedure} {T : Trajectory} {started job : ℕ} {places table : Li
             omega (arith, s.room _ (whole_parts y), w.ended, length-append (w.words ++ us) vs, length-append w.words us);
       }
         where
-          left : (k : ℕ) × (i + 1 + k ≡ r.count)
-          left = (r.count - (i + 1), omega arith)
+          left : (k : ℕ) × (i + 1 + k ≡ length ts)
+          left = (length ts - (i + 1), omega arith)
 
-      pub part_more : {buf' : List ℕ} {end' : ℕ} → ReadingWritten (Full P T (part_of r i)) buf end buf' end' → ReadingWritten (Done P T r (i + 1)) before at buf' end'
+      pub part_more : {buf' : List ℕ} {end' : ℕ} → ReadingWritten (Full P T (part_of ts i)) buf end buf' end' → ReadingWritten (Done P T ts (i + 1)) before at buf' end'
       part_more x = written_then (λ ws us d y. done_more d y) w x
 
-    pub part_end : {before buf : List ℕ} {i end : ℕ} → i ≡ r.count → ReadingWritten (Done P T r i) before at buf end → ReadingWritten (Rest P T t) before at buf end
+    pub part_end : {before buf : List ℕ} {i end : ℕ} → i ≡ length ts → ReadingWritten (Done P T ts i) before at buf end → ReadingWritten (Rest P T t) before at buf end
     part_end {i = i} h w = written-map (λ ws d. whole_parts (rw h at d)) w
 
   -- ---- passes

@@ -2,35 +2,35 @@
 // parts of a node), write (the words, node by node).
 #![tactic(auto)]
 
-ghost use Rattle.std.specs.Prelude.{List, ℕ, length};
-ghost use Rattle.model.specs.Code.Arrays.{procedure_at, trajectory_at};
-ghost use Rattle.extract.specs.Code.Contract.{Emittable, Emitted};
+ghost use Rattle.std.specs.Prelude.{length};
+ghost use Rattle.extract.specs.Code.Source.{procedure_of, trajectory_of};
+ghost use Rattle.extract.specs.Code.Contract.{EmittableBy, Emitted};
 
-use model::Triple;
-use reading::pauses::Timeline;
-use words::{FORMULA_VALUES, NODES};
+use model::{Arrays, Triple};
 
 mod parts;
 mod search;
 mod write;
 
+// What a reading is written from: a job's words, its procedure and a plan's trajectory as arrays, the moments at which some action starts,
+// and the table of ends.
+#[derive(Clone, Copy)]
+pub struct Source<'a> {
+    pub words: &'a [u32],
+    pub arrays: &'a Arrays,
+    pub started: u64,
+    pub table: &'a [u64],
+}
+
 // Writes a reading of the root from moment 0 to the last at the front of the buffer, and returns how many words it has.
-pub fn emit(
-    words: &[u32],
-    places: &[usize; NODES],
-    count: usize,
-    values: &[u8; FORMULA_VALUES],
-    timeline: Timeline,
-    table: &[u64],
-    buffer: &mut [u32],
-) -> usize
-    requires { (starts : List ℕ) × (durations : List ℕ) × Emittable (procedure_at words.now places.now count) (trajectory_at starts durations values.now timeline.last) timeline.started (length words.now) places.now table.now (length buffer.old) }
-    ensures { (starts durations : List ℕ) → Emittable (procedure_at words.now places.now count) (trajectory_at starts durations values.now timeline.last) timeline.started (length words.now) places.now table.now (length buffer.old) → Emitted (procedure_at words.now places.now count) (trajectory_at starts durations values.now timeline.last) buffer.old buffer.new result }
+pub fn emit(source: &Source, buffer: &mut [u32]) -> usize
+    requires { EmittableBy source.now (length buffer.old) }
+    ensures { Emitted (procedure_of source.now) (trajectory_of source.now) buffer.old buffer.new result }
 {
     let root = Triple {
-        node: count - 1,
+        node: source.arrays.count - 1,
         begin: 0,
-        end: timeline.last,
+        end: source.arrays.last,
     };
-    write::write_reading(words, places, values, timeline, table, root, 0, buffer)
+    write::write_reading(source, root, 0, buffer)
 }

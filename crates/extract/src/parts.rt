@@ -1,70 +1,61 @@
 // The parts that a reading of a node is made of, by the table of ends: which children are read, and between which moments.
-ghost use Rattle.std.specs.Prelude.{◌≡◌, ◌⊎◌, ℕ, ◌<◌, ◌≤◌, length, get_or};
-ghost use Rattle.words.specs.Fields.{holds, member_node};
+ghost use Rattle.std.specs.Prelude.{◌≡◌, ◌⊎◌, ℕ, ◌<◌, ◌≤◌, List, [], ◌∷◌, length};
+ghost use Rattle.words.specs.Fields.{holds};
 ghost use Rattle.model.specs.Code.Arrays.{members_at, conditions_at};
 ghost use Rattle.model.specs.Code.Table.{InTable};
 ghost use Rattle.sets.specs.Code.Rows.{task_set_of, Placeable};
 ghost use Rattle.extract.specs.Code.Search.{Within, CutAt, CutReady, StartAt, StartReady};
-ghost use Rattle.extract.specs.Code.Parts.{no_parts, one_part, two_parts, PlacedParts, Unseen, ChoosableBy, ChosenBy};
+ghost use Rattle.extract.specs.Code.Parts.{triple_of, parts_from, IsPlaced, PlacedParts, ChoosableBy, ChosenBy};
 
-use crate::search;
+use crate::{Source, search};
 use model::Triple;
-use reading::pauses::{Pause, Timeline, at_once, pause_of};
+use reading::pauses::{Pause, at_once, pause_of};
+use sets::placing::Placement;
 use words::forms::{
     ACT, CHOICE, END_WINDOW, IF, RESERVED, SEQUENCE, START_WINDOW, TASK_SET, TEST, WHILE,
 };
-use words::{FORMULA_VALUES, MEMBERS, MOMENTS, NODES};
+use words::{MEMBERS, MOMENTS};
 
+// A triple that is no part: it fills the places that no part takes.
+const NO_PART: Triple = Triple {
+    node: 0,
+    begin: 0,
+    end: 0,
+};
+
+// The first `count` of the triples, in order.
 #[derive(Clone, Copy)]
 pub struct Parts {
     pub count: usize,
-    pub nodes: [usize; MEMBERS],
-    pub begins: [u32; MEMBERS],
-    pub ends: [u32; MEMBERS],
+    pub triples: [Triple; MEMBERS],
 }
 
-fn none() -> Parts
-    ensures { result ≡ no_parts }
+fn part(node: usize, begin: usize, end: usize) -> Triple
+    ensures { result ≡ triple_of node begin end }
 {
-    Parts {
-        count: 0,
-        nodes: [0, 0, 0, 0],
-        begins: [0, 0, 0, 0],
-        ends: [0, 0, 0, 0],
-    }
+    Triple { node, begin, end }
 }
 
-fn one(q: usize, b: usize, e: usize) -> Parts
-    requires { (b < 64) × (e < 64) }
-    ensures { result ≡ one_part q b e }
+// The triples of this list, and no more.
+fn parts_of(list: &[Triple]) -> Parts
+    requires { length list.now ≤ 4 }
+    ensures { result ≡ parts_from list.now }
 {
+    let mut triples = [NO_PART; MEMBERS];
+    triples[..list.len()].copy_from_slice(list);
     Parts {
-        count: 1,
-        nodes: [q, 0, 0, 0],
-        begins: [b as u32, 0, 0, 0],
-        ends: [e as u32, 0, 0, 0],
-    }
-}
-
-fn two(x: usize, b: usize, k: usize, y: usize, m: usize, l: usize) -> Parts
-    requires { (b < 64) × (k < 64) × (m < 64) × (l < 64) }
-    ensures { result ≡ two_parts x b k y m l }
-{
-    Parts {
-        count: 2,
-        nodes: [x, y, 0, 0],
-        begins: [b as u32, m as u32, 0, 0],
-        ends: [k as u32, l as u32, 0, 0],
+        count: list.len(),
+        triples,
     }
 }
 
 // Forms 2 and 7: x, and y a pause after its end, in form 2 none.
 fn end_window_parts(table: &[u64], x: usize, y: usize, pause: Pause, b: usize, e: usize) -> Parts
     requires { CutReady table.now x y b e pause b }
-    ensures { (k : ℕ) × (m : ℕ) × CutAt table.now x y b e pause b k m × (result ≡ two_parts x b k y m e) }
+    ensures { (k : ℕ) × (m : ℕ) × CutAt table.now x y b e pause b k m × (result ≡ parts_from (triple_of x b k ∷ triple_of y m e ∷ [])) }
 {
-    let c = search::cut(table, x, y, b, e, pause, b);
-    two(x, b, c.first, y, c.second, e)
+    let (k, m) = search::cut(table, x, y, b, e, pause, b);
+    parts_of(&[part(x, b, k), part(y, m, e)])
 }
 
 // Form 6: x, and `least` to `most` after its begin y.
@@ -78,116 +69,87 @@ fn start_window_parts(
     e: usize,
 ) -> Parts
     requires { StartReady table.now x y b e least most }
-    ensures { (k : ℕ) × (m : ℕ) × (l : ℕ) × StartAt table.now x y b e least most k m l × (result ≡ two_parts x b k y m l) }
+    ensures { (k : ℕ) × (m : ℕ) × (l : ℕ) × StartAt table.now x y b e least most k m l × (result ≡ parts_from (triple_of x b k ∷ triple_of y m l ∷ [])) }
 {
     let xs = table[x * MOMENTS + b];
-    let m = search::meeting(xs, table, y, b + least, b + most, e);
-    let c = search::ends(xs, table[y * MOMENTS + m], e);
-    two(x, b, c.first, y, m, c.second)
-}
-
-// Form 3: x or y.
-fn choice_part(table: &[u64], x: usize, y: usize, b: usize, e: usize) -> Parts
-    requires within { Within table.now x y b e }
-    requires in_table { InTable table.now x b e ⊎ InTable table.now y b e }
-    ensures { (q : ℕ) × ((q ≡ x) ⊎ (q ≡ y)) × InTable table.now q b e × (result ≡ one_part q b e) }
-{
-    one(search::choose(table, x, y, b, e), b, e)
+    let Some(m) = search::meeting(xs, table, y, b + least, b + most, e) else {
+        unreachable!();
+    };
+    let (k, l) = search::ends(xs, table[y * MOMENTS + m], e);
+    parts_of(&[part(x, b, k), part(y, m, l)])
 }
 
 // Form 4: y where the formula's value is that it holds, and else m.
-fn if_part(value: u8, y: usize, m: usize, b: usize, e: usize) -> Parts
-    requires { (b < 64) × (e < 64) }
-    ensures { ((value ≡ holds) × (result ≡ one_part y b e)) ⊎ ((value ≡ holds → ⊥) × (result ≡ one_part m b e)) }
+fn taken(value: u8, y: usize, m: usize) -> usize
+    ensures { ((value ≡ holds) × (result ≡ y)) ⊎ ((value ≡ holds → ⊥) × (result ≡ m)) }
 {
-    if value == words::HOLDS {
-        return one(y, b, e);
-    }
-    one(m, b, e)
+    if value == words::HOLDS { y } else { m }
 }
 
-// The nodes of the members.
-fn member_nodes(members: &[u32]) -> [usize; MEMBERS]
+// The members, each from its begin to its end.
+fn placed_parts(members: &[u32], placed: &Placement) -> Parts
     requires { length members.now ≤ 4 }
-    ensures { (i : ℕ) → i < length members.now → get_or result i 0 ≡ member_node (get_or members.now i 0) }
+    ensures { IsPlaced members.now placed.now result }
 {
-    let mut nodes = [0usize; MEMBERS];
-    let mut i = 0;
-    while i < members.len() {
-        nodes[i] = words::member_node(members[i]);
-        i += 1;
+    let mut triples = [NO_PART; MEMBERS];
+    for (i, &word) in members.iter().enumerate() {
+        triples[i] = part(
+            words::member_node(word),
+            placed.begins[i] as usize,
+            placed.ends[i] as usize,
+        );
     }
-    nodes
+    Parts {
+        count: members.len(),
+        triples,
+    }
 }
 
 // Form 8: the members of the task set whose word stands at `place`, as its conditions allow.
-fn set_parts(
-    words: &[u32],
-    place: usize,
-    values: &[u8; FORMULA_VALUES],
-    last: usize,
-    table: &[u64],
-    b: usize,
-    e: usize,
-) -> Parts
-    requires { (place < length words.now) × Placeable (task_set_of (members_at words.now place) (conditions_at words.now place) values.now last) table.now b e }
-    ensures { PlacedParts (task_set_of (members_at words.now place) (conditions_at words.now place) values.now last) table.now b e result }
+fn set_parts(source: &Source, place: usize, b: usize, e: usize) -> Parts
+    requires { (place < length source.now.words.now) × Placeable (task_set_of (members_at source.now.words.now place) (conditions_at source.now.words.now place) source.now.arrays.now.values source.now.arrays.now.last) source.now.table.now b e }
+    ensures { PlacedParts (task_set_of (members_at source.now.words.now place) (conditions_at source.now.words.now place) source.now.arrays.now.values source.now.arrays.now.last) source.now.table.now b e result }
 {
-    let set = model::set_words(words, place);
+    let set = model::set_words(source.words, place);
     let placed = sets::placing::place(
         set.members,
         set.conditions,
-        values,
-        table,
+        &source.arrays.values,
+        source.table,
         b as u32,
         e as u32,
-        last as u32,
+        source.arrays.last as u32,
     );
-    let begins = placed.begins;
-    let ends = placed.ends;
-    let nodes = member_nodes(set.members);
-    Parts {
-        count: set.members.len(),
-        nodes,
-        begins,
-        ends,
-    }
+    placed_parts(set.members, &placed)
 }
 
 // The parts that a reading of the triple, which the table says there is, can be made of; its node is no loop.
-pub fn choose_parts(
-    words: &[u32],
-    places: &[usize; NODES],
-    values: &[u8; FORMULA_VALUES],
-    timeline: Timeline,
-    table: &[u64],
-    triple: Triple,
-) -> Parts
-    requires { (u : Unseen) × ChoosableBy words.now places.now values.now timeline table.now triple u }
-    ensures { (u : Unseen) → ChoosableBy words.now places.now values.now timeline table.now triple u
-        → ChosenBy words.now places.now values.now timeline table.now triple result u }
+pub fn choose_parts(source: &Source, triple: Triple) -> Parts
+    requires { ChoosableBy source.now triple }
+    ensures { ChosenBy source.now triple result }
 {
     let p = triple.node;
     let b = triple.begin;
     let e = triple.end;
-    let place = places[p];
-    let word = words[place];
+    let place = source.arrays.places[p];
+    let word = source.words[place];
     let x = words::node_x(word);
     let y = words::node_y(word);
     let m = words::node_m(word);
     let most = words::node_n(word);
+    let table = source.table;
     match words::form_of(word) {
-        ACT => none(),
-        TEST => none(),
+        ACT => parts_of(&[]),
+        TEST => parts_of(&[]),
         SEQUENCE => end_window_parts(table, x, y, at_once(), b, e),
-        CHOICE => choice_part(table, x, y, b, e),
-        IF => if_part(values[x * MOMENTS + b], y, m, b, e),
+        CHOICE => parts_of(&[part(search::choose(table, x, y, b, e), b, e)]),
+        IF => parts_of(&[part(taken(source.arrays.value(x, b), y, m), b, e)]),
         // The passes of a loop are found one at a time.
-        WHILE => none(),
+        WHILE => parts_of(&[]),
         START_WINDOW => start_window_parts(table, x, y, m, most, b, e),
-        END_WINDOW => end_window_parts(table, x, y, pause_of(word, timeline.started), b, e),
-        TASK_SET => set_parts(words, place, values, timeline.last, table, b, e),
+        END_WINDOW => end_window_parts(table, x, y, pause_of(word, source.started), b, e),
+        TASK_SET => set_parts(source, place, b, e),
         // A job with a reserved form is refused, and nothing reads such a node.
-        RESERVED.. => none(),
+        RESERVED.. => parts_of(&[]),
     }
 }

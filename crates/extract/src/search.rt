@@ -7,76 +7,60 @@ ghost use Rattle.extract.specs.Code.Search.{Within, MeetReady, FirstMeets, CutAt
 use reading::pauses::{Pause, quiet_upto};
 use words::MOMENTS;
 
-// What a search answers that finds no moment: moments are 0 to 63.
-const NO_MOMENT: usize = MOMENTS;
-
-// Two moments.
-#[derive(Clone, Copy)]
-pub struct Pair {
-    pub first: usize,
-    pub second: usize,
-}
-
-// The first moment from `first` to `end` at which y can begin so that the greater of its end and one of the ends `xs` is e, or
-// NO_MOMENT.
-pub fn meeting(xs: u64, table: &[u64], y: usize, first: usize, end: usize, e: usize) -> usize
+// The first moment from `first` to `end` at which y can begin so that the greater of its end and one of the ends `xs` is e.
+pub fn meeting(
+    xs: u64,
+    table: &[u64],
+    y: usize,
+    first: usize,
+    end: usize,
+    e: usize,
+) -> Option<usize>
     requires { MeetReady table.now y end e }
     ensures { FirstMeets xs table.now y first end e result }
 {
-    let mut m = first;
-    while m <= end {
-        if NO_MOMENT <= m {
-            return NO_MOMENT;
-        }
-        if bitset::has(bitset::max_of(xs, table[y * MOMENTS + m]), e as u32) {
-            return m;
-        }
-        m += 1;
-    }
-    NO_MOMENT
+    (first..=end.min(MOMENTS - 1)).find(|&m| bitset::has(
+        bitset::max_of(xs, table[y * MOMENTS + m]),
+        e as u32,
+    ))
 }
 
 // The first end of x, begun at b, from `from` on, after which y can begin, a pause later, and end at e, and the first such begin. There is
 // one. The ends of x are walked by trailing zeros, the lowest first.
-pub fn cut(table: &[u64], x: usize, y: usize, b: usize, e: usize, pause: Pause, from: usize) -> Pair
+pub fn cut(
+    table: &[u64],
+    x: usize,
+    y: usize,
+    b: usize,
+    e: usize,
+    pause: Pause,
+    from: usize,
+) -> (usize, usize)
     requires { CutReady table.now x y b e pause from }
-    ensures { CutAt table.now x y b e pause from result.first result.second }
+    ensures { CutAt table.now x y b e pause from result.0 result.1 }
 {
     let mut left = bitset::inter(table[x * MOMENTS + b], bitset::from(from as u32));
     while left != 0 {
         let k = bitset::lowest(left) as usize;
         let end = quiet_upto(pause, k);
         // the set of 0 alone: y's end is the greater one
-        let m = meeting(1, table, y, k + pause.least, end, e);
-        if m < NO_MOMENT {
-            return Pair {
-                first: k,
-                second: m,
-            };
+        if let Some(m) = meeting(1, table, y, k + pause.least, end, e) {
+            return (k, m);
         }
         left = bitset::drop_lowest(left);
     }
-    Pair {
-        first: 0,
-        second: 0,
-    }
+    unreachable!()
 }
 
 // Returns an end of each of the sets xs and ys, of which e is the greater. The caller guarantees that they exist.
-pub fn ends(xs: u64, ys: u64, e: usize) -> Pair
+pub fn ends(xs: u64, ys: u64, e: usize) -> (usize, usize)
     requires { (e < 64) × Max xs ys e }
-    ensures { EndPair xs ys e result.first result.second }
+    ensures { EndPair xs ys e result.0 result.1 }
 {
     if bitset::has(xs, e as u32) {
-        return Pair {
-            first: e,
-            second: bitset::lowest(ys) as usize,
-        };
+        return (e, bitset::lowest(ys) as usize);
     }
-    Pair {
-        first: bitset::lowest(xs) as usize,
-        second: e,
-    }
+    (bitset::lowest(xs) as usize, e)
 }
 
 // Whichever of x and y reads b to e: x where both do. One of them does.

@@ -8,8 +8,9 @@ ghost use Rattle.finder.specs.Find.{Searched, Outcome};
 ghost use Rattle.finder.specs.Code.Seek.{Seekable};
 
 use answers::{Answer, answer_of};
+use extract::Source;
 use model::Arrays;
-use reading::pauses::{Timeline, all_starts};
+use reading::pauses::all_starts;
 use theory::{arrays_of, buffer_refusal, judge_facts};
 use words::ENDS;
 
@@ -19,34 +20,23 @@ const NO_READING: u64 = answers::NO_READING as u64;
 // Seeks a reading of a plan that passes: fills the table, counts the triples, and writes a reading of the root if there is one.
 // It is not inlined, so that its tables are on the stack while it runs, and not all the time that its caller does.
 #[inline(never)]
-fn seek(job: &[u32], starts: &[u32], arrays: Arrays, buffer: &mut [u32]) -> Answer
-    requires { Seekable job.now starts.now arrays (length buffer.old) }
+fn seek(job: &[u32], starts: &[u32], arrays: &Arrays, buffer: &mut [u32]) -> Answer
+    requires { Seekable job.now starts.now arrays.now (length buffer.old) }
     ensures searched { Searched job.now starts.now buffer.old result buffer.new }
     ensures in_range { InRange result × (length_of result ≤ 4032) }
 {
-    let nodes = arrays.count;
     let last = arrays.last;
-    let places = arrays.places;
-    let start_sets = arrays.starts;
-    let durations = arrays.durations;
-    let values = arrays.values;
-    let timeline = Timeline {
-        last,
-        started: all_starts(&start_sets),
-    };
+    let started = all_starts(&arrays.starts);
     let mut table = [0u64; ENDS];
-    let count = reading::table::tabulate(
-        job,
-        &places,
-        nodes,
-        &start_sets,
-        &durations,
-        &values,
-        timeline,
-        &mut table,
-    );
-    if reading::table::has_end(&table, nodes - 1, 0, last) {
-        let length = extract::emit(job, &places, nodes, &values, timeline, &table, buffer);
+    let count = reading::table::tabulate(job, arrays, started, &mut table);
+    if reading::table::has_end(&table, arrays.count - 1, 0, last) {
+        let source = Source {
+            words: job,
+            arrays,
+            started,
+            table: &table,
+        };
+        let length = extract::emit(&source, buffer);
         return Answer::Accepted { length, count };
     }
     Answer::Refused {
@@ -71,5 +61,5 @@ pub fn find_reading(job: &[u32], starts: &[u32], facts: &[u32], buffer: &mut [u3
         return answer_of(refusal, 0, 0);
     }
     let arrays = arrays_of(job, starts, plan);
-    seek(job, starts, arrays, buffer)
+    seek(job, starts, &arrays, buffer)
 }

@@ -2,7 +2,7 @@
 use mathlib.Core.Bool.{Bool, true, false}
 use mathlib.Core.List.{List, ◌++◌}
 use mathlib.Core.Path.{◌≡◌, sym, ap, ◌∙◌}
-use Prim.Native.Nat.{ℕ, suc, ◌+◌, ◌-◌, ◌≤◌, ◌<◌}
+use Prim.Native.Nat.{ℕ, suc, ◌+◌, ◌≤◌, ◌<◌}
 use native.Mathlib.Numerals.{add-one}
 use native.Mathlib.Omega.{arith}
 use borrow.Author.Tests.{ne_eqb}
@@ -77,19 +77,17 @@ module _ {job S : List ℕ} (t : ℕ) {starting : List ℕ} (begin : starting �
   sizes : all ≡ length (filter (unfinished job (suc t)) (held_at job S t)) + length starting
   sizes = list_count h ∙ ap length parts ∙ length-append (filter (unfinished job (suc t)) (held_at job S t)) starting
 
-  pub starting_few : length starting ≤ all
-  starting_few = omega (arith, sizes)
+  module _ (kept : ℕ) (e : kept + length starting ≡ all) where
+    pub hiding_first : take kept held ≡ filter (unfinished job (suc t)) (held_at job S t)
+    hiding_first =
+        sym (take-take kept all held (omega arith))
+        ∙ rw (h.words, parts) (take_at (filter (unfinished job (suc t)) (held_at job S t)) starting kept (omega (arith, sizes)))
 
-  pub hiding_first : take (all - length starting) held ≡ filter (unfinished job (suc t)) (held_at job S t)
-  hiding_first =
-      sym (take-take (all - length starting) all held (omega arith))
-      ∙ rw (h.words, parts) (take_at (filter (unfinished job (suc t)) (held_at job S t)) starting (all - length starting) (omega (arith, sizes)))
+    -- they can be walked, and the two passes give the state
+    pub hiding_walkable : {durations effects : List ℕ} → Walkable job durations effects S → Walkable job durations effects (take kept held)
+    hiding_walkable w =
+        record { well = w.well; tables = w.tables; named = rw hiding_first (named-filter (unfinished job (suc t)) (named-filter (in_hand job t) w.named)) }
 
-  -- they can be walked, and the two passes give the state
-  pub hiding_walkable : {durations effects : List ℕ} → Walkable job durations effects S → Walkable job durations effects (take (all - length starting) held)
-  hiding_walkable w =
-      record { well = w.well; tables = w.tables; named = rw hiding_first (named-filter (unfinished job (suc t)) (named-filter (in_hand job t) w.named)) }
-
-  pub carried_next : {before : List ℕ} {count : ℕ} {old mid new : List ℕ} → Carried job S t before count old → AfterPass job false (t + 1) (take count before) old mid
-      → AfterPass job true (t + 1) (take (all - length starting) held) mid new → Carried job S (t + 1) held all new
-  carried_next c g k = record { state = state_next t lasting c.list.words hiding_first c.state g k; list = h }
+    pub carried_next : {before : List ℕ} {count : ℕ} {old mid new : List ℕ} → Carried job S t before count old → AfterPass job false (t + 1) (take count before) old mid
+        → AfterPass job true (t + 1) (take kept held) mid new → Carried job S (t + 1) held all new
+    carried_next c g k = record { state = state_next t lasting c.list.words hiding_first c.state g k; list = h }

@@ -1,5 +1,5 @@
 -- The starts in hand, and how those of a moment come from those of the moment before.
-use Rattle.std.specs.Prelude.{Bool, ◌↔◌, ◌≡◌, ℕ, suc, ◌≤◌, ◌<◌, eqb, ltb, length, get_or, take}
+use Rattle.std.specs.Prelude.{Bool, ◌↔◌, ◌≡◌, ℕ, suc, ◌+◌, ◌≤◌, ◌<◌, eqb, ltb, length, get_or, take}
 use mathlib.Core.List.{List, ◌++◌, Memᴰ}
 use Rattle.words.specs.Fields.{start_moment, start_action}
 use Rattle.words.specs.Lists.{Each, Pairs}
@@ -37,6 +37,12 @@ TimedBy job durations starts = Each (λ s. get_or durations (start_action s) 0 �
 pub record HeldList (job starts : List ℕ) (t : ℕ) (list : List ℕ) (count : ℕ) : Type 0 where
   pub inside : count ≤ length list
   pub words : take count list ≡ held_at job starts t
+
+-- the list is carried to the next moment, at which the starts in `starting` begin
+pub record HoldsNext (durations starting : List ℕ) (t : ℕ) (held : List ℕ) (count : ℕ) (new : List ℕ) (all : ℕ) : Type 0 where
+  pub next :
+      (job starts : List ℕ) → TimedBy job durations starts → Lasting job starts → Ascending starts → starting ≡ starting_at starts (t + 1)
+      → HeldList job starts t held count → HeldList job starts (t + 1) new all
 
 -- at each moment t, exactly the starts with u ≤ t < u + d are in hand; at moment 0 they are those that begin then, and at each next moment
 -- those in hand that have not finished, and then those that begin. `held_exactly`, `held_start`, `held_next` (proofs/Held.antt) show it.

@@ -6,5 +6,5 @@ pub mod states;
 pub mod tables;
 
 pub use carry::keep_unfinished;
-pub use states::history;
+pub use states::Actions;
 pub use tables::{durations, effects, finish_of, law_ends, laws_of};

@@ -5,13 +5,14 @@ ghost use Rattle.words.specs.Fields.{known_value};
 ghost use Rattle.job.specs.Parts.{fluents};
 ghost use Rattle.job.specs.Code.WellFormed.{WellFormed};
 ghost use Rattle.history.specs.Values.{lists};
-ghost use Rattle.history.specs.Code.Tables.{Named, Walkable, StateAt, HistoryUpto};
+ghost use Rattle.history.specs.Code.Tables.{Named, StateAt, HistoryUpto};
 ghost use Rattle.history.specs.Held.{starting_at, Ascending};
-ghost use Rattle.history.specs.Code.Held.{Carried, Steppable};
+ghost use Rattle.history.specs.Code.Held.{Carried};
 ghost use Rattle.history.specs.Code.Stores.{Overlaid, Mapped};
+ghost use Rattle.history.specs.Code.Lent.{WalkableBy, SteppableBy};
 ghost use Rattle.history.specs.Code.Passes.{changed, changed_by, AfterPass};
 
-use crate::carry::{hold_first, hold_next, starting_at};
+use crate::carry::{Held, starting_at};
 use crate::tables::{finish_of, row_of, store_row};
 use words::{
     ACTIONS, EFFECTS, FLUENTS, KNOWN, MOST_STARTS, OPEN, STATES, fluent_of, fluents_of, kind_of,
@@ -56,89 +57,74 @@ fn apply(effects: &[u8; EFFECTS], a: usize, n: usize, hiding: bool, state: &mut 
     }
 }
 
-// Applies the start `s`, if it acts in a pass to moment `t`: in the hiding pass each does, in the other one that finishes then.
-fn apply_start(
-    job: &[u32],
-    durations: &[usize; ACTIONS],
-    effects: &[u8; EFFECTS],
-    s: u32,
-    hiding: bool,
-    t: usize,
-    state: &mut [u8; FLUENTS],
-)
-    requires { Walkable job.now durations.now effects.now (s ∷ []) × (fluents job.now ≤ length state.old) }
-    ensures { AfterPass job.now hiding t (s ∷ []) state.old state.new }
-{
-    if hiding | (finish_of(durations, s) == t) {
-        apply(effects, start_action(s), fluents_of(job[0]), hiding, state);
-    }
+// A job and the tables of its actions, lent: how long each lasts, and what it makes of each fluent.
+#[derive(Clone, Copy)]
+pub struct Actions<'a> {
+    pub job: &'a [u32],
+    pub durations: &'a [usize; ACTIONS],
+    pub effects: &'a [u8; EFFECTS],
 }
 
-// Applies all starts that act in a pass to moment `t`: from the last to the first, so that the first prevails.
-fn apply_starts(
-    job: &[u32],
-    durations: &[usize; ACTIONS],
-    effects: &[u8; EFFECTS],
-    starts: &[u32],
-    hiding: bool,
-    t: usize,
-    state: &mut [u8; FLUENTS],
-)
-    requires { Walkable job.now durations.now effects.now starts.now × (fluents job.now ≤ length state.old) }
-    ensures { AfterPass job.now hiding t starts.now state.old state.new }
-{
-    for &s in starts.iter().rev() {
-        apply_start(job, durations, effects, s, hiding, t, state);
+impl Actions<'_> {
+    // Applies the start `s`, if it acts in a pass to moment `t`: in the hiding pass each does, in the other one that finishes then.
+    fn apply_start(&self, s: u32, hiding: bool, t: usize, state: &mut [u8; FLUENTS])
+        requires { WalkableBy self.now (s ∷ []) × (fluents self.now.job.now ≤ length state.old) }
+        ensures { AfterPass self.now.job.now hiding t (s ∷ []) state.old state.new }
+    {
+        if hiding | (finish_of(self.durations, s) == t) {
+            apply(
+                self.effects,
+                start_action(s),
+                fluents_of(self.job[0]),
+                hiding,
+                state,
+            );
+        }
     }
-}
 
-// Carries the walk from moment `t` to the next, at which the starts in `starting` begin. Of the starts in hand, the first `count` words of
-// `held`, those that finish then give their effects and leave the list, and the others hide. Those that begin join the list and do not hide
-// yet. Returns the number of starts in hand at the next moment.
-fn step(
-    job: &[u32],
-    durations: &[usize; ACTIONS],
-    effects: &[u8; EFFECTS],
-    starting: &[u32],
-    t: usize,
-    held: &mut [u32],
-    count: usize,
-    state: &mut [u8; FLUENTS],
-) -> usize
-    requires { Steppable job.now durations.now effects.now starting.now t held.old count state.old }
-    ensures { (S : List ℕ) → Named job.now S → Ascending S → starting.now ≡ starting_at S (t + 1) → Carried job.now S t held.old count state.old → Carried job.now S (t + 1) held.new result state.new }
-{
-    apply_starts(job, durations, effects, &held[..count], false, t + 1, state);
-    let all = hold_next(durations, starting, t, held, count);
-    let kept = all - starting.len();
-    apply_starts(job, durations, effects, &held[..kept], true, t + 1, state);
-    all
-}
-
-// The one walk of the states, up to moment `last`. The first `next` starts have begun.
-pub fn history(
-    job: &[u32],
-    durations: &[usize; ACTIONS],
-    effects: &[u8; EFFECTS],
-    starts: &[u32],
-    last: usize,
-) -> [u8; STATES]
-    requires { Walkable job.now durations.now effects.now starts.now × Ascending starts.now × (length starts.now ≤ 4096) × (last < 64) }
-    ensures { HistoryUpto job.now starts.now last result }
-{
-    let mut table = [OPEN; STATES];
-    let mut state = initial_state(job);
-    store_row(&state, 0, &mut table);
-    let mut held = [0u32; MOST_STARTS];
-    let mut count = hold_first(starts, &mut held);
-    let mut next = count;
-    for t in 0..last {
-        let starting = starting_at(starts, next, t + 1);
-        count = step(
-            job, durations, effects, starting, t, &mut held, count, &mut state,
-        );
-        next += starting.len();
-        store_row(&state, t + 1, &mut table);
+    // Applies all starts that act in a pass to moment `t`: from the last to the first, so that the first prevails.
+    fn apply_starts(&self, starts: &[u32], hiding: bool, t: usize, state: &mut [u8; FLUENTS])
+        requires { WalkableBy self.now starts.now × (fluents self.now.job.now ≤ length state.old) }
+        ensures { AfterPass self.now.job.now hiding t starts.now state.old state.new }
+    {
+        for &s in starts.iter().rev() {
+            self.apply_start(s, hiding, t, state);
+        }
     }
-    table
+
+    // Carries the walk from moment `t` to the next, at which the starts in `starting` begin. Of the starts in hand, those that finish then
+    // give their effects and leave the list, and the others hide. Those that begin join the list and do not hide yet.
+    fn step(&self, starting: &[u32], t: usize, held: &mut Held, state: &mut [u8; FLUENTS])
+        requires { SteppableBy self.now starting.now t held.old state.old }
+        ensures { (S : List ℕ) → Named self.now.job.now S → Ascending S → starting.now ≡ starting_at S (t + 1)
+            → Carried self.now.job.now S t held.old.words held.old.count state.old
+            → Carried self.now.job.now S (t + 1) held.new.words held.new.count state.new }
+    {
+        self.apply_starts(&held.words[..held.count], false, t + 1, state);
+        let kept = held.hold_next(self.durations, starting, t);
+        self.apply_starts(&held.words[..kept], true, t + 1, state);
+    }
+
+    // The one walk of the states, up to moment `last`. The first `next` starts have begun.
+    pub fn history(&self, starts: &[u32], last: usize) -> [u8; STATES]
+        requires { WalkableBy self.now starts.now × Ascending starts.now × (length starts.now ≤ 4096) × (last < 64) }
+        ensures { HistoryUpto self.now.job.now starts.now last result }
+    {
+        let mut table = [OPEN; STATES];
+        let mut state = initial_state(self.job);
+        store_row(&state, 0, &mut table);
+        let mut held = Held {
+            words: [0; MOST_STARTS],
+            count: 0,
+        };
+        held.hold_first(starts);
+        let mut next = held.count;
+        for t in 0..last {
+            let starting = starting_at(starts, next, t + 1);
+            self.step(starting, t, &mut held, &mut state);
+            next += starting.len();
+            store_row(&state, t + 1, &mut table);
+        }
+        table
+    }
 }

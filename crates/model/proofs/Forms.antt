@@ -40,7 +40,7 @@ pub form-number : (k : ℕ) {f : Form} → form_number k ≡ f → number_of f <
 form-number k h l = sym (number_back k (rw h l)) ∙ ap number_of h
 
 -- a number from 9 on is reserved
-reserved : (k : ℕ) → 9 ≤ k → form_number k ≡ Reserved
+pub reserved : (k : ℕ) → 9 ≤ k → form_number k ≡ Reserved
 reserved k h = let e : k ≡ suc (suc (suc (suc (suc (suc (suc (suc (suc (k - 9))))))))) = omega arith in ap form_number e
 
 from_four : (k : ℕ) → (k ≡ 0 → ⊥) → (k ≡ 1 → ⊥) → (k ≡ 2 → ⊥) → (k ≡ 3 → ⊥) → 4 ≤ k

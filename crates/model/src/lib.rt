@@ -1,14 +1,16 @@
-// What passes from the theory to the reading layer: a procedure and a trajectory as arrays, a triple of a node and two moments, and the
-// words of a task set.
+// What passes from the theory to the reading layer: a procedure and a trajectory as arrays, a node's word taken apart, a triple of a node
+// and two moments, and the words of a task set.
 #![tactic(auto)]
 
 ghost use Rattle.std.specs.Prelude.{◌≡◌, ◌<◌, length};
-ghost use Rattle.model.specs.Code.Arrays.{members_at, conditions_at};
+ghost use Rattle.words.specs.Fields.{form, node_x, node_y, node_m, node_n};
+ghost use Rattle.model.specs.Code.Arrays.{value_in, members_at, conditions_at};
 
-use words::{ACTIONS, CONDITION, FORMULA_VALUES, MEMBER, NODES};
+use words::{ACTIONS, CONDITION, FORMULA_VALUES, MEMBER, MOMENTS, NODES};
 
 // Node p's word stands at places[p] of the job, and after it those of its members and conditions; starts[a] is the set of the moments at
 // which action a starts; values has the value of formula k at moment t at k * 64 + t.
+// There are `count` nodes: the number stands beside the places, since memory is fixed (there is no heap) and the arrays are filled in place.
 #[derive(Clone, Copy)]
 pub struct Arrays {
     pub count: usize,
@@ -17,6 +19,43 @@ pub struct Arrays {
     pub starts: [u64; ACTIONS],
     pub durations: [usize; ACTIONS],
     pub values: [u8; FORMULA_VALUES],
+}
+
+impl Arrays {
+    // The value of formula k at moment t.
+    pub fn value(&self, k: usize, t: usize) -> u8
+        requires { (k < 64) × (t < 64) }
+        ensures { result ≡ value_in self.now.values k t }
+    {
+        self.values[k * MOMENTS + t]
+    }
+}
+
+// The word of a node, taken apart: its form and its fields.
+#[derive(Clone, Copy)]
+pub struct Node {
+    pub form: u32,
+    pub x: usize,
+    pub y: usize,
+    pub m: usize,
+    pub n: usize,
+}
+
+// Returns the form and the fields of the node's word `w`.
+pub fn node_of(w: u32) -> Node
+    ensures form { (result.form ≡ form w) × (result.form < 16) }
+    ensures x { (result.x ≡ node_x w) × (result.x < 64) }
+    ensures y { (result.y ≡ node_y w) × (result.y < 64) }
+    ensures m { (result.m ≡ node_m w) × (result.m < 64) }
+    ensures n { (result.n ≡ node_n w) × (result.n < 64) }
+{
+    Node {
+        form: words::form_of(w),
+        x: words::node_x(w),
+        y: words::node_y(w),
+        m: words::node_m(w),
+        n: words::node_n(w),
+    }
 }
 
 // A node, read from the moment `begin` to the moment `end`.

@@ -1,58 +1,29 @@
--- Open sets: their arrays are of four words; a store in such an array; what fits still fits where begins and ends are left out. Assumes nothing.
-use Prim.Native.Nat.{ℕ, zero, suc, ◌^◌, ◌<◌}
+-- Open sets: a store of what one member may have; what fits still fits where begins and ends are left out. Assumes nothing.
+use Prim.Native.Nat.{ℕ, ◌<◌}
 use mathlib.Core.Path.{◌≡◌}
-use mathlib.Core.List.{List, [], ◌∷◌}
-use native.Mathlib.Omega.{arith}
+use mathlib.Core.Logic.{by_cases}
+use mathlib.Core.List.{List}
+use native.Mathlib.Decide.{ℕ_discrete}
 use lib.ListN.{length, set}
-use mir.Syntax.{w64}
-use mir.Val.{Val}
-use denote.Shadow.{shadow}
-use denote.Plain.{UInt}
-use denote.Array.{Array, each}
-use denote.Laws.{Is}
-use Rattle.words.proofs.Entries.{entries_set}
+use lib.Seq.{get_or-set_same, get_or-set_other}
 use Rattle.bitset.specs.Code.Members.{In}
-use Rattle.bitset.proofs.In.{in_below}
-use Rattle.covering.specs.Code.Cover.{entry_at}
-use Rattle.narrowing.specs.Code.Open.{InDomains}
+use Rattle.keeping.specs.declared.Choice.{Choice}
+use Rattle.narrowing.specs.Code.Open.{choice_at, InDomains}
 use Rattle.narrowing.specs.declared.Open.{Open}
-use Rattle.narrowing.specs.contracts.Open.{the_row}
 
--- an array of four words
-pub record Words (l : List ℕ) : Type 0 where
-  pub four : length l ≡ 4
-  pub small : (i e : ℕ) → In (entry_at l i) e → e < 64
+-- what member k may have after a store for member i is what was stored, or what it had
+pub choice_set : (P : Choice → Type 0) (l : List Choice) (i : ℕ) (v : Choice) {k : ℕ} → i < length l → (k ≡ i → P v) → ((k ≡ i → ⊥) → P (choice_at l k)) → P (choice_at (set l i v) k)
+choice_set P l i v {k} room new old = by_cases (ℕ_discrete k i)
+    (λ q. rw (q, get_or-set_same l i v (record { begins = 0; ends = 0 }) room) (new q))
+    (λ n. rw (get_or-set_other l i k v (record { begins = 0; ends = 0 }) n) (old n))
 
-word : (xs : List ℕ) (us : List Val) → shadow (each ℕ (UInt w64).own_val xs us) → (i : ℕ) → entry_at xs i < 2 ^ 64
-word [] [] h i = omega arith
-word [] (u ∷ us) h i = absurd h
-word (x ∷ xs) [] h i = absurd h
-word (x ∷ xs) (u ∷ us) h zero = h.0.1
-word (x ∷ xs) (u ∷ us) h (suc i) = word xs us h.1 i
-
-words : (xs : List ℕ) (vs : List Val) → Is (Array (UInt w64) 4) xs vs → Words xs
-words xs vs h = record { four = h.1.0.1; small = λ i e t. in_below (word xs h.0 h.1.1 i) t }
-
--- the arrays of an open set, by what its owner knows: for a parameter, `.good`
-pub open_begins : (o : Open) (vs : List Val) → Is the_row o vs → Words o.begins
-open_begins o vs h = words o.begins _ h.1.1.1.1.1.0
-
-pub open_ends : (o : Open) (vs : List Val) → Is the_row o vs → Words o.ends
-open_ends o vs h = words o.ends _ h.1.1.1.1.1.1.0
-
--- masks after a store: each has its number of xs, where the new one does; none gains a member, where the new one does not
-pub set-kept : {count : ℕ} {xs : ℕ → ℕ} (l : List ℕ) (i v : ℕ) → i < length l → (i < count → In v (xs i))
-    → ((j : ℕ) → j < count → In (entry_at l j) (xs j)) → (j : ℕ) → j < count → In (entry_at (set l i v) j) (xs j)
-set-kept {count} {xs} l i v room new old = entries_set (λ j m. j < count → In m (xs j)) l i v room new old
-
-pub set-fewer : (l : List ℕ) (i v : ℕ) → i < length l → ((x : ℕ) → In v x → In (entry_at l i) x)
-    → (j x : ℕ) → In (entry_at (set l i v) j) x → In (entry_at l j) x
-set-fewer l i v room less = entries_set (λ j m. (x : ℕ) → In m x → In (entry_at l j) x) l i v room less (λ j x t. t)
-
--- what fits still fits where the masks keep its begins and ends and no begin is added
-pub fits_kept : {count : ℕ} {o : Open} {bs es : ℕ → ℕ} (begins ends : List ℕ) → InDomains count o bs es
-    → ((i : ℕ) → i < count → In (entry_at begins i) (bs i)) → ((i x : ℕ) → In (entry_at begins i) x → In (entry_at o.begins i) x)
-    → ((i : ℕ) → i < count → In (entry_at ends i) (es i))
-    → InDomains count (record { from = o.from; last = o.last; left = o.left; begins = begins; ends = ends }) bs es
-fits_kept begins ends f kept fewer late =
-    record { inside = f.inside; begins = kept; ends = late; fixed = λ i x l n t. f.fixed i x l n (fewer i x t) }
+-- what fits still fits where member i keeps its begin and its end, and no begin is added
+pub fits-set : {count : ℕ} (o : Open) {bs es : ℕ → ℕ} (i : ℕ) (v : Choice) → i < length o.members → InDomains count o bs es
+    → (i < count → In v.begins (bs i)) → (i < count → In v.ends (es i)) → ((x : ℕ) → In v.begins x → In (choice_at o.members i).begins x)
+    → InDomains count (record { from = o.from; last = o.last; left = o.left; members = set o.members i v }) bs es
+fits-set {count} o {bs} {es} i v room f begin end fewer = record {
+  inside = f.inside;
+  begins = λ k l. choice_set (λ m. In m.begins (bs k)) o.members i v room (λ q. rw q (begin (rw q at l))) (λ n. f.begins k l);
+  ends = λ k l. choice_set (λ m. In m.ends (es k)) o.members i v room (λ q. rw q (end (rw q at l))) (λ n. f.ends k l);
+  fixed = λ k x l n. choice_set (λ m. In m.begins x → x ≡ bs k) o.members i v room (λ q t. f.fixed k x l n (rw q (fewer x t))) (λ m. f.fixed k x l n);
+}

@@ -2,67 +2,49 @@
 // by the ends of others).
 #![tactic(auto)]
 
-ghost use Rattle.std.specs.Prelude.{◌≡◌, ◌↔◌, ◌⊎◌, not, ◌&&◌, List, ℕ, ◌<◌, ◌≤◌, eqb};
+ghost use Rattle.std.specs.Prelude.{◌≡◌, ◌↔◌, ◌⊎◌, not, ◌&&◌, ℕ, ◌<◌, ◌≤◌, eqb};
 ghost use Rattle.bitset.specs.Code.Members.{has, In, IsSetOf};
 ghost use Rattle.narrowing.specs.Code.Tables.{InTables, BoundsHave};
 ghost use Rattle.narrowing.specs.Code.Open.{UnplacedReady, PutReady, InDomains};
 
 pub mod bounds;
 
-use bounds::BOUNDS;
-use keeping::{PAIRS, ROWS};
+use keeping::{Choice, Tables};
 use words::{MEMBERS, MOMENTS};
 
-// A set from moment `from`: the begins and ends that each member may still have. Those in `left` are not placed; `last` ends last.
+// A set from moment `from`, and what each member may still have. Those in `left` are not placed; `last` ends last.
 #[derive(Clone, Copy)]
 pub struct Open {
     pub from: u32,
     pub last: usize,
     pub left: u64,
-    pub begins: [u64; MEMBERS],
-    pub ends: [u64; MEMBERS],
+    pub members: [Choice; MEMBERS],
 }
 
 // The set with member i begun at x. It has no end for `last` where nothing is left.
-fn put(
-    ends: &[u64; PAIRS],
-    goes: &[u64; PAIRS],
-    later: &[u64; ROWS],
-    count: usize,
-    state: Open,
-    i: usize,
-    x: u32,
-) -> Open
-    requires { PutReady count state i x }
-    ensures { (result.from ≡ state.from) × (result.last ≡ state.last) × IsSetOf result.left (λ k. has state.left k && not (eqb k i)) × ((bs es : ℕ → ℕ) → InTables ends.now goes.now later.now count state.from bs es → InDomains count state bs es → bs i ≡ x → InDomains count result bs es) }
+fn put(tables: &Tables, state: Open, i: usize, x: u32) -> Open
+    requires { PutReady tables.now.count state i x }
+    ensures { (result.from ≡ state.from) × (result.last ≡ state.last) × IsSetOf result.left (λ k. has state.left k && not (eqb k i)) × ((bs es : ℕ → ℕ) → InTables tables.now state.from bs es → InDomains tables.now.count state bs es → bs i ≡ x → InDomains tables.now.count result bs es) }
 {
-    let from = state.from;
     let last = state.last;
     let left = bitset::without(state.left, i as u32);
-    let mut begins = state.begins;
-    let mut masks = state.ends;
-    begins[i] = bitset::single(x);
-    let mut sought = masks[last];
-    let window = bitset::inter(bitset::from(from), bitset::upto_highest(sought));
-    let mut j = 0;
-    while j < count {
-        let old = keeping::Choice {
-            begins: begins[j],
-            ends: masks[j],
-        };
-        let new = keeping::narrowed(ends, goes, later, i, x, j, old, window);
-        begins[j] = new.begins;
-        masks[j] = new.ends;
+    let mut members = state.members;
+    let mut sought = members[last].ends;
+    members[i].begins = bitset::single(x);
+    let window = bitset::inter(bitset::from(state.from), bitset::upto_highest(sought));
+    for j in 0..tables.count {
+        let new = keeping::narrowed(tables, i, x, j, members[j], window);
+        members[j] = new;
         sought = bitset::inter(sought, bitset::from_lowest(new.ends));
-        j = if sought == 0 { count } else { j + 1 };
+        if sought == 0 {
+            break;
+        }
     }
-    masks[last] = bitset::inter(masks[last], sought);
+    members[last].ends = bitset::inter(members[last].ends, sought);
     Open {
-        from,
-        last,
         left,
-        begins,
-        ends: masks,
+        members,
+        ..state
     }
 }
 
@@ -78,22 +60,19 @@ pub fn gaps(count: usize, state: Open) -> u64
     requires { (count ≤ 4) × (state.last < count) × (state.from < 64) }
     ensures { (g : ℕ) (bs es : ℕ → ℕ) → In result g → InDomains count state bs es → (state.from ≤ g) × (g ≤ es state.last) × ((i : ℕ) → i < count → bs i ≤ g → g ≤ es i → In state.left i) }
 {
-    let last = state.last;
-    let begins = state.begins;
-    let ends = state.ends;
-    if bitset::has(state.left, last as u32) {
+    if bitset::has(state.left, state.last as u32) {
         return 0;
     }
-    if ends[last] == 0 {
+    let ends = state.members[state.last].ends;
+    if ends == 0 {
         return 0;
     }
-    let mut r = bitset::between(state.from, bitset::lowest(ends[last]));
-    let mut i = 0;
-    while i < count {
+    let mut r = bitset::between(state.from, bitset::lowest(ends));
+    for i in 0..count {
         if !bitset::has(state.left, i as u32) {
-            r = bitset::minus(r, reach(begins[i], ends[i]));
+            let member = state.members[i];
+            r = bitset::minus(r, reach(member.begins, member.ends));
         }
-        i += 1;
     }
     r
 }
@@ -103,22 +82,27 @@ pub fn choose(count: usize, state: Open) -> usize
     requires { (count ≤ 4) × (state.last < count) × (0 < state.left) × ((i : ℕ) → In state.left i → i < count) }
     ensures { In state.left result }
 {
-    let last = state.last;
-    let begins = state.begins;
-    if bitset::has(state.left, last as u32) {
-        return last;
+    if bitset::has(state.left, state.last as u32) {
+        return state.last;
     }
+    let members = state.members;
     let mut best = bitset::lowest(state.left) as usize;
-    let mut i = 0;
-    while i < count {
+    for i in 0..count {
         if bitset::has(state.left, i as u32) {
-            if u64::count_ones(begins[i]) < u64::count_ones(begins[best]) {
+            if u64::count_ones(members[i].begins) < u64::count_ones(members[best].begins) {
                 best = i;
             }
         }
-        i += 1;
     }
     best
+}
+
+// The ends at moment h or later.
+fn late(ends: u64, h: u32) -> u64
+    requires { h < 64 }
+    ensures { (e : ℕ) → In ends e → h ≤ e → In result e }
+{
+    bitset::inter(ends, bitset::from(h))
 }
 
 // The set where member i begins by moment g and ends at moment h or later.
@@ -126,17 +110,12 @@ pub fn over(state: Open, i: usize, g: u32, h: u32) -> Open
     requires { (i < 4) × (g < 64) × (h < 64) }
     ensures { (result.from ≡ state.from) × (result.last ≡ state.last) × (result.left ≡ state.left) × ((count : ℕ) (bs es : ℕ → ℕ) → InDomains count state bs es → bs i ≤ g → h ≤ es i → InDomains count result bs es) }
 {
-    let mut begins = state.begins;
-    let mut ends = state.ends;
-    begins[i] = bitset::inter(begins[i], bitset::upto(g));
-    ends[i] = bitset::inter(ends[i], bitset::from(h));
-    Open {
-        from: state.from,
-        last: state.last,
-        left: state.left,
-        begins,
-        ends,
-    }
+    let mut members = state.members;
+    members[i] = Choice {
+        begins: bitset::inter(members[i].begins, bitset::upto(g)),
+        ends: late(members[i].ends, h),
+    };
+    Open { members, ..state }
 }
 
 // The last of the gaps where one member alone is left to cover them, and g, the first, where there are more.
@@ -153,63 +132,40 @@ pub fn last_gap(left: u64, gaps: u64, g: u32) -> u32
 // The set to ends that are not found yet.
 fn beyond(state: Open, found: u64) -> Open
     requires { state.last < 4 }
-    ensures { (result.from ≡ state.from) × (result.last ≡ state.last) × (result.left ≡ state.left) × (result.begins ≡ state.begins) × ((count : ℕ) (bs es : ℕ → ℕ) → state.last < count → InDomains count state bs es → In found (es state.last) ⊎ InDomains count result bs es) }
+    ensures { (result.from ≡ state.from) × (result.last ≡ state.last) × (result.left ≡ state.left) × ((count : ℕ) (bs es : ℕ → ℕ) → state.last < count → InDomains count state bs es → In found (es state.last) ⊎ InDomains count result bs es) }
 {
-    let last = state.last;
-    let begins = state.begins;
-    let mut ends = state.ends;
-    ends[last] = bitset::minus(ends[last], found);
-    Open {
-        from: state.from,
-        last,
-        left: state.left,
-        begins,
-        ends,
-    }
+    let mut members = state.members;
+    members[state.last].ends = bitset::minus(members[state.last].ends, found);
+    Open { members, ..state }
 }
 
 // The set with member i begun at x, to ends that are not found yet. Where no end is left for `last`, the bounds are not asked.
-pub fn placed(
-    ends: &[u64; PAIRS],
-    goes: &[u64; PAIRS],
-    later: &[u64; ROWS],
-    bounds: &[u64; BOUNDS],
-    count: usize,
-    state: Open,
-    i: usize,
-    x: u32,
-    found: u64,
-) -> Open
-    requires { PutReady count state i x }
-    ensures { (result.from ≡ state.from) × (result.last ≡ state.last) × IsSetOf result.left (λ k. has state.left k && not (eqb k i)) × ((bs es : ℕ → ℕ) → InTables ends.now goes.now later.now count state.from bs es → BoundsHave count bounds.now bs es → InDomains count state bs es → bs i ≡ x → In found (es state.last) ⊎ InDomains count result bs es) }
+pub fn placed(tables: &Tables, state: Open, i: usize, x: u32, found: u64) -> Open
+    requires { PutReady tables.now.count state i x }
+    ensures { (result.from ≡ state.from) × (result.last ≡ state.last) × IsSetOf result.left (λ k. has state.left k && not (eqb k i)) × ((bs es : ℕ → ℕ) → InTables tables.now state.from bs es → BoundsHave tables.now.count tables.now.bounds bs es → InDomains tables.now.count state bs es → bs i ≡ x → In found (es state.last) ⊎ InDomains tables.now.count result bs es) }
 {
-    let last = state.last;
-    let next = put(ends, goes, later, count, beyond(state, found), i, x);
-    let left = next.ends;
-    if left[last] == 0 {
+    let next = put(tables, beyond(state, found), i, x);
+    if next.members[state.last].ends == 0 {
         return next;
     }
-    bounds::tighten(bounds, count, next)
+    bounds::tighten(tables, next)
 }
 
 // The set from a to z before any member is placed: each may begin at any moment, and `last` ends at one of `goal`.
-pub fn unplaced(later: &[u64; ROWS], count: usize, a: u32, z: u32, last: usize, goal: u64) -> Open
-    requires { UnplacedReady count last a z }
-    ensures { (result.from ≡ a) × (result.last ≡ last) × ((i : ℕ) → In result.left i ↔ (i < count)) × ((ends goes : List ℕ) (bs es : ℕ → ℕ) → InTables ends goes later.now count a bs es → ((i : ℕ) → i < count → (a ≤ bs i) × (bs i ≤ es i) × (es i ≤ es last) × (es i ≤ z)) → In goal (es last) → InDomains count result bs es) }
+pub fn unplaced(tables: &Tables, a: u32, z: u32, last: usize, goal: u64) -> Open
+    requires { UnplacedReady tables.now.count last a z }
+    ensures { (result.from ≡ a) × (result.last ≡ last) × ((i : ℕ) → In result.left i ↔ (i < tables.now.count)) × ((bs es : ℕ → ℕ) → InTables tables.now a bs es → ((i : ℕ) → i < tables.now.count → (a ≤ bs i) × (bs i ≤ es i) × (es i ≤ es last) × (es i ≤ z)) → In goal (es last) → InDomains tables.now.count result bs es) }
 {
-    let every = bitset::between(a, z);
-    let mut ends = [0u64; MEMBERS];
-    let mut i = 0;
-    while i < count {
-        ends[i] = later[i * MOMENTS + a as usize];
-        i += 1;
+    let begins = bitset::between(a, z);
+    let mut members = [Choice { begins, ends: 0 }; MEMBERS];
+    for i in 0..tables.count {
+        members[i].ends = tables.later[i * MOMENTS + a as usize];
     }
-    ends[last] = bitset::inter(ends[last], goal);
+    members[last].ends = bitset::inter(members[last].ends, goal);
     Open {
         from: a,
         last,
-        left: bitset::upto(count as u32 - 1),
-        begins: [every; MEMBERS],
-        ends,
+        left: bitset::upto(tables.count as u32 - 1),
+        members,
     }
 }

@@ -1,5 +1,3 @@
--- The definitions that the contracts of `reader` cite: Reply (what is printed for the bytes of two files), Printed (what is printed), Code (what
--- passes between functions).
+-- The definitions that the contracts of `reader` cite: Reply (what is printed for the bytes of two files), Printed (what is printed).
 pub mod Reply
 pub mod Printed
-pub mod Code

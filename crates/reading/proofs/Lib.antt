@@ -4,7 +4,7 @@
 --     Agreement two that agree where readings look have the same table and count
 --     Quiet     the pause of an end window
 --     Windows   the moments that lie a pause after the members of a set
---     Nodes     nodes by their words
+--     Nodes     a node that is a task set, whose rows are filled together
 --     Tables    the table as it is filled
 --     Listing   the table's ends, listed
 --     Counts    two counts of the same triples agree

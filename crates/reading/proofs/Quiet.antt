@@ -3,11 +3,13 @@ use Prim.Native.Nat.{ℕ, ◌+◌, ◌^◌, ◌≤◌, ◌<◌}
 use mathlib.Core.Path.{◌≡◌, refl}
 use mathlib.Core.Bool.{true, ◌&&◌, ◌||◌}
 use mathlib.Core.Logic.{◌↔◌, inl, inr, ⊎_elim, by_cases}
-use mathlib.Core.List.{List}
+use mathlib.Core.List.{List, [], ◌∷◌, ◌++◌}
 use native.Mathlib.Decide.{dec_lt}
 use native.Mathlib.Omega.{arith}
 use lib.Dec.{leb, ltb}
-use lib.ListN.{length, get_or, get_or-eq_default}
+use lib.ListN.{length, get_or-append, get_or-eq_default}
+use lib.Seq.{get_or-append_seam}
+use Rattle.std.proofs.lemmas.List.{length_push}
 use Rattle.words.proofs.Choices.{is_false}
 use Rattle.bitset.specs.Code.Members.{has, IsSetOf, In, Lowest}
 use Rattle.bitset.proofs.Bools.{not_both}
@@ -55,30 +57,26 @@ quiet_window q w m = (
 
 -- ---- the moments at which some action starts
 
--- those of the first n actions
-pub record StartedBelow (sets : List ℕ) (n started : ℕ) : Type 0 where
-  pub at : (t : ℕ) → In started t ↔ ((a : ℕ) × (a < n) × (start_in sets a t ≡ true))
+-- no set of a list has a member but those that stand in it
+started-within : (sets : List ℕ) (a t : ℕ) → start_in sets a t ≡ true → a < length sets
+started-within sets a t h = by_cases (dec_lt a (length sets)) (λ l. l) (λ l. not_both h (rw (get_or-eq_default sets 0 {n = a} (omega arith)) (has-zero t)))
 
-pub started_none : {sets : List ℕ} → StartedBelow sets 0 0
-started_none = record { at = λ t. (in_zero refl, λ h. absurd (omega (arith, h.1))) }
+pub started_none : AllStarts (start_in []) 0
+started_none = record { at = λ t. (in_zero refl, λ h. absurd (omega (arith, started-within [] h.0 t h.1))) }
 
-pub started-more : {sets : List ℕ} {n started more : ℕ} → StartedBelow sets n started → IsSetOf more (λ t. has started t || has (get_or sets n 0) t)
-    → StartedBelow sets (n + 1) more
-started-more {sets} {n} s U = record {
+-- with the set of one more action
+pub started-more : (sets : List ℕ) (one : ℕ) {started more : ℕ} → AllStarts (start_in sets) started → IsSetOf more (λ t. has started t || has one t)
+    → AllStarts (start_in (sets ++ (one ∷ []))) more
+started-more sets one s U = record {
   at = λ t. (
-    λ i. ⊎_elim (λ j. let (a, l, h) = (s.at t).0 j in (a, omega arith, h)) (λ j. (n, omega arith, j.yes)) ((in_union U t).0 i),
-    λ h. (in_union U t).1 (by_cases (dec_lt h.0 n)
-        (λ l. inl ((s.at t).1 (h.0, l, h.2)))
-        (λ l. let q : h.0 ≡ n = omega (arith, h.1) in inr (record { yes = rw q at h.2 }))),
-  );
-}
-
--- a list has no set past its end
-pub started-all : {sets : List ℕ} {n started : ℕ} → length sets ≤ n → StartedBelow sets n started → AllStarts (start_in sets) started
-started-all {sets} {n} l s = record {
-  at = λ t. (
-    λ i. let (a, b, h) = (s.at t).0 i in (a, h),
-    λ h. (s.at t).1 (h.0, by_cases (dec_lt h.0 n) (λ b. b) (λ b. not_both h.1 (rw (get_or-eq_default sets 0 {n = h.0} (omega arith)) (has-zero t))), h.1),
+    λ i. ⊎_elim
+        (λ j. let (a, h) = (s.at t).0 j in (a, rw (get_or-append sets (one ∷ []) 0 a (started-within sets a t h)) h))
+        (λ j. (length sets, rw (get_or-append_seam sets one [] 0) j.yes))
+        ((in_union U t).0 i),
+    λ (a, h). (in_union U t).1 (by_cases (dec_lt a (length sets))
+        (λ l. inl ((s.at t).1 (a, rw (get_or-append sets (one ∷ []) 0 a l) at h)))
+        (λ l. let last : a ≡ length sets = omega (arith, started-within (sets ++ (one ∷ [])) a t h, length_push sets one) in
+        inr (record { yes = rw (last, get_or-append_seam sets one [] 0) at h }))),
   );
 }
 

@@ -2,13 +2,6 @@
 ghost use Rattle.std.specs.Prelude.{◌≡◌, ◌<◌};
 ghost use Rattle.reading.specs.Code.Quiet.{start_in, AllStarts, QuietUpto, pause_of, at_once};
 
-// The last moment of a plan, and the set of the moments at which some action starts.
-#[derive(Clone, Copy)]
-pub struct Timeline {
-    pub last: usize,
-    pub started: u64,
-}
-
 // A pause of `least` to `most` moments, which no member of `started` may disturb.
 #[derive(Clone, Copy)]
 pub struct Pause {
@@ -43,13 +36,9 @@ pub fn at_once() -> Pause
 pub fn all_starts(starts: &[u64]) -> u64
     ensures { AllStarts (start_in starts.now) result }
 {
-    let mut started = 0;
-    let mut a = 0;
-    while a < starts.len() {
-        started = bitset::union(started, starts[a]);
-        a += 1;
-    }
-    started
+    starts
+        .iter()
+        .fold(0, |started, &moments| bitset::union(started, moments))
 }
 
 // The latest moment to which a pause from k on may last: a start at that moment itself is after the pause.

@@ -3,15 +3,16 @@
 ghost use Rattle.std.specs.Prelude.{true, ◌≡◌, ◌↔◌, ◌⊎◌, ℕ, ◌+◌, ◌*◌, ◌<◌, ◌≤◌};
 ghost use Rattle.bitset.specs.Code.Members.{has, In};
 ghost use Rattle.words.specs.Fields.{fails, holds};
-ghost use Rattle.model.specs.Code.Arrays.{alone, trajectory_at};
+ghost use Rattle.model.specs.Code.Arrays.{alone, trajectory_in};
 ghost use Rattle.model.specs.Code.Table.{InTable};
 ghost use Rattle.reading.specs.Code.Rule.{InTurn, StartsWithin, EndsWithin};
 ghost use Rattle.reading.specs.Code.Quiet.{QuietIn};
 ghost use Rattle.reading.specs.Code.Table.{TwoRows, RowsThrough, WindowReady, After, RowReady, RowOf};
 
-use crate::pauses::{Pause, Timeline, pause_of, quiet_upto};
+use crate::pauses::{Pause, pause_of, quiet_upto};
+use model::{Arrays, Node};
 use words::forms::{ACT, CHOICE, END_WINDOW, IF, SEQUENCE, START_WINDOW, TASK_SET, TEST, WHILE};
-use words::{ACTIONS, FAILS, FORMULA_VALUES, HOLDS, MOMENTS};
+use words::{FAILS, HOLDS, MOMENTS};
 
 // The moments from `first` to `end`, none after `last`.
 fn window(first: usize, end: usize, last: usize) -> u64
@@ -21,10 +22,7 @@ fn window(first: usize, end: usize, last: usize) -> u64
     if last < first {
         return 0;
     }
-    if last < end {
-        return bitset::between(first as u32, last as u32);
-    }
-    bitset::between(first as u32, end as u32)
+    bitset::between(first as u32, end.min(last) as u32)
 }
 
 // The moments that lie a pause after some member of `ends`, none after `last`.
@@ -33,12 +31,10 @@ fn windows(ends: u64, pause: Pause, last: usize) -> u64
     ensures { (m : ℕ) → In result m ↔ After ends pause last m }
 {
     let mut found = 0;
-    let mut left = ends;
-    while left != 0 {
-        let k = bitset::lowest(left) as usize;
-        let end = quiet_upto(pause, k);
-        found = bitset::union(found, window(k + pause.least, end, last));
-        left = bitset::drop_lowest(left);
+    for end in bitset::members(ends) {
+        let k = end as usize;
+        let begins = window(k + pause.least, quiet_upto(pause, k), last);
+        found = bitset::union(found, begins);
     }
     found
 }
@@ -114,24 +110,16 @@ fn while_row(guard: u8, last: usize, table: &[u64], p: usize, y: usize, b: usize
     0
 }
 
-// 6, start window: each end is the greater of one of X's and one of Y's.
-fn start_window_row(
-    last: usize,
-    table: &[u64],
-    x: usize,
-    y: usize,
-    least: usize,
-    most: usize,
-    b: usize,
-) -> u64
-    requires two_rows { TwoRows table.now x y b }
-    requires window_ready { WindowReady last least most }
-    ensures { (e : ℕ) → In result e ↔ StartsWithin (b + least) (b + most) last e (InTable table.now x b) (InTable table.now y) }
+// 6, start window: Y begins M to N after the begin, and each end is the greater of one of X's and one of Y's.
+fn start_window_row(last: usize, table: &[u64], node: Node, b: usize) -> u64
+    requires two_rows { TwoRows table.now node.x node.y b }
+    requires window_ready { WindowReady last node.m node.n }
+    ensures { (e : ℕ) → In result e ↔ StartsWithin (b + node.m) (b + node.n) last e (InTable table.now node.x b) (InTable table.now node.y) }
 {
-    let begins = window(b + least, b + most, last);
+    let begins = window(b + node.m, b + node.n, last);
     bitset::max_of(
-        table[x * MOMENTS + b],
-        bitset::join_rows(begins, table, y * MOMENTS),
+        table[node.x * MOMENTS + b],
+        bitset::join_rows(begins, table, node.y * MOMENTS),
     )
 }
 
@@ -146,33 +134,22 @@ fn end_window_row(last: usize, table: &[u64], x: usize, y: usize, pause: Pause, 
 }
 
 // The row of a node, of which `word` is the word, at b: any form but 8, a task set, whose rows are filled together.
-pub fn row(
-    word: u32,
-    starts: &[u64; ACTIONS],
-    durations: &[usize; ACTIONS],
-    values: &[u8; FORMULA_VALUES],
-    timeline: Timeline,
-    table: &[u64],
-    p: usize,
-    b: usize,
-) -> u64
-    requires { RowReady (alone word) (trajectory_at starts.now durations.now values.now timeline.last) timeline.started table.now p b }
-    ensures { RowOf (alone word) (trajectory_at starts.now durations.now values.now timeline.last) table.now p b result }
+pub fn row(word: u32, arrays: &Arrays, started: u64, table: &[u64], p: usize, b: usize) -> u64
+    requires { RowReady (alone word) (trajectory_in arrays.now) started table.now p b }
+    ensures { RowOf (alone word) (trajectory_in arrays.now) table.now p b result }
 {
-    let last = timeline.last;
-    let x = words::node_x(word);
-    let y = words::node_y(word);
-    let m = words::node_m(word);
-    let most = words::node_n(word);
-    match words::form_of(word) {
-        ACT => act_row(starts[x], durations[x], last, b),
-        TEST => test_row(values[x * MOMENTS + b], b),
+    let last = arrays.last;
+    let node = model::node_of(word);
+    let (x, y) = (node.x, node.y);
+    match node.form {
+        ACT => act_row(arrays.starts[x], arrays.durations[x], last, b),
+        TEST => test_row(arrays.value(x, b), b),
         SEQUENCE => sequence_row(last, table, x, y, b),
         CHOICE => choice_row(table, x, y, b),
-        IF => if_row(values[x * MOMENTS + b], table, y, m, b),
-        WHILE => while_row(values[x * MOMENTS + b], last, table, p, y, b),
-        START_WINDOW => start_window_row(last, table, x, y, m, most, b),
-        END_WINDOW => end_window_row(last, table, x, y, pause_of(word, timeline.started), b),
+        IF => if_row(arrays.value(x, b), table, y, node.m, b),
+        WHILE => while_row(arrays.value(x, b), last, table, p, y, b),
+        START_WINDOW => start_window_row(last, table, node, b),
+        END_WINDOW => end_window_row(last, table, x, y, pause_of(word, started), b),
         // A task set never comes here (see `fill_node`). Forms 9 to 15 are reserved: a job that has one is refused, and nothing reads it.
         TASK_SET.. => 0,
     }

@@ -3,17 +3,16 @@ use Prim.Native.Nat.{ℕ, ◌+◌, ◌≤◌, ◌<◌}
 use mathlib.Core.Path.{◌≡◌, refl, sym, ◌∙◌, subst}
 use mathlib.Core.Bool.{not, ◌&&◌}
 use mathlib.Core.Logic.{◌⊎◌, inl, inr, by_cases, ⊎_elim}
-use mathlib.Core.List.{List}
 use native.Mathlib.Decide.{ℕ_discrete}
 use native.Mathlib.Omega.{arith}
 use lib.Dec.{eqb}
 use Rattle.bitset.specs.Code.Members.{has, In, IsSetOf, pop_count, Lowest, Dropped}
 use Rattle.bitset.proofs.Counts.{count-but}
 use Rattle.bitset.proofs.In.{in_dropped, in_zero}
-use Rattle.covering.specs.Code.Cover.{entry_at}
+use Rattle.keeping.specs.declared.Tables.{Tables}
 use Rattle.ending.specs.Code.Search.{Masked, SearchReady, Grown, SoughtPlacement, FindsAll}
 use Rattle.narrowing.specs.Code.Tables.{InTables, BoundsHave}
-use Rattle.narrowing.specs.Code.Open.{InDomains}
+use Rattle.narrowing.specs.Code.Open.{choice_at, InDomains}
 use Rattle.narrowing.specs.declared.Open.{Open}
 use Rattle.ending.specs.declared.Found.{Found}
 
@@ -21,11 +20,11 @@ use Rattle.ending.specs.declared.Found.{Found}
 pub fewer : (x r i : ℕ) → IsSetOf r (λ k. has x k && not (eqb k i)) → In x i → i < 64 → pop_count r + 1 ≡ pop_count x
 fewer x r i but t l = count-but (has x) (has r) i but 64 t.yes l
 
-module _ {cs allow ends : List ℕ} {count b : ℕ} where
-  pub grown_none : {f : Found} → Grown cs allow ends count b f f
+module _ {t : Tables} {b : ℕ} where
+  pub grown_none : {f : Found} → Grown t b f f
   grown_none = record { upto = refl; kept = λ e t. t; reads = λ e t. inl t; begins = λ h. h; within = λ h. h; moments = λ h. h }
 
-  pub grown_more : {f g h : Found} → Grown cs allow ends count b f g → Grown cs allow ends count b g h → Grown cs allow ends count b f h
+  pub grown_more : {f g h : Found} → Grown t b f g → Grown t b g h → Grown t b f h
   grown_more m n = record {
     upto = n.upto ∙ m.upto;
     kept = λ e t. n.kept e (m.kept e t);
@@ -35,15 +34,15 @@ module _ {cs allow ends : List ℕ} {count b : ℕ} where
     moments = λ k. n.moments (m.moments k);
   }
 
-pub grown_as : {cs allow ends : List ℕ} {count b b' : ℕ} {f g : Found} → b ≡ b' → Grown cs allow ends count b f g → Grown cs allow ends count b' f g
-grown_as {cs} {allow} {ends} {count} {f = f} {g = g} q h = subst (λ (x : ℕ). Grown cs allow ends count x f g) q h
+pub grown_as : {t : Tables} {b b' : ℕ} {f g : Found} → b ≡ b' → Grown t b f g → Grown t b' f g
+grown_as {t} {f = f} {g = g} q h = subst (λ (x : ℕ). Grown t x f g) q h
 
-pub ready_as : {cs ends : List ℕ} {count a a' z z' : ℕ} → a ≡ a' → z ≡ z' → SearchReady cs ends count a z → SearchReady cs ends count a' z'
-ready_as {cs} {ends} {count} {a} {a'} {z} p q h = subst (λ (x : ℕ). SearchReady cs ends count a' x) q (subst (λ (x : ℕ). SearchReady cs ends count x z) p h)
+pub ready_as : {t : Tables} {a a' z z' : ℕ} → a ≡ a' → z ≡ z' → SearchReady t a z → SearchReady t a' z'
+ready_as {t} {a} {a'} {z} p q h = subst (λ (x : ℕ). SearchReady t a' x) q (subst (λ (x : ℕ). SearchReady t x z) p h)
 
 -- each placement that is sought is found, or has something that is still to be tried
-pub record Untried (cs allow ends goes later bounds : List ℕ) (count : ℕ) (o : Open) (r : Found) (P : (ℕ → ℕ) → (ℕ → ℕ) → Type 0) : Type 0 where
-  pub each : (e : ℕ) (bs es : ℕ → ℕ) → e ≤ r.upto → SoughtPlacement cs allow ends goes later bounds count o e bs es → In r.ends e ⊎ P bs es
+pub record Untried (t : Tables) (o : Open) (r : Found) (P : (ℕ → ℕ) → (ℕ → ℕ) → Type 0) : Type 0 where
+  pub each : (e : ℕ) (bs es : ℕ → ℕ) → e ≤ r.upto → SoughtPlacement t o e bs es → In r.ends e ⊎ P bs es
 
 -- a begin of member i, or a member that begins by g and ends at h or later
 abbrev pub Begin : ℕ → ℕ → (ℕ → ℕ) → (ℕ → ℕ) → Type 0
@@ -52,13 +51,13 @@ Begin rest i bs es = In rest (bs i)
 abbrev pub Over : ℕ → ℕ → ℕ → (ℕ → ℕ) → (ℕ → ℕ) → Type 0
 Over rest g h bs es = (i : ℕ) × In rest i × (bs i ≤ g) × (h ≤ es i)
 
-module _ {cs allow ends goes later bounds : List ℕ} {count : ℕ} where
+module _ {t : Tables} where
   -- the same placement in a set from the same moment with the same last member
-  pub sought_as : {o o' : Open} {e : ℕ} {bs es : ℕ → ℕ} → o'.from ≡ o.from → o'.last ≡ o.last → SoughtPlacement cs allow ends goes later bounds count o e bs es
-      → InDomains count o' bs es → SoughtPlacement cs allow ends goes later bounds count o' e bs es
+  pub sought_as : {o o' : Open} {e : ℕ} {bs es : ℕ → ℕ} → o'.from ≡ o.from → o'.last ≡ o.last → SoughtPlacement t o e bs es
+      → InDomains t.count o' bs es → SoughtPlacement t o' e bs es
   sought_as {e = e} {bs = bs} {es = es} p q h f = record {
-    masked = subst (λ (b : ℕ). Masked cs allow ends count b e bs es) (sym p) h.masked;
-    tables = subst (λ (b : ℕ). InTables ends goes later count b bs es) (sym p) h.tables;
+    masked = subst (λ (b : ℕ). Masked t b e bs es) (sym p) h.masked;
+    tables = subst (λ (b : ℕ). InTables t b bs es) (sym p) h.tables;
     bounded = h.bounded;
     fits = f;
     final = subst (λ (k : ℕ). es k ≡ e) (sym q) h.final;
@@ -66,9 +65,9 @@ module _ {cs allow ends goes later bounds : List ℕ} {count : ℕ} where
 
   -- a begin of member i is tried
   pub tried : {o next : Open} {r r' : Found} {i x rest rest' : ℕ} → next.from ≡ o.from → next.last ≡ o.last → Lowest rest x → Dropped rest rest'
-      → ((bs es : ℕ → ℕ) → InTables ends goes later count o.from bs es → BoundsHave count bounds bs es → InDomains count o bs es → bs i ≡ x → In r.ends (es o.last) ⊎ InDomains count next bs es)
-      → Grown cs allow ends count o.from r r' → FindsAll cs allow ends goes later bounds count next r'
-      → Untried cs allow ends goes later bounds count o r (Begin rest i) → Untried cs allow ends goes later bounds count o r' (Begin rest' i)
+      → ((bs es : ℕ → ℕ) → InTables t o.from bs es → BoundsHave t.count t.bounds bs es → InDomains t.count o bs es → bs i ≡ x → In r.ends (es o.last) ⊎ InDomains t.count next bs es)
+      → Grown t o.from r r' → FindsAll t next r'
+      → Untried t o r (Begin rest i) → Untried t o r' (Begin rest' i)
   tried {o} {r = r} {r' = r'} {i = i} {x = x} p q low drop place grown all h = record {
     each = λ e bs es l s. ⊎_elim
         (λ t. inl (grown.kept e t))
@@ -80,8 +79,8 @@ module _ {cs allow ends goes later bounds : List ℕ} {count : ℕ} where
 
   -- a begin with which nothing fits is left out
   pub skipped : {o : Open} {r : Found} {i x rest rest' : ℕ} → Lowest rest x → Dropped rest rest'
-      → ((bs es : ℕ → ℕ) → InTables ends goes later count o.from bs es → InDomains count o bs es → bs i ≡ x → ⊥)
-      → Untried cs allow ends goes later bounds count o r (Begin rest i) → Untried cs allow ends goes later bounds count o r (Begin rest' i)
+      → ((bs es : ℕ → ℕ) → InTables t o.from bs es → InDomains t.count o bs es → bs i ≡ x → ⊥)
+      → Untried t o r (Begin rest i) → Untried t o r (Begin rest' i)
   skipped {i = i} {x = x} low drop none h = record {
     each = λ e bs es l s. ⊎_elim inl
         (λ t. by_cases (ℕ_discrete (bs i) x) (λ z. absurd (none bs es s.tables s.fits z)) (λ z. inr ((in_dropped low drop (bs i)).1 (t, z))))
@@ -90,9 +89,9 @@ module _ {cs allow ends goes later bounds : List ℕ} {count : ℕ} where
 
   -- member i is tried so
   pub tried_over : {o next : Open} {r r' : Found} {i g late rest rest' : ℕ} → next.from ≡ o.from → next.last ≡ o.last → Lowest rest i → Dropped rest rest'
-      → ((bs es : ℕ → ℕ) → InDomains count o bs es → bs i ≤ g → late ≤ es i → InDomains count next bs es)
-      → Grown cs allow ends count o.from r r' → FindsAll cs allow ends goes later bounds count next r'
-      → Untried cs allow ends goes later bounds count o r (Over rest g late) → Untried cs allow ends goes later bounds count o r' (Over rest' g late)
+      → ((bs es : ℕ → ℕ) → InDomains t.count o bs es → bs i ≤ g → late ≤ es i → InDomains t.count next bs es)
+      → Grown t o.from r r' → FindsAll t next r'
+      → Untried t o r (Over rest g late) → Untried t o r' (Over rest' g late)
   tried_over {i = i} {g = g} {late = late} p q low drop over grown all h = record {
     each = λ e bs es l s. ⊎_elim
         (λ t. inl (grown.kept e t))
@@ -103,12 +102,12 @@ module _ {cs allow ends goes later bounds : List ℕ} {count : ℕ} where
   }
 
   -- nothing is left to try
-  pub all_tried : {o : Open} {r : Found} {P : (ℕ → ℕ) → (ℕ → ℕ) → Type 0} → ((bs es : ℕ → ℕ) → P bs es → ⊥) → Untried cs allow ends goes later bounds count o r P
-      → FindsAll cs allow ends goes later bounds count o r
+  pub all_tried : {o : Open} {r : Found} {P : (ℕ → ℕ) → (ℕ → ℕ) → Type 0} → ((bs es : ℕ → ℕ) → P bs es → ⊥) → Untried t o r P
+      → FindsAll t o r
   all_tried n h e bs es l s = ⊎_elim (λ t. t) (λ p. absurd (n bs es p)) (h.each e bs es l s)
 
   -- a set with no end for its last member has no placement
-  pub finds_none : (o : Open) (r : Found) → o.last < count → entry_at o.ends o.last ≡ 0 → FindsAll cs allow ends goes later bounds count o r
+  pub finds_none : (o : Open) (r : Found) → o.last < t.count → (choice_at o.members o.last).ends ≡ 0 → FindsAll t o r
   finds_none o r l z e bs es g s = in_zero z (s.fits.ends o.last l)
 
 -- the member over g, where g and h are gaps: they are one, or one member alone is left

@@ -5,35 +5,22 @@
 ghost use Rattle.ending.specs.Code.Search.{OpenReady, TryReady, Grown, FindsAll};
 
 use ending::Found;
-use keeping::{MASKS, PAIRS, ROWS};
+use keeping::Tables;
 use narrowing::Open;
-use narrowing::bounds::BOUNDS;
 
 // `found` with the ends to which the set reads.
 #[cycle(search_tries)]
-pub fn search(
-    conds: &[u32],
-    allow: &[u64; MASKS],
-    ends: &[u64; PAIRS],
-    goes: &[u64; PAIRS],
-    later: &[u64; ROWS],
-    bounds: &[u64; BOUNDS],
-    count: usize,
-    state: Open,
-    found: Found,
-) -> Found
-    requires { OpenReady conds.now ends.now count state found.upto }
-    ensures { Grown conds.now allow.now ends.now count state.from found result × FindsAll conds.now allow.now ends.now goes.now later.now bounds.now count state result }
+pub fn search(tables: &Tables, state: Open, found: Found) -> Found
+    requires { OpenReady tables.now state found.upto }
+    ensures { Grown tables.now state.from found result × FindsAll tables.now state result }
 {
     if state.left == 0 {
-        return ending::leaf(conds, allow, ends, count, state, found);
+        return ending::leaf(tables, state, found);
     }
-    let gaps = narrowing::gaps(count, state);
+    let gaps = narrowing::gaps(tables.count, state);
     if gaps == 0 {
-        let i = narrowing::choose(count, state);
-        return tries(
-            conds, allow, ends, goes, later, bounds, count, state, i, found,
-        );
+        let i = narrowing::choose(tables.count, state);
+        return tries(tables, state, i, found);
     }
     let g = bitset::lowest(gaps);
     let h = narrowing::last_gap(state.left, gaps, g);
@@ -42,7 +29,7 @@ pub fn search(
     while rest != 0 {
         let i = bitset::lowest(rest) as usize;
         let with = narrowing::over(state, i, g, h);
-        r = tries(conds, allow, ends, goes, later, bounds, count, with, i, r);
+        r = tries(tables, with, i, r);
         rest = bitset::drop_lowest(rest);
     }
     r
@@ -50,37 +37,23 @@ pub fn search(
 
 // The same, where member i, which is left, is placed next: at each begin that it may have.
 #[cycle(search_tries)]
-fn tries(
-    conds: &[u32],
-    allow: &[u64; MASKS],
-    ends: &[u64; PAIRS],
-    goes: &[u64; PAIRS],
-    later: &[u64; ROWS],
-    bounds: &[u64; BOUNDS],
-    count: usize,
-    state: Open,
-    i: usize,
-    found: Found,
-) -> Found
-    requires { TryReady conds.now ends.now count state i found.upto }
-    ensures { Grown conds.now allow.now ends.now count state.from found result × FindsAll conds.now allow.now ends.now goes.now later.now bounds.now count state result }
+fn tries(tables: &Tables, state: Open, i: usize, found: Found) -> Found
+    requires { TryReady tables.now state i found.upto }
+    ensures { Grown tables.now state.from found result × FindsAll tables.now state result }
 {
-    let begins = state.begins;
-    let may = state.ends;
-    let last = state.last;
+    let may = state.members[i];
     let mut r = found;
-    let mut rest = begins[i];
+    let mut rest = may.begins;
     while rest != 0 {
         let x = bitset::lowest(rest);
-        let row = keeping::pair_at(ends, i, i, x);
+        let row = keeping::pair_at(&tables.ends, i, i, x);
         rest = bitset::drop_lowest(rest);
-        if bitset::inter(may[i], row) == 0 {
+        if bitset::inter(may.ends, row) == 0 {
             continue;
         }
-        let next = narrowing::placed(ends, goes, later, bounds, count, state, i, x, r.ends);
-        let left = next.ends;
-        if left[last] != 0 {
-            r = search(conds, allow, ends, goes, later, bounds, count, next, r);
+        let next = narrowing::placed(tables, state, i, x, r.ends);
+        if next.members[state.last].ends != 0 {
+            r = search(tables, next, r);
         }
     }
     r

@@ -1,34 +1,33 @@
 -- The bounds of begins by ends, as they are filled. Assumes nothing.
-use Prim.Native.Nat.{ℕ, ◌+◌, ◌*◌, ◌≤◌, ◌<◌}
-use mathlib.Core.Path.{◌≡◌, refl, sym, subst, ◌∙◌}
+use Prim.Native.Nat.{ℕ, ◌+◌, ◌-◌, ◌*◌, ◌≤◌, ◌<◌}
+use mathlib.Core.Path.{◌≡◌, refl, sym, ap, subst, ◌∙◌}
 use mathlib.Core.Logic.{◌↔◌, ◌⊎◌, inl, inr, by_cases, ⊎_elim}
 use mathlib.Core.List.{List}
-use native.Mathlib.Decide.{ℕ_discrete}
+use native.Mathlib.Decide.{dec_lt, ℕ_discrete}
 use native.Mathlib.Omega.{arith}
 use lib.ListN.{length, get_or, set, length-set}
 use lib.Seq.{get_or-set_same, get_or-set_other}
 use Rattle.bitset.specs.Code.Members.{In}
 use Rattle.sets.specs.Code.Bounds.{Grows, EndMarked}
 use Rattle.narrowing.specs.Code.Tables.{Bounded, BoundsHave}
-use Rattle.sets.proofs.Pairs.{in_kept}
+use Rattle.sets.proofs.Pairs.{in_kept, stored_in}
 
 -- the entry that is written
 pub in_new : (l : List ℕ) (i v : ℕ) {k y : ℕ} → i < length l → k ≡ i → In v y → In (get_or (set l i v) k 0) y
 in_new l i v {k} {y} room q t = rw (q, get_or-set_same l i v 0 room) t
 
 -- nothing written, one entry written, and one step after the other
-pub grows_none : {l : List ℕ} → length l ≡ 2052 → Grows l l
-grows_none q = record { long = q; kept = λ q y t. t; words = λ q g. refl }
+pub grows_none : {l : List ℕ} → Grows l l
+grows_none = record { kept = λ q y t. t; words = λ q g. refl }
 
-pub grows_set : {l : List ℕ} (i v : ℕ) → length l ≡ 2052 → i < 2048 → ((y : ℕ) → In (get_or l i 0) y → In v y) → Grows l (set l i v)
-grows_set {l} i v long g more = record {
-  long = simp length-set long;
+pub grows_set : {l : List ℕ} (i v : ℕ) → i < 2048 → ((y : ℕ) → In (get_or l i 0) y → In v y) → Grows l (set l i v)
+grows_set {l} i v g more = record {
   kept = λ q y t. in_kept l i v t (λ r. more y (subst (λ (k : ℕ). In (get_or l k 0) y) r t));
   words = λ q h. get_or-set_other l i q v 0 (omega arith);
 }
 
 pub grows_more : {l m n : List ℕ} → Grows l m → Grows m n → Grows l n
-grows_more g h = record { long = h.long; kept = λ q y t. h.kept q y (g.kept q y t); words = λ q l. h.words q l ∙ g.words q l }
+grows_more g h = record { kept = λ q y t. h.kept q y (g.kept q y t); words = λ q l. h.words q l ∙ g.words q l }
 
 pub marked_more : {l m : List ℕ} {p y e : ℕ} → Grows l m → EndMarked l p y e → EndMarked m p y e
 marked_more g h = record {
@@ -44,31 +43,43 @@ marked_more g h = record {
 pub marked_same : {l : List ℕ} {p y v e : ℕ} → v ≡ y → EndMarked l p y e → EndMarked l p v e
 marked_same {l} {p} {e = e} q = subst (λ (y : ℕ). EndMarked l p y e) (sym q)
 
--- one entry more has what it had and what the one before it, `prev`, has: so those in D' have all that R lets them have, where those in D do
-pub joined_more : {old l : List ℕ} (base e prev v : ℕ) {D D' : ℕ → Type 0} {R : ℕ → ℕ → Type 0} → Grows old l → base + e < 2048
-    → ((y : ℕ) → In v y ↔ (In (get_or l (base + e) 0) y ⊎ In (get_or l (base + prev) 0) y))
-    → ((d : ℕ) → D' d → (d ≡ e → ⊥) → D d) → D prev → ((f : ℕ) → R e f → (f ≡ e → ⊥) → R prev f)
-    → ((d f y : ℕ) → D d → R d f → In (get_or old (base + f) 0) y → In (get_or l (base + d) 0) y)
-    → Grows old (set l (base + e) v)
-    × ((d f y : ℕ) → D' d → R d f → In (get_or old (base + f) 0) y → In (get_or (set l (base + e) v) (base + d) 0) y)
-joined_more {old} {l} base e prev v {R = R} g b new less here on joined =
-    let s = grows_set {l = l} (base + e) v g.long b (λ y t. (new y).1 (inl t)) in (
-      grows_more g s,
-      λ d f y m k t. by_cases (ℕ_discrete d e)
-          (λ q. in_new l (base + e) v (omega (arith, g.long)) (omega arith) ((new y).1 (by_cases (ℕ_discrete f e)
-          (λ r. inl (g.kept _ _ (subst (λ (f : ℕ). In (get_or old (base + f) 0) y) r t)))
-          (λ r. inr (joined prev f y here (on f (subst (λ (d : ℕ). R d f) q k) r) t)))))
-          (λ q. s.kept _ _ (joined d f y (less d m q) k t)),
-    )
+-- the entries of the first k turns have what those before them have, and so has `all`
+pub record Joined (turn : ℕ → ℕ) (base : ℕ) (old new : List ℕ) (all k : ℕ) : Type 0 where
+  pub long : length new ≡ 2052
+  pub grows : Grows old new
+  pub reached : (j y : ℕ) → j < k → In (get_or old (base + turn j) 0) y → In all y
+  pub joined : (i j y : ℕ) → i ≤ j → j < k → In (get_or old (base + turn i) 0) y → In (get_or new (base + turn j) 0) y
 
--- marked first, then each half is joined
+pub joined_more : {turn : ℕ → ℕ} {base all : ℕ} {old l : List ℕ} (k q v : ℕ) → q ≡ base + turn k → q < 2048 → ((y : ℕ) → In v y ↔ (In all y ⊎ In (get_or l q 0) y))
+    → Joined turn base old l all k → Joined turn base old (set l q v) v (k + 1)
+joined_more {turn} {base} {all} {old} {l} k q v is room new h =
+    let s = grows_set {l = l} q v room (λ y t. (new y).1 (inr t)) in
+    let reached : (j y : ℕ) → j < k + 1 → In (get_or old (base + turn j) 0) y → In v y
+    = λ j y b t. by_cases (dec_lt j k)
+    (λ g. (new y).1 (inl (h.reached j y g t)))
+    (λ g. let e : j ≡ k = omega arith in
+    (new y).1 (inr (subst (λ (q : ℕ). In (get_or l q 0) y) (sym is) (subst (λ (j : ℕ). In (get_or l (base + turn j) 0) y) e (h.grows.kept _ _ t))))) in
+    record {
+      long = simp length-set h.long;
+      grows = grows_more h.grows s;
+      reached = reached;
+      joined = λ i j y m b t. by_cases (dec_lt j k)
+          (λ g. s.kept _ _ (h.joined i j y m g t))
+          (λ g. let e : j ≡ k = omega arith in in_new l q v (omega (arith, h.long)) (ap (λ (j : ℕ). base + turn j) e ∙ sym is) (reached i y (omega arith) t));
+    }
+
+-- marked first, then each half is joined: the later ends from the last down, the sooner ones from the first up
 pub bounded_joined : {l m n : List ℕ} {p y e : ℕ} → Grows l m → Grows m n
-    → ((d e y : ℕ) → d ≤ e → e < 64 → In (get_or l (p * 64 + e) 0) y → In (get_or m (p * 64 + d) 0) y)
-    → ((d e y : ℕ) → e ≤ d → d < 64 → In (get_or m (1024 + p * 64 + e) 0) y → In (get_or n (1024 + p * 64 + d) 0) y)
+    → ((i j y : ℕ) → i ≤ j → j < 64 → In (get_or l (p * 64 + (63 - i)) 0) y → In (get_or m (p * 64 + (63 - j)) 0) y)
+    → ((i j y : ℕ) → i ≤ j → j < 64 → In (get_or m (1024 + p * 64 + i) 0) y → In (get_or n (1024 + p * 64 + j) 0) y)
     → EndMarked l p y e → Bounded n p y e
-bounded_joined {y = y} g h down up k = record {
-  late = λ d l. h.kept _ _ (down d k.high y (omega (arith, k.above)) k.moment k.late);
-  soon = λ d l r. up d k.low y (omega (arith, k.below)) r (g.kept _ _ k.soon);
+bounded_joined {l} {m} {p = p} {y = y} g h down up k = record {
+  late = λ d b.
+      let high : k.high ≡ 63 - (63 - k.high) = omega (arith, k.moment) in
+      let low : 63 - (63 - d) ≡ d = omega (arith, k.above, k.moment) in
+      h.kept _ _ (subst (λ (d : ℕ). In (get_or m (p * 64 + d) 0) y) low (down (63 - k.high) (63 - d) y (omega (arith, k.above)) (omega arith)
+      (subst (λ (d : ℕ). In (get_or l (p * 64 + d) 0) y) high k.late)));
+  soon = λ d b r. up k.low d y (omega (arith, k.below)) r (g.kept _ _ k.soon);
 }
 
 -- one pair more, w and j, in the word of j
@@ -100,5 +111,5 @@ module _ {count : ℕ} {l m : List ℕ} {bs es : ℕ → ℕ} (w j v : ℕ) (sma
       (λ q.
       let u : In (get_or after (2048 + j) 0) w' = subst (λ (j : ℕ). In (get_or after (2048 + j) 0) w') q t in
       ⊎_elim (λ o. old w' j' f h (subst (λ (j : ℕ). In (get_or m (2048 + j) 0) w') (sym q) o)) (λ r. new w' j' r q)
-      ((is w').0 (subst (λ (x : ℕ). In x w') (get_or-set_same m (2048 + j) v 0 (omega (arith, g.long))) u)))
+      ((is w').0 (stored_in m (2048 + j) v u)))
       (λ n. old w' j' f h (subst (λ (x : ℕ). In x w') (get_or-set_other m (2048 + j) (2048 + j') v 0 (omega arith)) t))

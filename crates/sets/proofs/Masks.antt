@@ -1,8 +1,8 @@
 -- The moments at which a formula fails, the masks that the conditions allow, and the masks of the members' ends as the conditions narrow them. Assumes nothing.
-use Prim.Native.Nat.{ℕ, zero, suc, ◌+◌, ◌*◌, ◌^◌, ◌≤◌, ◌<◌}
+use Prim.Native.Nat.{ℕ, ◌+◌, ◌*◌, ◌^◌, ◌≤◌, ◌<◌}
 use mathlib.Core.Path.{◌≡◌, refl, sym, subst}
-use mathlib.Core.Bool.{true, ◌&&◌, ◌||◌}
-use mathlib.Core.Logic.{◌↔◌, ◌⊎◌, inl, inr, ⊎_elim, by_cases}
+use mathlib.Core.Bool.{Bool, true, false, ◌&&◌, ◌||◌}
+use mathlib.Core.Logic.{◌↔◌, inl, inr, ⊎_elim, by_cases}
 use mathlib.Core.List.{List}
 use native.Mathlib.Decide.{dec_lt, ℕ_discrete}
 use native.Mathlib.Omega.{arith}
@@ -10,15 +10,14 @@ use lib.Dec.{eqb, leb}
 use lib.ListN.{get_or}
 use lib.Count.{count_trailing_zeros}
 use borrow.Author.Tests.{eqb-true, eq-eqb}
-use Rattle.bitset.specs.Code.Members.{has, IsSetOf, In, Highest}
+use Rattle.bitset.specs.Code.Members.{has, IsSetOf, In}
 use Rattle.bitset.proofs.Bools.{not_both}
 use Rattle.bitset.proofs.Ends.{lowest}
-use Rattle.bitset.proofs.In.{in_zero, in_both, in_between, in_single, in_more}
+use Rattle.bitset.proofs.In.{in_zero, in_both, in_between, in_single, in_union}
 use Rattle.words.specs.Fields.{form, holds, condition_formula, condition_m, condition_n}
 use Rattle.model.specs.Forms.{condition_number}
 use Rattle.sets.specs.Set.{MetAt}
-use Rattle.sets.specs.Code.Masks.{Allowed, Seen, MaskOf}
-use Rattle.covering.proofs.Laws.{gain, gain_yes, gain_no}
+use Rattle.sets.specs.Code.Masks.{Picked, Allowed, MaskOf}
 
 -- a word without members is 0
 empty_zero : {r : ℕ} → r < 2 ^ 64 → ((t : ℕ) → In r t → ⊥) → r ≡ 0
@@ -26,23 +25,53 @@ empty_zero {r} f n = by_cases (ℕ_discrete r 0) (λ q. q) (λ q. absurd (n (cou
 
 -- ---- one moment more
 
--- the moments from a to before y + 1 at which M holds: those before y, and y
-turn : (M : ℕ → Type 0) (a y z : ℕ) → a ≤ y → ((a ≤ z) × (z < y + 1) × M z) ↔ (((a ≤ z) × (z < y) × M z) ⊎ (M y × (z ≡ y)))
-turn M a y z l = (
-  λ h. let g = h.1 in by_cases (dec_lt z y) (λ k. inl (h.0, k, h.2)) (λ k. let q : z ≡ y = omega arith in inr (subst M q h.2, q)),
-  ⊎_elim (λ h. let g = h.1 in (h.0, omega arith, h.2)) (λ h. let q = h.1 in (omega arith, omega arith, subst M (sym q) h.0)),
+-- of the moments from a to before y, the mask has those at which the test says yes
+pub record PickedTo (a : ℕ) (says : ℕ → Bool → Type 0) (mask y : ℕ) : Type 0 where
+  pub inside : (v : ℕ) → In mask v → (a ≤ v) × (v < y)
+  pub told : (v : ℕ) → a ≤ v → v < y → (r : Bool) × says v r × ((r ≡ true) ↔ In mask v)
+
+pub picked_none : {a : ℕ} {says : ℕ → Bool → Type 0} → PickedTo a says 0 a
+picked_none = record { inside = λ v t. absurd (in_zero refl t); told = λ v l g. absurd (omega arith) }
+
+module _ {a y mask : ℕ} {says : ℕ → Bool → Type 0} {r : Bool} (l : a ≤ y) (old : PickedTo a says mask y) (met : says y r) where
+  pub picked_yes : {m new : ℕ} (one : ℕ) → r ≡ true → IsSetOf one (λ k. eqb k y) → IsSetOf new (λ k. has mask k || has one k) → m ≡ new → PickedTo a says m (y + 1)
+  picked_yes {m} {new} one h s u e = subst (λ (m : ℕ). PickedTo a says m (y + 1)) (sym e) (record {
+    inside = λ v t. ⊎_elim (λ o. let k = old.inside v o in (k.0, omega arith)) (λ o. let q = (in_single s v).0 o in (omega arith, omega arith)) ((in_union u v).0 t);
+    told = λ v g b. by_cases (dec_lt v y)
+        (λ k. let o = old.told v g k in (
+          o.0,
+          o.1,
+          (λ q. (in_union u v).1 (inl (o.2.0 q)), λ t. ⊎_elim (λ i. o.2.1 i) (λ i. let q = (in_single s v).0 i in absurd (omega arith)) ((in_union u v).0 t)),
+        ))
+        (λ k. let q : v ≡ y = omega arith in (
+          r,
+          subst (λ (v : ℕ). says v r) (sym q) met,
+          (λ _. (in_union u v).1 (inr ((in_single s v).1 q)), λ _. h),
+        ));
+  })
+
+  pub picked_no : {m : ℕ} → r ≡ false → m ≡ mask → PickedTo a says m (y + 1)
+  picked_no {m} n e = subst (λ (m : ℕ). PickedTo a says m (y + 1)) (sym e) (record {
+    inside = λ v t. let h = old.inside v t in (h.0, omega arith);
+    told = λ v g b. by_cases (dec_lt v y)
+        (λ k. old.told v g k)
+        (λ k. let q : v ≡ y = omega arith in (
+          r,
+          subst (λ (v : ℕ). says v r) (sym q) met,
+          (λ t. absurd (not_both t n), λ t. let h = old.inside v t in absurd (omega arith)),
+        ));
+  })
+
+pub picked_all : {a z y mask : ℕ} {says : ℕ → Bool → Type 0} → z ≡ y → PickedTo a says mask (y + 1) → Picked a z says mask
+picked_all q h = record { inside = λ v t. let k = h.inside v t in (k.0, omega arith); told = λ v g b. h.told v g (omega arith) }
+
+-- in words of what the test tells
+pub picked_is : {a z mask : ℕ} {says : ℕ → Bool → Type 0} (M : ℕ → Type 0) → ((t : ℕ) (r : Bool) → a ≤ t → t ≤ z → says t r → (r ≡ true) ↔ M t)
+    → Picked a z says mask → (t : ℕ) → In mask t ↔ ((a ≤ t) × (t ≤ z) × M t)
+picked_is M is h t = (
+  λ u. let o = h.inside t u in let k = h.told t o.0 o.1 in (o.0, o.1, (is t k.0 o.0 o.1 k.1).0 (k.2.1 u)),
+  λ o. let k = h.told t o.0 o.1 in k.2.0 ((is t k.0 o.0 o.1 k.1).1 o.2),
 )
-
--- mask has the moments from a to before y at which M holds
-abbrev pub Before : (ℕ → Type 0) → ℕ → ℕ → ℕ → Type 0
-Before M a y mask = (v : ℕ) → In mask v ↔ ((a ≤ v) × (v < y) × M v)
-
-module _ (M : ℕ → Type 0) {a y mask : ℕ} (l : a ≤ y) (old : Before M a y mask) where
-  pub turn_yes : {new : ℕ} (one : ℕ) → M y → IsSetOf one (λ k. eqb k y) → IsSetOf new (λ k. has mask k || has one k) → Before M a (y + 1) new
-  turn_yes one m s u = in_more (λ v. gain_yes m (gain one u (in_single s v))) (λ v. turn M a y v l) old
-
-  pub turn_no : (M y → ⊥) → Before M a (y + 1) mask
-  turn_no n = in_more (λ v. gain_no n) (λ v. turn M a y v l) old
 
 -- ---- where a formula fails
 
@@ -58,25 +87,6 @@ module _ (value : ℕ → ℕ → ℕ) (k : ℕ) {fails : ℕ} (P : ℕ → Type
     λ z t g h. held t (seen t g h) (λ u. in_zero (eqb-true r 0 z) ((is t).1 (u, (g, h)))),
     λ h. eq-eqb r 0 (empty_zero b (λ t u. let o = (is t).0 u in (f t (seen t o.1.0 o.1.1)).0 o.0 (h t o.1.0 o.1.1))),
   )
-
-  -- it holds from a moment on up to hi where the highest moment of the mask up to hi is before that
-  pub until : {g hi : ℕ} → Highest fails hi g → (lo : ℕ) → ((t : ℕ) → lo ≤ t → t ≤ hi → P t)
-      → (g < lo) ↔ ((t : ℕ) → lo ≤ t → t ≤ hi → value k t ≡ holds)
-  until {g} {hi} h lo seen = (
-    λ b t m u. held t (seen t m u) (λ i. not_both i.yes (h.last t (omega arith) u)),
-    λ m. by_cases (dec_lt g lo) (λ b. b) (λ b.
-        let l : lo ≤ g = omega arith in
-        absurd ((f g (seen g l h.upto)).0 (record { yes = h.member }) (m g l h.upto))),
-  )
-
--- other forms ask for no formula
-pub unseen : (f n N a z t : ℕ) → (f ≡ 2 → ⊥) → (f ≡ 3 → ⊥) → (f ≡ 4 → ⊥) → Seen (condition_number f) n N a z t → ⊥
-unseen zero n N a z t g h m s = s
-unseen (suc zero) n N a z t g h m s = s
-unseen (suc (suc zero)) n N a z t g h m s = g refl
-unseen (suc (suc (suc zero))) n N a z t g h m s = h refl
-unseen (suc (suc (suc (suc zero)))) n N a z t g h m s = m refl
-unseen (suc (suc (suc (suc (suc f))))) n N a z t g h m s = s
 
 -- ---- a mask cut to a..z
 

@@ -1,6 +1,6 @@
 -- The laws of a set's tables: begins and ends are lawful by the masks and own rows where they are lawful by the rule. Assumes nothing.
 use Prim.Native.Nat.{ℕ, zero, suc, ◌+◌, ◌*◌, ◌≤◌, ◌<◌}
-use mathlib.Core.Path.{◌≡◌, refl, sym, ap, subst}
+use mathlib.Core.Path.{◌≡◌, refl, sym, ◌∙◌, ap, subst}
 use mathlib.Core.Logic.{◌↔◌, by_cases}
 use mathlib.Core.List.{List, [], ◌∷◌, map}
 use native.Mathlib.Decide.{dec_lt, ℕ_discrete}
@@ -9,19 +9,20 @@ use lib.ListN.{length, get_or, set, length-set, length-map, get_or-map}
 use lib.Seq.{get_or-set_same, get_or-set_other}
 use Rattle.bitset.specs.Code.Members.{In}
 use Rattle.bitset.proofs.In.{in_zero}
-use Rattle.words.specs.Fields.{form, member_node, condition_formula, condition_i, condition_j, condition_m, condition_n}
-use Rattle.model.specs.Forms.{ConditionForm, BeginAfterBegin, BeginAfterEnd, HoldsBefore, HoldsAfter, HoldsBetween, ReservedCondition, condition_number, condition_form}
+use Rattle.words.specs.Fields.{member_node, condition_formula, condition_i, condition_j, condition_m, condition_n}
+use Rattle.model.specs.Forms.{ConditionForm, BeginAfterBegin, BeginAfterEnd, HoldsBefore, HoldsAfter, HoldsBetween, ReservedCondition, condition_form}
 use Rattle.model.specs.Code.Arrays.{value_in}
 use Rattle.model.specs.Code.Table.{InTable}
 use Rattle.sets.specs.Set.{TaskSet, member_count, MetAs, MetAt}
 use Rattle.sets.specs.Code.Set.{member, Formed}
 use Rattle.sets.specs.Code.Rows.{task_set_of, Placed}
-use Rattle.ending.specs.Code.Ends.{asked, partner, partner_of, MetAtMask, MetByMask}
+use Rattle.ending.specs.Code.Ends.{asked, partner, partner_of, MetByMask}
 use Rattle.keeping.specs.Code.Tables.{pair_at}
-use Rattle.narrowing.specs.Code.Tables.{EndsHave, GoesHave, InTables}
+use Rattle.keeping.specs.declared.Tables.{Tables}
+use Rattle.narrowing.specs.Code.Tables.{EndsHave, GoesHave, BoundsHave, InTables}
 use Rattle.ending.specs.Code.Search.{Masked}
 use Rattle.sets.specs.Code.Masks.{Allowed}
-use Rattle.sets.specs.Code.Tables.{Have, Fewer, LeftOut, Cut, InSpan, Unpruned, OwnRow, OwnRows, Tables}
+use Rattle.sets.specs.Code.Tables.{Have, Fewer, LeftOut, InSpan, Unpruned, OwnRow, OwnRows, SameElse, TablesOf}
 use Rattle.ending.proofs.Conditions.{partner-less}
 
 -- ---- one mask of an array more
@@ -61,9 +62,6 @@ asked-within HoldsAfter g h l = (omega arith, l)
 asked-within HoldsBetween g h l = (omega arith, l)
 asked-within ReservedCondition g h l = (omega arith, l)
 
-pub partner-is : {f i j r : ℕ} (w : ℕ) → f ≡ form w → i ≡ condition_i w → j ≡ condition_j w → r ≡ partner (condition_number f) i j → r ≡ partner_of w
-partner-is w p q s h = rw (p, q, s) at h
-
 module _ {value : ℕ → ℕ → ℕ} {cs allow : List ℕ} {n a z count : ℕ} (allowed : Allowed value cs n a z (length cs) allow)
     (named : (c : ℕ) → c < length cs → (condition_i (get_or cs c 0) < count) × (condition_j (get_or cs c 0) < count))
     {bs es : ℕ → ℕ} (within : InSpan count a z bs es) where
@@ -81,41 +79,6 @@ module _ {value : ℕ → ℕ → ℕ} {cs allow : List ℕ} {n a z count : ℕ}
       let u = asked-as (condition_form w) value n (condition_formula w) (condition_m w) (condition_n w) i j (es i) bs in
       let v = asked-within (condition_form w) o.0 o.1 o.2 in
       (λ t. u.0 (k.0 t).2, λ t. k.1 (v.0, v.1, u.1 t))
-
--- ---- rows of pairs that the mask of condition c cuts
-
--- the row k, l of a table of pairs is cut, and the table has W i j where X i j is
-cut_kept : (X W : ℕ → ℕ → ℕ) (allow T T' : List ℕ) (c k l count a z : ℕ) → count ≤ 4 → z < 64 → k < count → l < count
-    → ((i j : ℕ) → i < count → j < count → (a ≤ X i j) × (X i j ≤ z)) → In (get_or allow (c * 64 + X k l) 0) (W k l)
-    → Cut T (k * 4 + l) allow c a z T' → (i j : ℕ) → i < count → j < count → In (pair_at T i j (X i j)) (W i j) → In (pair_at T' i j (X i j)) (W i j)
-cut_kept X W allow T T' c k l count a z few small kb lb within met cut i j ib jb t = cut ((i * 4 + j) * 64 + X i j) (W i j) t (λ y q g h.
-    let w = within i j ib jb in
-    let p : k ≡ i = omega arith in
-    let r : l ≡ j = omega arith in
-    let u : X i j ≡ y = omega arith in
-    subst (λ (y : ℕ). In (get_or allow (c * 64 + y) 0) (W i j)) u
-    (subst (λ (j : ℕ). In (get_or allow (c * 64 + X i j) 0) (W i j)) r (subst (λ (i : ℕ). In (get_or allow (c * 64 + X i l) 0) (W i l)) p met)))
-
-module _ {E G : List ℕ} {count : ℕ} {bs es : ℕ → ℕ} (allow : List ℕ) (w i j c a z : ℕ) (few : count ≤ 4) (small : z < 64) (is : i ≡ condition_i w)
-    (js : j ≡ partner_of w) (first : condition_i w < count) (second : condition_j w < count) (within : InSpan count a z bs es)
-    (met : MetAtMask w allow bs c (es (condition_i w))) (have : Have E G count bs es) where
-  pub cut_goes : {G' : List ℕ} → ((x e : ℕ) → asked (condition_form w) x e ≡ x) → Cut G (j * 4 + i) allow c a z G' → Have E G' count bs es
-  cut_goes {G'} begin cut =
-      let l = partner-less (condition_form w) first second in
-      record {
-        ends = have.ends;
-        goes = λ k m g h. cut_kept (λ k m. bs k) (λ k m. bs m) allow G G' c j i count a z few small (omega arith) (omega arith)
-            (λ k m g h. let o = within k g in (o.0, omega arith)) (rw (is, js) (rw begin at met)) cut k m g h (have.goes k m g h);
-      }
-
-  pub cut_ends : {E' : List ℕ} → ((x e : ℕ) → asked (condition_form w) x e ≡ e) → Cut E (i * 4 + j) allow c a z E' → Have E' G count bs es
-  cut_ends {E'} end cut =
-      let l = partner-less (condition_form w) first second in
-      record {
-        ends = λ k m g h. cut_kept (λ k m. bs m) (λ k m. es k) allow E E' c i j count a z few small (omega arith) (omega arith)
-            (λ k m g h. let o = within m h in (o.0, omega arith)) (rw (is, js) (rw end at met)) cut k m g h (have.ends k m g h);
-        goes = have.goes;
-      }
 
 -- ---- own rows
 
@@ -205,26 +168,47 @@ fewer_more old E k v both h p e t = by_cases (ℕ_discrete p k)
     ((both e).0 (stored_in E k v (subst (λ (p : ℕ). In (get_or (set E k v) p 0) e) q t))).0))
     (λ q. h p e (rw (get_or-set_other E k p v 0 q) at t))
 
+-- one step after the other, and a step that stores both tables
+pub same_more : (t : Tables) {u v : Tables} → SameElse t u → SameElse u v → SameElse t v
+same_more t {v = v} g h = h ∙ ap (λ (t : Tables). record t { ends = v.ends; goes = v.goes }) g
+
+pub same_set : (t : Tables) {u : Tables} (E G : List ℕ) → SameElse t u → SameElse t (record u { ends = E; goes = G })
+same_set t E G g = ap (λ (t : Tables). record t { ends = E; goes = G }) g
+
 -- nothing is left out
 pub left_none : {count a z : ℕ} {E G : List ℕ} → LeftOut count a z E G E G
 left_none = record { fewer = λ p e t. t; kept = λ bs es w h. h }
 
+-- one step after the other
+pub left_more : {count a z : ℕ} {E G E' G' E₂ G₂ : List ℕ} → LeftOut count a z E G E' G' → LeftOut count a z E' G' E₂ G₂ → LeftOut count a z E G E₂ G₂
+left_more v o = record { fewer = λ p e t. v.fewer p e (o.fewer p e t); kept = λ bs es w h. o.kept bs es w (v.kept bs es w h) }
+
 -- ---- what the tables say
 
 -- what is known of the tables once they are filled
-pub record TablesFilled (s : TaskSet) (R : ℕ → ℕ → ℕ → Type 0) (a z : ℕ) (allow ends goes later : List ℕ) : Type 0 where
+pub record TablesFilled (s : TaskSet) (R : ℕ → ℕ → ℕ → Type 0) (a z : ℕ) (t : Tables) : Type 0 where
   pub formed : Formed s
   pub forward : a ≤ z
   pub upto : z ≤ s.last
-  pub allowed : Allowed s.value s.conditions s.last a z (length s.conditions) allow
-  pub own : (i x e : ℕ) → i < member_count s → a ≤ x → x ≤ z → In (pair_at ends i i x) e → R (member s i) x e × (x ≤ e) × (e ≤ z)
+  pub conditions : t.conditions.now ≡ s.conditions
+  pub count : t.count ≡ member_count s
+  pub allowed : Allowed s.value s.conditions s.last a z (length s.conditions) t.allow
+  pub own : (i x e : ℕ) → i < member_count s → a ≤ x → x ≤ z → In (pair_at t.ends i i x) e → R (member s i) x e × (x ≤ e) × (e ≤ z)
   pub have : (bs es : ℕ → ℕ) → InSpan (member_count s) a z bs es
-      → ((c : ℕ) → c < length s.conditions → MetByMask s.conditions allow bs c (es (condition_i (get_or s.conditions c 0))))
-      → ((i : ℕ) → i < member_count s → R (member s i) (bs i) (es i)) → Have ends goes (member_count s) bs es
-  pub after : (i x y e : ℕ) → i < member_count s → a ≤ x → x ≤ y → y ≤ z → In (pair_at ends i i y) e → In (get_or later (i * 64 + x) 0) e
+      → ((c : ℕ) → c < length s.conditions → MetByMask s.conditions t.allow bs c (es (condition_i (get_or s.conditions c 0))))
+      → ((i : ℕ) → i < member_count s → R (member s i) (bs i) (es i)) → Have t.ends t.goes (member_count s) bs es
+  pub after : (i x y e : ℕ) → i < member_count s → a ≤ x → x ≤ y → y ≤ z → In (pair_at t.ends i i y) e → In (get_or t.later (i * 64 + x) 0) e
+  pub bounded : (bs es : ℕ → ℕ) → InSpan (member_count s) a z bs es → EndsHave (member_count s) t.ends bs es → BoundsHave (member_count s) t.bounds bs es
 
-module _ {s : TaskSet} {R : ℕ → ℕ → ℕ → Type 0} {a z : ℕ} {allow ends goes later : List ℕ} (f : TablesFilled s R a z allow ends goes later) where
-  reads : (b e : ℕ) (bs es : ℕ → ℕ) → a ≤ b → e ≤ z → Masked s.conditions allow ends (member_count s) b e bs es → Placed s R b e bs es
+module _ {s : TaskSet} {R : ℕ → ℕ → ℕ → Type 0} {a z : ℕ} {t : Tables} (f : TablesFilled s R a z t) where
+  -- the tables with these conditions and this count
+  abbrev with_words : List ℕ → ℕ → Tables
+  with_words cs k = record t { conditions = record t.conditions { now = cs }; count = k }
+
+  abbrev own_words : Tables
+  own_words = with_words s.conditions (member_count s)
+
+  reads : (b e : ℕ) (bs es : ℕ → ℕ) → a ≤ b → e ≤ z → Masked own_words b e bs es → Placed s R b e bs es
   reads b e bs es l m h =
       let first = h.inside 0 f.formed.some in
       let inside : InSpan (member_count s) a z bs es = λ i g. let k = h.inside i g in (omega arith, k.1, omega arith) in
@@ -243,30 +227,31 @@ module _ {s : TaskSet} {R : ℕ → ℕ → ℕ → Type 0} {a z : ℕ} {allow e
   placed_within : {b e : ℕ} {bs es : ℕ → ℕ} → a ≤ b → e ≤ z → Placed s R b e bs es → InSpan (member_count s) a z bs es
   placed_within l g h i m = let o = h.placing.inside i m in (omega arith, o.1, omega arith)
 
-  placed_have : {b e : ℕ} {bs es : ℕ → ℕ} → a ≤ b → e ≤ z → Placed s R b e bs es → Have ends goes (member_count s) bs es
+  placed_have : {b e : ℕ} {bs es : ℕ → ℕ} → a ≤ b → e ≤ z → Placed s R b e bs es → Have t.ends t.goes (member_count s) bs es
   placed_have {bs = bs} {es = es} l g h = let w = placed_within l g h in
       f.have bs es w (λ c m. (mask_met f.allowed f.formed.named w c m).1 (h.placing.met c m)) h.reads
 
-  masked : (b e : ℕ) (bs es : ℕ → ℕ) → a ≤ b → e ≤ z → Placed s R b e bs es → Masked s.conditions allow ends (member_count s) b e bs es
+  masked : (b e : ℕ) (bs es : ℕ → ℕ) → a ≤ b → e ≤ z → Placed s R b e bs es → Masked own_words b e bs es
   masked b e bs es l g h = record {
     inside = h.placing.inside;
     covers = h.placing.covers;
     lawful = λ i m. record {
       reads = (placed_have l g h).ends i i m m;
-      met = λ c k q. subst (λ (j : ℕ). MetByMask s.conditions allow bs c (es j)) q
+      met = λ c k q. subst (λ (j : ℕ). MetByMask s.conditions t.allow bs c (es j)) q
           ((mask_met f.allowed f.formed.named (placed_within l g h) c k).1 (h.placing.met c k));
     };
   }
 
-  kept : (b e : ℕ) (bs es : ℕ → ℕ) → a ≤ b → e ≤ z → Placed s R b e bs es → InTables ends goes later (member_count s) a bs es
-  kept b e bs es l g h = let t = placed_have l g h in record {
-    ends = t.ends;
-    goes = t.goes;
-    later = λ i x m k j. let w = placed_within l g h i m in f.after i x (bs i) (es i) m k j (omega arith) (t.ends i i m m);
+  kept : (b e : ℕ) (bs es : ℕ → ℕ) → a ≤ b → e ≤ z → Placed s R b e bs es → InTables own_words a bs es
+  kept b e bs es l g h = let p = placed_have l g h in record {
+    ends = p.ends;
+    goes = p.goes;
+    later = λ i x m k j. let w = placed_within l g h i m in f.after i x (bs i) (es i) m k j (omega arith) (p.ends i i m m);
   }
 
-  pub tables : Tables s R a z allow ends goes later
-  tables = record {
+  pub tables : TablesOf s R a z t
+  tables = subst (λ (cs : List ℕ). TablesOf s R a z (with_words cs t.count)) (sym f.conditions) (subst (λ (k : ℕ). TablesOf s R a z (with_words s.conditions k)) (sym f.count) (record {
+    count = refl;
     ready = record {
       some = f.formed.some;
       few = f.formed.few;
@@ -279,7 +264,8 @@ module _ {s : TaskSet} {R : ℕ → ℕ → ℕ → Type 0} {a z : ℕ} {allow e
     reads = reads;
     masked = masked;
     kept = kept;
-  }
+    bounded = λ b e bs es l g h. f.bounded bs es (placed_within l g h) (placed_have l g h).ends;
+  }))
 
 -- the nodes of the member words
 node_at : (ms : List ℕ) (i : ℕ) → get_or (map member_node ms) i 0 ≡ member_node (get_or ms i 0)
@@ -292,17 +278,17 @@ pub node_rows : (ms : List ℕ) {rows : ℕ} → ((i : ℕ) → i < length (map 
     → (i : ℕ) → i < length ms → member_node (get_or ms i 0) * 64 + 64 ≤ rows
 node_rows ms h i l = omega (arith, node_at ms i, h i (omega (arith, counted ms)))
 
--- the tables as they are filled: E and G at the start, E₁ and G₁ once the conditions have cut them, E₂ with the own rows, E₃ and G₃ once the
--- pairs are cut
-module _ (ms cs vs table : List ℕ) {allow E G E₁ G₁ E₂ E₃ G₃ : List ℕ} (n a z : ℕ) (formed : Formed (task_set_of ms cs vs n)) (forward : a ≤ z)
-    (upto : z ≤ n) (unpruned_ends : Unpruned E) (unpruned_goes : Unpruned G) (allowed : Allowed (value_in vs) cs n a z (length cs) allow)
+-- the tables as they are filled: E and G at the start, E₁ and G₁ once the conditions have cut them, E₂ with the own rows, and in t once the pairs
+-- are cut
+module _ (ms vs table : List ℕ) {E G E₁ G₁ E₂ : List ℕ} (n a z : ℕ) (t : Tables) (formed : Formed (task_set_of ms t.conditions.now vs n)) (forward : a ≤ z)
+    (upto : z ≤ n) (unpruned_ends : Unpruned E) (unpruned_goes : Unpruned G) (allowed : Allowed (value_in vs) t.conditions.now n a z (length t.conditions.now) t.allow)
     (conditions : (count : ℕ) (bs es : ℕ → ℕ) → InSpan count a z bs es → count ≤ 4
-    → ((c : ℕ) → c < length cs → (condition_i (get_or cs c 0) < count) × (condition_j (get_or cs c 0) < count)
-    × MetByMask cs allow bs c (es (condition_i (get_or cs c 0)))) → Have E G count bs es → Have E₁ G₁ count bs es)
+    → ((c : ℕ) → c < length t.conditions.now → (condition_i (get_or t.conditions.now c 0) < count) × (condition_j (get_or t.conditions.now c 0) < count)
+    × MetByMask t.conditions.now t.allow bs c (es (condition_i (get_or t.conditions.now c 0)))) → Have E G count bs es → Have E₁ G₁ count bs es)
     (own : OwnRows ms table G₁ a z E₁ E₂ (length ms))
-    (pairs : LeftOut (length ms) a z E₂ G₁ E₃ G₃) where
-  have_all : (bs es : ℕ → ℕ) → InSpan (length ms) a z bs es → ((c : ℕ) → c < length cs → MetByMask cs allow bs c (es (condition_i (get_or cs c 0))))
-      → ((i : ℕ) → i < length ms → InTable table (member_node (get_or ms i 0)) (bs i) (es i)) → Have E₃ G₃ (length ms) bs es
+    (pairs : LeftOut (length ms) a z E₂ G₁ t.ends t.goes) where
+  have_all : (bs es : ℕ → ℕ) → InSpan (length ms) a z bs es → ((c : ℕ) → c < length t.conditions.now → MetByMask t.conditions.now t.allow bs c (es (condition_i (get_or t.conditions.now c 0))))
+      → ((i : ℕ) → i < length ms → InTable table (member_node (get_or ms i 0)) (bs i) (es i)) → Have t.ends t.goes (length ms) bs es
   have_all bs es within met reads =
       let few : length ms ≤ 4 = omega (arith, formed.few, counted ms) in
       let small : z < 64 = omega (arith, formed.moments) in
@@ -317,16 +303,20 @@ module _ (ms cs vs table : List ℕ) {allow E G E₁ G₁ E₂ E₃ G₃ : List 
         goes = cut.goes;
       })
 
-  pub filled : {later : List ℕ} → ((i x y e : ℕ) → i < length ms → a ≤ x → x ≤ y → y ≤ z → In (pair_at E₃ i i y) e
-      → In (get_or later (i * 64 + x) 0) e) → Tables (task_set_of ms cs vs n) (InTable table) a z allow E₃ G₃ later
-  filled after = tables (record {
+  pub filled : t.count ≡ length ms → ((i x y e : ℕ) → i < length ms → a ≤ x → x ≤ y → y ≤ z → In (pair_at t.ends i i y) e → In (get_or t.later (i * 64 + x) 0) e)
+      → ((bs es : ℕ → ℕ) → InSpan (length ms) a z bs es → EndsHave (length ms) t.ends bs es → BoundsHave (length ms) t.bounds bs es)
+      → TablesOf (task_set_of ms t.conditions.now vs n) (InTable table) a z t
+  filled count after bounded = tables (record {
     formed = formed;
     forward = forward;
     upto = upto;
+    conditions = refl;
+    count = count ∙ sym (counted ms);
     allowed = allowed;
-    own = λ i x e l g m t. subst (λ (m : ℕ). InTable table m x e × (x ≤ e) × (e ≤ z)) (sym (node_at ms i))
-        (own.own i x e (omega (arith, counted ms)) g m (pairs.fewer ((i * 4 + i) * 64 + x) e t));
+    own = λ i x e l g m k. subst (λ (m : ℕ). InTable table m x e × (x ≤ e) × (e ≤ z)) (sym (node_at ms i))
+        (own.own i x e (omega (arith, counted ms)) g m (pairs.fewer ((i * 4 + i) * 64 + x) e k));
     have = λ bs es w met reads. rw (counted ms) (have_all bs es (λ i l. w i (omega (arith, counted ms))) met
         (λ i l. subst (λ (m : ℕ). InTable table m (bs i) (es i)) (node_at ms i) (reads i (omega (arith, counted ms)))));
     after = λ i x y e l. after i x y e (omega (arith, counted ms));
+    bounded = rw (counted ms) bounded;
   })

@@ -1,21 +1,23 @@
 -- The rows of a set, stored one after the other. Assumes nothing.
 use Prim.Native.Nat.{ℕ, ◌+◌, ◌*◌, ◌≤◌, ◌<◌}
-use mathlib.Core.Path.{◌≡◌, refl, sym, subst}
+use mathlib.Core.Path.{◌≡◌, refl, sym, ◌∙◌, subst}
 use mathlib.Core.Bool.{◌&&◌}
 use mathlib.Core.Logic.{◌↔◌, ◌⊎◌, ⊎_elim}
-use mathlib.Core.List.{List, [], ◌∷◌}
+use mathlib.Core.List.{List, [], ◌∷◌, map}
 use native.Mathlib.Omega.{arith}
 use borrow.Author.Count.{below_more}
 use lib.Dec.{leb, ltb}
-use lib.ListN.{length, get_or, set, replicate, length-set, get_or-replicate}
+use lib.ListN.{length, get_or, set, replicate, length-map, length-set, get_or-replicate}
 use lib.Seq.{get_or-set_same, get_or-set_other}
 use Rattle.bitset.specs.Code.Members.{In, IsSetOf}
+use Rattle.words.specs.Fields.{member_node}
 use Rattle.sets.specs.Set.{TaskSet, member_count}
-use Rattle.sets.specs.Code.Set.{member, SetRule}
-use Rattle.sets.specs.Code.Rows.{SetRows, Placed}
+use Rattle.sets.specs.Code.Set.{member, SetRule, Formed}
+use Rattle.sets.specs.Code.Rows.{task_set_of, SetRows, Placed}
 use Rattle.ending.specs.Code.Search.{Masked, SearchReady, Grown}
-use Rattle.narrowing.specs.Code.Tables.{EndsHave, BoundsHave, InTables}
-use Rattle.sets.specs.Code.Tables.{InSpan, Unpruned, Tables}
+use Rattle.keeping.specs.declared.Tables.{Tables}
+use Rattle.narrowing.specs.Code.Tables.{BoundsHave, InTables}
+use Rattle.sets.specs.Code.Tables.{Unpruned, UnprunedTables, TablesReady, TablesOf}
 use Rattle.ending.specs.declared.Found.{Found}
 use Rattle.bitset.proofs.In.{in_zero, in_from, empty_entry}
 use Rattle.model.specs.Code.Table.{InTable}
@@ -54,7 +56,7 @@ rows_done l h = record { rows = λ c e g. h.rows c (omega arith) e; others = h.o
 
 -- ---- what the search of a row finds
 
-pub ready_from : {cs ends : List ℕ} {count a b z : ℕ} → a ≤ b → b ≤ z → SearchReady cs ends count a z → SearchReady cs ends count b z
+pub ready_from : {t : Tables} {a b z : ℕ} → a ≤ b → b ≤ z → SearchReady t a z → SearchReady t b z
 ready_from l g h = record {
   some = h.some;
   few = h.few;
@@ -65,44 +67,42 @@ ready_from l g h = record {
   onward = λ i x e k m. h.onward i x e k (omega arith);
 }
 
-pub tables_from : {E G L : List ℕ} {count a b : ℕ} {bs es : ℕ → ℕ} → a ≤ b → InTables E G L count a bs es → InTables E G L count b bs es
+pub tables_from : {t : Tables} {a b : ℕ} {bs es : ℕ → ℕ} → a ≤ b → InTables t a bs es → InTables t b bs es
 tables_from l h = record { ends = h.ends; goes = h.goes; later = λ i x k m. h.later i x k (omega arith) }
-
-module _ {s : TaskSet} {R : ℕ → ℕ → ℕ → Type 0} {a z b : ℕ} {allow ends goes later : List ℕ} (bounds : List ℕ) (r : Found) (goal : ℕ)
-    (t : Tables s R a z allow ends goes later) (filled : (bs es : ℕ → ℕ) → InSpan (member_count s) a z bs es → EndsHave (member_count s) ends bs es → BoundsHave (member_count s) bounds bs es)
-    (from : a ≤ b) (all : (e : ℕ) (bs es : ℕ → ℕ) → Masked s.conditions allow ends (member_count s) b e bs es → InTables ends goes later (member_count s) b bs es
-    → BoundsHave (member_count s) bounds bs es → e ≤ z → In goal e → In r.ends e) where
-  -- an end of `goal` to which the set reads from b is found
-  pub row-finds : (e : ℕ) → e ≤ z → In goal e → SetRule s R b e → In r.ends e
-  row-finds e w g h =
-      let p : Placed s R b e h.begins h.ends = record { reads = h.reads; placing = h.placing } in
-      let k = t.kept b e h.begins h.ends from w p in
-      let inside : InSpan (member_count s) a z h.begins h.ends = λ i l. let o = h.placing.inside i l in (omega arith, o.1, omega arith) in
-      all e h.begins h.ends (t.masked b e h.begins h.ends from w p) (tables_from from k) (filled h.begins h.ends inside k.ends) w g
-
--- and no other end is
-pub row_reads : {s : TaskSet} {R : ℕ → ℕ → ℕ → Type 0} {a z b : ℕ} {allow ends goes later : List ℕ} {f r : Found} → Tables s R a z allow ends goes later → a ≤ b
-    → f.ends ≡ 0 → f.upto ≡ z → Grown s.conditions allow ends (member_count s) b f r → (e : ℕ) → In r.ends e → SetRule s R b e
-row_reads {b = b} t from none last g e u = ⊎_elim
-    (λ v. in_zero none v)
-    (λ v. let p = t.reads b e v.bs v.es from (omega (arith, last, g.upto, g.within (λ d v. in_zero none v) e u)) v.masked in record { begins = v.bs; ends = v.es; reads = p.reads; placing = p.placing })
-    (g.reads e u)
 
 -- what a row has to do with the rule: each end of `goal` to which the set reads is found, and the set reads to what is found
 pub record RowFound (s : TaskSet) (R : ℕ → ℕ → ℕ → Type 0) (b z goal : ℕ) (r : Found) : Type 0 where
   pub finds : (e : ℕ) → e ≤ z → In goal e → SetRule s R b e → In r.ends e
   pub reads : (e : ℕ) → In r.ends e → SetRule s R b e
 
-pub row-found : {s : TaskSet} {R : ℕ → ℕ → ℕ → Type 0} {a z b : ℕ} {allow ends goes later : List ℕ} (bounds : List ℕ) (f r : Found) (goal count : ℕ) → member_count s ≡ count
-    → Tables s R a z allow ends goes later → a ≤ b → f.ends ≡ 0 → f.upto ≡ z
-    → ((bs es : ℕ → ℕ) → InSpan count a z bs es → EndsHave count ends bs es → BoundsHave count bounds bs es) → Grown s.conditions allow ends count b f r
-    → ((e : ℕ) (bs es : ℕ → ℕ) → Masked s.conditions allow ends count b e bs es → InTables ends goes later count b bs es → BoundsHave count bounds bs es → e ≤ z → In goal e → In r.ends e)
+pub row-found : {s : TaskSet} {R : ℕ → ℕ → ℕ → Type 0} {a z b : ℕ} {t : Tables} (f r : Found) (goal : ℕ) → TablesOf s R a z t → a ≤ b → f.ends ≡ 0 → f.upto ≡ z
+    → Grown t b f r → ((e : ℕ) (bs es : ℕ → ℕ) → Masked t b e bs es → InTables t b bs es → BoundsHave t.count t.bounds bs es → e ≤ z → In goal e → In r.ends e)
     → RowFound s R b z goal r
-row-found {s} {R} {a} {z} {b} {allow} {ends} {goes} {later} bounds f r goal count q t from none last = subst
-    (λ (k : ℕ). ((bs es : ℕ → ℕ) → InSpan k a z bs es → EndsHave k ends bs es → BoundsHave k bounds bs es) → Grown s.conditions allow ends k b f r
-    → ((e : ℕ) (bs es : ℕ → ℕ) → Masked s.conditions allow ends k b e bs es → InTables ends goes later k b bs es → BoundsHave k bounds bs es → e ≤ z → In goal e → In r.ends e)
-    → RowFound s R b z goal r)
-    q (λ filled g all. record { finds = row-finds bounds r goal t filled from all; reads = row_reads t from none last g })
+row-found {s} {R} {b = b} f r goal t from none last g all = record {
+  finds = λ e w m h.
+      let p : Placed s R b e h.begins h.ends = record { reads = h.reads; placing = h.placing } in
+      all e h.begins h.ends (t.masked b e h.begins h.ends from w p) (tables_from from (t.kept b e h.begins h.ends from w p)) (t.bounded b e h.begins h.ends from w p) w m;
+  reads = λ e u. ⊎_elim
+      (λ v. in_zero none v)
+      (λ v. let p = t.reads b e v.bs v.es from (omega (arith, last, g.upto, g.within (λ d v. in_zero none v) e u)) v.masked in record { begins = v.bs; ends = v.es; reads = p.reads; placing = p.placing })
+      (g.reads e u);
+}
+
+-- the tables of a set's members and conditions, before and after they are filled
+pub unpruned_of : (ms vs table : List ℕ) {cs : List ℕ} {n a z : ℕ} {t : Tables} → UnprunedTables cs (length ms) t → Formed (task_set_of ms cs vs n)
+    → ((i : ℕ) → i < length (map member_node ms) → get_or (map member_node ms) i 0 * 64 + 64 ≤ length table) → a ≤ z → z ≤ n
+    → TablesReady (task_set_of ms t.conditions.now vs n) table a z t
+unpruned_of ms vs table {n = n} {a} {z} {t} u formed rows forward upto = subst (λ (k : List ℕ). TablesReady (task_set_of ms k vs n) table a z t) (sym u.conditions) (record {
+  formed = formed;
+  rows = rows;
+  forward = forward;
+  upto = upto;
+  unpruned = record { conditions = u.conditions; count = u.count ∙ sym (length-map ms member_node); ends = u.ends; goes = u.goes; bounds = u.bounds };
+})
+
+pub filled_of : (ms vs table : List ℕ) {cs : List ℕ} {n a z count : ℕ} {t u : Tables} → UnprunedTables cs count t → TablesOf (task_set_of ms t.conditions.now vs n) (InTable table) a z u
+    → TablesOf (task_set_of ms cs vs n) (InTable table) a z u
+filled_of ms vs table {n = n} {a} {z} {u = u} h f = subst (λ (k : List ℕ). TablesOf (task_set_of ms k vs n) (InTable table) a z u) h.conditions f
 
 -- an array of one word, every entry of which has all moments
 pub every-unpruned : (v : ℕ) → IsSetOf v (λ k. leb 0 k && ltb k 64) → Unpruned (replicate 1024 v)

@@ -4,17 +4,17 @@ ghost use Rattle.std.specs.Prelude.{◌≡◌, ℕ, ◌+◌, ◌*◌, ◌<◌, �
 ghost use Rattle.bitset.specs.Code.Members.{In};
 ghost use Rattle.narrowing.specs.Code.Tables.{EndsHave, BoundsHave, Bounded};
 ghost use Rattle.sets.specs.Code.Tables.{InSpan};
-ghost use Rattle.sets.specs.Code.Bounds.{BoundsReady, Grows, EndMarked};
+ghost use Rattle.sets.specs.Code.Bounds.{Grows, EndMarked};
 
-use crate::tables::is_short;
-use keeping::PAIRS;
-use narrowing::bounds::{BOUNDS, FILLED, SOONER};
+use crate::span::Span;
+use crate::tables::{members_of, pair};
+use keeping::{BOUNDS, FILLED, PAIRS, SOONER};
 use words::forms::{BEGIN_AFTER_END, HOLDS_BETWEEN};
 use words::{MEMBERS, MOMENTS};
 
 // Marks begin y in row p at the last and at the first of its ends.
 fn mark(p: usize, y: u32, mask: u64, bounds: &mut [u64; BOUNDS])
-    requires { (p < 16) × (y < 64) × (length bounds.old ≡ 2052) }
+    requires { (p < 16) × (y < 64) }
     ensures { Grows bounds.old bounds.new × ((e : ℕ) → In mask e → EndMarked bounds.new p y e) }
 {
     if mask == 0 {
@@ -27,120 +27,87 @@ fn mark(p: usize, y: u32, mask: u64, bounds: &mut [u64; BOUNDS])
     bounds[soon] = bitset::union(bounds[soon], begin);
 }
 
-// Does so for the begins from a to z, by the ends in row p of the table.
-fn mark_pair(ends: &[u64; PAIRS], p: usize, a: u32, z: u32, bounds: &mut [u64; BOUNDS])
-    requires { (p < 16) × (a ≤ z) × (z < 64) × (length bounds.old ≡ 2052) }
-    ensures { Grows bounds.old bounds.new × ((y e : ℕ) → a ≤ y → y ≤ z → a ≤ e → e ≤ z → In (get_or ends.now (p * 64 + y) 0) e → EndMarked bounds.new p y e) }
+// Does so for the begins in the span, by the ends in row p of the table.
+fn mark_pair(ends: &[u64; PAIRS], p: usize, span: Span, bounds: &mut [u64; BOUNDS])
+    requires { p < 16 }
+    ensures { Grows bounds.old bounds.new × ((y e : ℕ) → span.a ≤ y → y ≤ span.z → span.a ≤ e → e ≤ span.z → In (get_or ends.now (p * 64 + y) 0) e → EndMarked bounds.new p y e) }
 {
-    let window = bitset::between(a, z);
-    let mut y = a;
-    while y <= z {
+    let window = span.all();
+    for y in span.a..=span.z {
         let mask = bitset::inter(ends[p * MOMENTS + y as usize], window);
         mark(p, y, mask, bounds);
-        y += 1;
     }
 }
 
 // The last of the entries of a row, one for each moment.
 const LAST: usize = MOMENTS - 1;
 
-// Adds to each of 64 entries what the entries after it have.
-fn join_down(base: usize, bounds: &mut [u64; BOUNDS])
-    requires { (base ≤ 1984) × (length bounds.old ≡ 2052) }
-    ensures { Grows bounds.old bounds.new × ((d e y : ℕ) → d ≤ e → e < 64 → In (get_or bounds.old (base + e) 0) y → In (get_or bounds.new (base + d) 0) y) }
+// Adds to each of the 64 entries from `base` on what the entries before it in this order have: that of `order(k)` comes after k others.
+fn join<F: Fn(usize) -> usize>(base: usize, order: F, bounds: &mut [u64; BOUNDS])
+    ghost turn: { ℕ → ℕ }
+    requires low { base ≤ 1984 }
+    requires ordered { (k : ℕ) → k < 64 → F.pre order k × ((e : ℕ) → F.post order k e → (e ≡ turn k) × (e < 64)) }
+    ensures { Grows bounds.old bounds.new × ((k l y : ℕ) → k ≤ l → l < 64 → In (get_or bounds.old (base + turn k) 0) y → In (get_or bounds.new (base + turn l) 0) y) }
 {
-    let mut e = LAST;
-    while 0 < e {
-        let later = bounds[base + e];
-        e -= 1;
-        bounds[base + e] = bitset::union(bounds[base + e], later);
-    }
-}
-
-// Adds to each of 64 entries what the entries before it have.
-fn join_up(base: usize, bounds: &mut [u64; BOUNDS])
-    requires { (base ≤ 1984) × (length bounds.old ≡ 2052) }
-    ensures { Grows bounds.old bounds.new × ((d e y : ℕ) → e ≤ d → d < 64 → In (get_or bounds.old (base + e) 0) y → In (get_or bounds.new (base + d) 0) y) }
-{
-    let mut e = 0;
-    while e < LAST {
-        let sooner = bounds[base + e];
-        e += 1;
-        bounds[base + e] = bitset::union(bounds[base + e], sooner);
+    let mut all = 0;
+    for k in 0..MOMENTS {
+        let q = base + order(k);
+        all = bitset::union(all, bounds[q]);
+        bounds[q] = all;
     }
 }
 
 // The bounds of row p.
-fn fill_pair(ends: &[u64; PAIRS], p: usize, a: u32, z: u32, bounds: &mut [u64; BOUNDS])
-    requires { (p < 16) × (a ≤ z) × (z < 64) × (length bounds.old ≡ 2052) }
-    ensures { Grows bounds.old bounds.new × ((y e : ℕ) → a ≤ y → y ≤ z → a ≤ e → e ≤ z → In (get_or ends.now (p * 64 + y) 0) e → Bounded bounds.new p y e) }
+fn fill_pair(ends: &[u64; PAIRS], p: usize, span: Span, bounds: &mut [u64; BOUNDS])
+    requires { p < 16 }
+    ensures { Grows bounds.old bounds.new × ((y e : ℕ) → span.a ≤ y → y ≤ span.z → span.a ≤ e → e ≤ span.z → In (get_or ends.now (p * 64 + y) 0) e → Bounded bounds.new p y e) }
 {
-    mark_pair(ends, p, a, z, bounds);
-    join_down(p * MOMENTS, bounds);
-    join_up(SOONER + p * MOMENTS, bounds);
+    mark_pair(ends, p, span, bounds);
+    join(p * MOMENTS, |k| LAST - k, bounds);
+    join(SOONER + p * MOMENTS, |k| k, bounds);
 }
 
-// The pairs of members of which some condition ties the end of w to the begin of j, at w * MEMBERS + j.
+// The pair of members of which condition w ties the end of the one to the begin of the other, if it ties any.
+fn tied_by(w: u32) -> u64 {
+    match words::form_of(w) {
+        BEGIN_AFTER_END | HOLDS_BETWEEN => { pair(words::condition_i(w), words::condition_j(w)) }
+        _ => 0,
+    }
+}
+
+// The pairs of members that some condition ties.
 fn tied(conds: &[u32]) -> u64 {
-    let mut pairs = 0;
-    let mut c = 0;
-    while c < conds.len() {
-        let word = conds[c];
-        let p = words::condition_i(word) * MEMBERS + words::condition_j(word);
-        match words::form_of(word) {
-            BEGIN_AFTER_END => pairs = bitset::union(pairs, bitset::single(p as u32)),
-            HOLDS_BETWEEN => pairs = bitset::union(pairs, bitset::single(p as u32)),
-            _ => {}
-        }
-        c += 1;
-    }
-    pairs
+    conds
+        .iter()
+        .fold(0, |pairs, &w| bitset::union(pairs, tied_by(w)))
 }
 
-// The bounds of the pair (w, j), where these are different members of the set.
-fn fill_members(
-    ends: &[u64; PAIRS],
-    count: usize,
-    w: usize,
-    j: usize,
-    a: u32,
-    z: u32,
-    bounds: &mut [u64; BOUNDS],
-)
-    requires { BoundsReady count a z bounds.old }
-    ensures { (length bounds.new ≡ 2052) × ((bs es : ℕ → ℕ) → InSpan count a z bs es → EndsHave count ends.now bs es → BoundsHave count bounds.old bs es → BoundsHave count bounds.new bs es) }
+// The bounds of the pair (w, j).
+fn fill_members(ends: &[u64; PAIRS], w: usize, j: usize, span: Span, bounds: &mut [u64; BOUNDS])
+    requires { (w < 4) × (j < 4) }
+    ensures { (count : ℕ) (bs es : ℕ → ℕ) → w < count → j < count → InSpan count span.a span.z bs es → EndsHave count ends.now bs es → BoundsHave count bounds.old bs es → BoundsHave count bounds.new bs es }
 {
-    if count <= w {
-        return;
-    }
-    if count <= j {
-        return;
-    }
-    if w != j {
-        fill_pair(ends, w * MEMBERS + j, a, z, bounds);
-        bounds[FILLED + j] = bitset::union(bounds[FILLED + j], bitset::single(w as u32));
-    }
+    fill_pair(ends, w * MEMBERS + j, span, bounds);
+    bounds[FILLED + j] = bitset::union(bounds[FILLED + j], bitset::single(w as u32));
 }
 
-// The bounds of all pairs that are tied, but none where a..z is short.
+// The bounds of all pairs that are tied, but none where the span is short.
 pub fn fill(
     conds: &[u32],
     ends: &[u64; PAIRS],
     count: usize,
-    a: u32,
-    z: u32,
+    span: Span,
     bounds: &mut [u64; BOUNDS],
 )
-    requires { BoundsReady count a z bounds.old × ((q : ℕ) → get_or bounds.old q 0 ≡ 0) }
-    ensures { (bs es : ℕ → ℕ) → InSpan count a z bs es → EndsHave count ends.now bs es → BoundsHave count bounds.new bs es }
+    requires { (count ≤ 4) × ((q : ℕ) → get_or bounds.old q 0 ≡ 0) }
+    ensures { (bs es : ℕ → ℕ) → InSpan count span.a span.z bs es → EndsHave count ends.now bs es → BoundsHave count bounds.new bs es }
 {
-    if is_short(a, z) {
+    if span.is_short() {
         return;
     }
-    let mut rest = tied(conds);
-    while rest != 0 {
-        let p = bitset::lowest(rest) as usize;
-        fill_members(ends, count, p / 4, p % 4, a, z, bounds);
-        rest = bitset::drop_lowest(rest);
+    for p in bitset::members(tied(conds)) {
+        if let Some((w, j)) = members_of(p, count) {
+            fill_members(ends, w, j, span, bounds);
+        }
     }
 }

@@ -1,203 +1,184 @@
 // Conditions: the moments that each allows, as masks.
-ghost use Rattle.std.specs.Prelude.{◌≡◌, true, ◌↔◌, ℕ, ◌+◌, ◌*◌, ◌<◌, ◌≤◌, length, get_or};
+ghost use Rattle.std.specs.Prelude.{◌≡◌, ◌↔◌, ℕ, ◌+◌, ◌*◌, ◌<◌, ◌≤◌, length, get_or};
 ghost use Rattle.bitset.specs.Code.Members.{In};
 ghost use Rattle.words.specs.Fields.{holds};
 ghost use Rattle.model.specs.Forms.{condition_number, HoldsBefore, HoldsAfter, HoldsBetween};
 ghost use Rattle.sets.specs.Set.{MetAs, MetAt};
 ghost use Rattle.model.specs.Code.Arrays.{value_in};
-ghost use Rattle.sets.specs.Code.Masks.{Allowed, Failing, MaskOf, OwnMask};
+ghost use Rattle.sets.specs.Code.Masks.{Allowed, Failing, MaskOf, OwnMask, Picked, Tells};
 
+use crate::span::Span;
 use keeping::MASKS;
 use words::forms::{BEGIN_AFTER_BEGIN, BEGIN_AFTER_END, HOLDS_AFTER, HOLDS_BEFORE, HOLDS_BETWEEN};
 use words::{FORMULA_VALUES, MOMENTS};
 
-// Of the moments from a to z, those at which formula k does not hold.
-fn failing(values: &[u8; FORMULA_VALUES], k: usize, a: u32, z: u32) -> u64
-    requires { (k < 64) × (a ≤ z) × (z < 64) }
-    ensures { (t : ℕ) → a ≤ t → t ≤ z → In result t ↔ (value_in values.now k t ≡ holds → ⊥) }
+// What a condition asks: the shortest and the longest way from one moment to the other, and the moments at which its formula fails.
+#[derive(Clone, Copy)]
+struct Asked {
+    first: u32,
+    last: u32,
+    fails: u64,
+    ghost shortest: { first < 64 },
+    ghost longest: { last < 64 },
+}
+
+// The moments of the span at which the test says yes.
+fn moments_where<F: Fn(u32) -> bool>(span: Span, test: F) -> u64
+    requires { (t : ℕ) → span.a ≤ t → t ≤ span.z → F.pre test t }
+    ensures { Picked span.a span.z (F.post test) result }
 {
     let mut mask = 0;
-    let mut t = a;
-    while t <= z {
-        if values[k * MOMENTS + t as usize] != words::HOLDS {
+    for t in span.a..=span.z {
+        if test(t) {
             mask = bitset::union(mask, bitset::single(t));
         }
-        t += 1;
     }
     mask
 }
 
-// The moment d before a, or 0.
-fn back(a: u32, d: u32) -> u32
-    ensures { (result ≤ a) × ((t : ℕ) → a ≤ t + d → result ≤ t) }
+// The moments of the span at which formula k does not hold.
+fn failing(values: &[u8; FORMULA_VALUES], k: usize, span: Span) -> u64
+    requires { k < 64 }
+    ensures { (t : ℕ) → span.a ≤ t → t ≤ span.z → In result t ↔ (value_in values.now k t ≡ holds → ⊥) }
 {
-    if a < d {
-        return 0;
-    }
-    a - d
+    moments_where(span, |t| values[k * MOMENTS + t as usize] != words::HOLDS)
 }
 
-// The moment d after z, or n.
-fn forth(z: u32, d: u32, n: u32) -> u32
-    requires { (z ≤ n) × (n < 64) × (d < 64) }
-    ensures { (z ≤ result) × (result ≤ n) × ((t : ℕ) → t ≤ z + d → t ≤ n → t ≤ result) }
-{
-    if n < z + d {
-        return n;
-    }
-    z + d
-}
-
-// The moments at which formula k does not hold, of those at which a condition of this form asks for it where it asks of moments of a..z.
+// The moments at which formula k does not hold, of those at which a condition of this form asks for it where it asks of moments of the span.
 fn failing_for(
     values: &[u8; FORMULA_VALUES],
     form: u32,
     k: usize,
     last: u32,
-    a: u32,
-    z: u32,
+    span: Span,
     n: u32,
 ) -> u64
-    requires { (k < 64) × (last < 64) × (a ≤ z) × (z ≤ n) × (n < 64) }
-    ensures { Failing (condition_number form) (value_in values.now) n k last a z result }
+    requires { (k < 64) × (last < 64) × (span.z ≤ n) × (n < 64) }
+    ensures { Failing (condition_number form) (value_in values.now) n k last span.a span.z result }
 {
     match form {
-        HOLDS_BEFORE => failing(values, k, back(a, last), z),
-        HOLDS_AFTER => failing(values, k, a, forth(z, last, n)),
-        HOLDS_BETWEEN => failing(values, k, a, z),
+        HOLDS_BEFORE => {
+            let a = span.a.saturating_sub(last);
+            failing(values, k, Span { a, z: span.z })
+        }
+        HOLDS_AFTER => {
+            let z = n.min(span.z + last);
+            failing(values, k, Span { a: span.a, z })
+        }
+        HOLDS_BETWEEN => failing(values, k, span),
         _ => 0,
     }
 }
 
-// Whether the formula that fails at these moments holds through y - last to y - first.
-fn holds_before(fails: u64, first: u32, last: u32, y: u32) -> bool
-    requires { (first < 64) × (last < 64) × (y < 64) }
-    ensures { (value : ℕ → ℕ → ℕ) (k n a z x : ℕ) → a ≤ y → y ≤ z → Failing HoldsBefore value n k last a z fails → (result ≡ true) ↔ MetAs HoldsBefore value n k first last y y x }
+// Whether the formula holds through y - last to y - first.
+fn holds_before(asked: Asked, y: u32) -> bool
+    requires { y < 64 }
+    ensures { (n : ℕ) → Tells HoldsBefore n asked.first asked.last asked.fails y result }
 {
-    if y < last {
+    if y < asked.last {
         return false;
     }
-    if y < first {
+    if y < asked.first {
         return true;
     }
-    bitset::inter(fails, bitset::between(y - last, y - first)) == 0
+    bitset::inter(
+        asked.fails,
+        bitset::between(y - asked.last, y - asked.first),
+    ) == 0
 }
 
 // Whether it holds through y + first to y + last, which is at most n.
-fn holds_after(fails: u64, first: u32, last: u32, y: u32, n: u32) -> bool
-    requires { (first < 64) × (last < 64) × (y < 64) × (n < 64) }
-    ensures { (value : ℕ → ℕ → ℕ) (k a z x : ℕ) → a ≤ y → y ≤ z → Failing HoldsAfter value n k last a z fails → (result ≡ true) ↔ MetAs HoldsAfter value n k first last y y x }
+fn holds_after(asked: Asked, y: u32, n: u32) -> bool
+    requires { (y < 64) × (n < 64) }
+    ensures { Tells HoldsAfter n asked.first asked.last asked.fails y result }
 {
-    if n < y + last {
+    if n < y + asked.last {
         return false;
     }
-    if last < first {
+    if asked.last < asked.first {
         return true;
     }
-    bitset::inter(fails, bitset::between(y + first, y + last)) == 0
+    bitset::inter(
+        asked.fails,
+        bitset::between(y + asked.first, y + asked.last),
+    ) == 0
 }
 
-// The moments of a..z at which a condition of the form HOLDS_BEFORE, or else HOLDS_AFTER, is met.
-fn own_moments(form: u32, fails: u64, first: u32, last: u32, a: u32, z: u32, n: u32) -> u64
-    requires { (first < 64) × (last < 64) × (a ≤ z) × (z ≤ n) × (n < 64) }
-    ensures { OwnMask form n first last a z fails result }
+// The moments of the span at which a condition of the form HOLDS_BEFORE or HOLDS_AFTER is met, and none for another form, whose mask depends
+// on the begin of member j.
+fn own_mask(form: u32, asked: Asked, span: Span, n: u32) -> u64
+    requires { n < 64 }
+    ensures { OwnMask form n asked.first asked.last span.a span.z asked.fails result }
 {
-    let mut mask = 0;
-    let mut y = a;
-    while y <= z {
-        let met = if form == HOLDS_BEFORE {
-            holds_before(fails, first, last, y)
-        } else {
-            holds_after(fails, first, last, y, n)
-        };
-        if met {
-            mask = bitset::union(mask, bitset::single(y));
-        }
-        y += 1;
+    match form {
+        HOLDS_BEFORE => moments_where(span, |y| holds_before(asked, y)),
+        HOLDS_AFTER => moments_where(span, |y| holds_after(asked, y, n)),
+        _ => 0,
     }
-    mask
-}
-
-// The same, and none for another form, whose mask depends on the begin of member j.
-fn own_mask(form: u32, fails: u64, first: u32, last: u32, a: u32, z: u32, n: u32) -> u64
-    requires { (first < 64) × (last < 64) × (a ≤ z) × (z ≤ n) × (n < 64) }
-    ensures { OwnMask form n first last a z fails result }
-{
-    if form < HOLDS_BEFORE {
-        return 0;
-    }
-    if HOLDS_AFTER < form {
-        return 0;
-    }
-    own_moments(form, fails, first, last, a, z, n)
 }
 
 // The moments from x - last to x - first.
-fn window(first: u32, last: u32, x: u32) -> u64
-    requires { (first < 64) × (last < 64) × (x < 64) }
-    ensures { (y : ℕ) → In result y ↔ ((y + first ≤ x) × (x ≤ y + last)) }
+fn window(asked: Asked, x: u32) -> u64
+    requires { x < 64 }
+    ensures { (y : ℕ) → In result y ↔ ((y + asked.first ≤ x) × (x ≤ y + asked.last)) }
 {
-    if x < first {
+    if x < asked.first {
         return 0;
     }
-    if x < last {
-        return bitset::upto(x - first);
+    if x < asked.last {
+        return bitset::upto(x - asked.first);
     }
-    bitset::between(x - last, x - first)
+    bitset::between(x - asked.last, x - asked.first)
 }
 
-// The moments y of a..z from which the formula holds through y + first to x - last.
-fn holds_until(fails: u64, first: u32, last: u32, x: u32, a: u32, z: u32) -> u64
-    requires { (first < 64) × (last < 64) × (a ≤ x) × (x ≤ z) × (z < 64) }
-    ensures { (value : ℕ → ℕ → ℕ) (n k y : ℕ) → Failing HoldsBetween value n k last a z fails → In result y ↔ ((a ≤ y) × (y ≤ z) × MetAs HoldsBetween value n k first last y y x) }
+// The moments y of the span from which the formula holds through y + first to x - last.
+fn holds_until(asked: Asked, x: u32, span: Span) -> u64
+    requires { (span.a ≤ x) × (x ≤ span.z) }
+    ensures { (value : ℕ → ℕ → ℕ) (n k y : ℕ) → Failing HoldsBetween value n k asked.last span.a span.z asked.fails → In result y ↔ ((span.a ≤ y) × (y ≤ span.z) × MetAs HoldsBetween value n k asked.first asked.last y y x) }
 {
-    let all = bitset::between(a, z);
-    if x < last {
+    let all = span.all();
+    if x < asked.last {
         return all;
     }
-    match bitset::highest_upto(fails, x - last) {
-        Some(g) if first <= g => bitset::minus(all, bitset::upto(g - first)),
+    match bitset::highest_upto(asked.fails, x - asked.last) {
+        Some(g) if asked.first <= g => bitset::minus(all, bitset::upto(g - asked.first)),
         _ => all,
     }
 }
 
 // The mask of a condition where its member j begins at x; `own` is that of a condition that asks nothing of j.
-fn mask_at(form: u32, fails: u64, own: u64, first: u32, last: u32, x: u32, a: u32, z: u32) -> u64
-    requires { (first < 64) × (last < 64) × (a ≤ x) × (x ≤ z) × (z < 64) }
-    ensures { (value : ℕ → ℕ → ℕ) (n k : ℕ) → Failing (condition_number form) value n k last a z fails → ((form ≡ 2) → MaskOf HoldsBefore value n k first last a z x own) → ((form ≡ 3) → MaskOf HoldsAfter value n k first last a z x own) → MaskOf (condition_number form) value n k first last a z x result }
+fn mask_at(form: u32, asked: Asked, own: u64, x: u32, span: Span) -> u64
+    requires { (span.a ≤ x) × (x ≤ span.z) }
+    ensures { (value : ℕ → ℕ → ℕ) (n k : ℕ) → Failing (condition_number form) value n k asked.last span.a span.z asked.fails → ((form ≡ 2) → MaskOf HoldsBefore value n k asked.first asked.last span.a span.z x own) → ((form ≡ 3) → MaskOf HoldsAfter value n k asked.first asked.last span.a span.z x own) → MaskOf (condition_number form) value n k asked.first asked.last span.a span.z x result }
 {
     match form {
-        BEGIN_AFTER_BEGIN => bitset::inter(window(first, last, x), bitset::between(a, z)),
-        BEGIN_AFTER_END => bitset::inter(window(first, last, x), bitset::between(a, z)),
-        HOLDS_BEFORE => own,
-        HOLDS_AFTER => own,
-        HOLDS_BETWEEN => holds_until(fails, first, last, x, a, z),
+        BEGIN_AFTER_BEGIN | BEGIN_AFTER_END => bitset::inter(window(asked, x), span.all()),
+        HOLDS_BEFORE | HOLDS_AFTER => own,
+        HOLDS_BETWEEN => holds_until(asked, x, span),
         _ => 0,
     }
 }
 
-// The masks of condition w, number c, for each begin in a..z.
+// The masks of condition w, number c, for each begin in the span.
 fn fill_masks(
     values: &[u8; FORMULA_VALUES],
     w: u32,
     c: usize,
-    a: u32,
-    z: u32,
+    span: Span,
     n: u32,
     allow: &mut [u64; MASKS],
 )
-    requires { (c < 8) × (a ≤ z) × (z ≤ n) × (n < 64) × (length allow.old ≡ 512) }
-    ensures { ((x y : ℕ) → a ≤ x → x ≤ z → In (get_or allow.new (c * 64 + x) 0) y ↔ ((a ≤ y) × (y ≤ z) × MetAt (value_in values.now) n w y y x)) × ((p : ℕ) → p < c * 64 → get_or allow.new p 0 ≡ get_or allow.old p 0) × (length allow.new ≡ 512) }
+    requires { (c < 8) × (span.z ≤ n) × (n < 64) }
+    ensures { ((x y : ℕ) → span.a ≤ x → x ≤ span.z → In (get_or allow.new (c * 64 + x) 0) y ↔ ((span.a ≤ y) × (y ≤ span.z) × MetAt (value_in values.now) n w y y x)) × ((p : ℕ) → p < c * 64 → get_or allow.new p 0 ≡ get_or allow.old p 0) }
 {
     let form = words::form_of(w);
     let first = words::condition_m(w) as u32;
     let last = words::condition_n(w) as u32;
-    let fails = failing_for(values, form, words::condition_formula(w), last, a, z, n);
-    let own = own_mask(form, fails, first, last, a, z, n);
-    let mut x = a;
-    while x <= z {
-        allow[c * MOMENTS + x as usize] = mask_at(form, fails, own, first, last, x, a, z);
-        x += 1;
+    let fails = failing_for(values, form, words::condition_formula(w), last, span, n);
+    let asked = Asked { first, last, fails };
+    let own = own_mask(form, asked, span, n);
+    for x in span.a..=span.z {
+        allow[c * MOMENTS + x as usize] = mask_at(form, asked, own, x, span);
     }
 }
 
@@ -205,17 +186,14 @@ fn fill_masks(
 pub fn fill_allowed(
     values: &[u8; FORMULA_VALUES],
     conds: &[u32],
-    a: u32,
-    z: u32,
+    span: Span,
     n: u32,
     allow: &mut [u64; MASKS],
 )
-    requires { (length conds.now ≤ 8) × (a ≤ z) × (z ≤ n) × (n < 64) × (length allow.old ≡ 512) }
-    ensures { Allowed (value_in values.now) conds.now n a z (length conds.now) allow.new }
+    requires { (length conds.now ≤ 8) × (span.z ≤ n) × (n < 64) }
+    ensures { Allowed (value_in values.now) conds.now n span.a span.z (length conds.now) allow.new }
 {
-    let mut c = 0;
-    while c < conds.len() {
-        fill_masks(values, conds[c], c, a, z, n, allow);
-        c += 1;
+    for (c, &w) in conds.iter().enumerate() {
+        fill_masks(values, w, c, span, n, allow);
     }
 }

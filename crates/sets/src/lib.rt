@@ -8,4 +8,5 @@ mod conditions;
 mod firsts;
 pub mod placing;
 pub mod rows;
+mod span;
 mod tables;

@@ -5,9 +5,7 @@ ghost use Rattle.sets.specs.Code.Rows.{task_set_of, Placed, Placeable};
 ghost use Rattle.covering.specs.Code.Cover.{entry_at};
 ghost use Rattle.model.specs.Code.Table.{InTable};
 
-use crate::{bounds, firsts, tables};
-use keeping::{MASKS, PAIRS, ROWS};
-use narrowing::bounds::BOUNDS;
+use crate::{firsts, tables};
 use words::{FORMULA_VALUES, MEMBERS};
 
 #[derive(Clone, Copy)]
@@ -30,10 +28,8 @@ fn greatest_ends(sets: [u64; MEMBERS], count: usize, e: u32) -> [u32; MEMBERS]
     ensures { (i : ℕ) → i < count → Highest (entry_at sets i) e (entry_at result i) }
 {
     let mut ends = [0u32; MEMBERS];
-    let mut i = 0;
-    while i < count {
+    for i in 0..count {
         ends[i] = greatest_upto(sets[i], e);
-        i += 1;
     }
     ends
 }
@@ -51,25 +47,12 @@ fn place_by_tables(
     requires { Placeable (task_set_of members.now conds.now values.now n) table.now b e }
     ensures { Placed (task_set_of members.now conds.now values.now n) (InTable table.now) b e (entry_at result.begins) (entry_at result.ends) }
 {
-    let every = bitset::from(0);
-    let mut allow = [0u64; MASKS];
-    let mut ends = [every; PAIRS];
-    let mut goes = [every; PAIRS];
-    let mut later = [0u64; ROWS];
-    let mut bounds = [0u64; BOUNDS];
-    tables::fill(
-        members, conds, values, table, b, e, n, &mut allow, &mut ends, &mut goes, &mut later,
-    );
-    let count = members.len();
-    bounds::fill(conds, &ends, count, b, e, &mut bounds);
-    let goal = bitset::single(e);
-    let found = firsts::row(
-        conds, &allow, &ends, &goes, &later, &bounds, count, b, e, goal,
-    );
-    let begins = found.begins;
-    let masks = ending::ends::ends_at(conds, &allow, &ends, count, begins);
-    let last = greatest_ends(masks, count, e);
-    Placement { begins, ends: last }
+    let mut tables = tables::unpruned(conds, members.len());
+    tables::fill(members, values, table, b, e, n, &mut tables);
+    let begins = firsts::row(&tables, b, e, bitset::single(e)).begins;
+    let masks = ending::ends::ends_at(&tables, begins);
+    let ends = greatest_ends(masks, tables.count, e);
+    Placement { begins, ends }
 }
 
 // Begins and ends with which the set of these members reads b to e, as it does. One member alone begins at b and ends at e.

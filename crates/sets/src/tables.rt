@@ -1,172 +1,117 @@
 // The tables of a set for the moments a..z: the masks of its conditions, and by pairs of members the ends of i where j begins at y, the begins
 // of j where i begins at x, and the ends of i begun at x or later. They leave out what no placement has.
-ghost use Rattle.std.specs.Prelude.{◌≡◌, true, ◌↔◌, ℕ, ◌+◌, ◌*◌, ◌<◌, ◌≤◌, length, get_or};
+ghost use Rattle.std.specs.Prelude.{◌≡◌, true, ◌↔◌, ℕ, ◌+◌, ◌*◌, ◌<◌, ◌≤◌, length, get_or, MatchOption};
 ghost use Rattle.bitset.specs.Code.Members.{In};
 ghost use Rattle.words.specs.Fields.{member_node, condition_i, condition_j};
 ghost use Rattle.sets.specs.Code.Rows.{task_set_of};
 ghost use Rattle.model.specs.Code.Table.{InTable};
 ghost use Rattle.keeping.specs.Code.Tables.{pair_at};
 ghost use Rattle.ending.specs.Code.Ends.{MetAtMask, MetByMask};
-ghost use Rattle.sets.specs.Code.Tables.{Have, LeftOut, Cut, ConditionReady, ConditionsReady, InSpan, OwnRow, OwnRows, LaterReady, TablesReady, Tables};
+ghost use Rattle.sets.specs.Code.Tables.{Have, LeftOut, Cut, InSpan, OwnRow, OwnRows, SameElse, UnprunedTables, TablesReady, TablesOf};
 
-use crate::conditions;
-use keeping::{MASKS, PAIRS, ROWS, pair_at, pair_index};
+use crate::span::Span;
+use crate::{bounds, conditions};
+use keeping::{BOUNDS, MASKS, PAIRS, ROWS, Tables, pair_at, pair_index};
 use words::forms::{BEGIN_AFTER_BEGIN, HOLDS_BEFORE};
 use words::{FORMULA_VALUES, MEMBERS, MOMENTS};
 
-const FEW: u32 = 4;
-
-// Whether a..z has up to `FEW` moments: there no pairs are cut and no bounds filled, since a search is quicker without.
-pub fn is_short(a: u32, z: u32) -> bool
-    requires { a < 64 }
+// Leaves out of row p of a table, at the moments of the span, what the masks of condition c leave out.
+fn cut(table: &mut [u64; PAIRS], p: usize, allow: &[u64; MASKS], c: usize, span: Span)
+    requires { (p < 16) × (c < 8) }
+    ensures { Cut table.old p allow.now c span.a span.z table.new }
 {
-    z < a + FEW
-}
-
-// Leaves out of row p of a table, from a to z, what the masks of condition c leave out.
-fn cut(table: &mut [u64; PAIRS], p: usize, allow: &[u64; MASKS], c: usize, a: u32, z: u32)
-    requires { (p < 16) × (c < 8) × (a ≤ z) × (z < 64) }
-    ensures { Cut table.old p allow.now c a z table.new }
-{
-    let mut y = a as usize;
-    while y <= z as usize {
+    for y in span.a as usize..=span.z as usize {
         table[p * MOMENTS + y] = bitset::inter(table[p * MOMENTS + y], allow[c * MOMENTS + y]);
-        y += 1;
     }
 }
 
 // Leaves out what condition c, of word w, leaves out: begins of i where its partner begins at y, or ends of i.
-fn cut_for(
-    w: u32,
-    c: usize,
-    allow: &[u64; MASKS],
-    a: u32,
-    z: u32,
-    ends: &mut [u64; PAIRS],
-    goes: &mut [u64; PAIRS],
-)
-    requires { ConditionReady w c a z }
-    ensures { (count : ℕ) (bs es : ℕ → ℕ) → InSpan count a z bs es → count ≤ 4 → condition_i w < count → condition_j w < count → MetAtMask w allow.now bs c (es (condition_i w)) → Have ends.old goes.old count bs es → Have ends.new goes.new count bs es }
+fn cut_for(w: u32, c: usize, span: Span, tables: &mut Tables)
+    requires { (c < 8) × (condition_i w < 4) × (condition_j w < 4) }
+    ensures { SameElse tables.old tables.new × ((count : ℕ) (bs es : ℕ → ℕ) → InSpan count span.a span.z bs es → count ≤ 4 → condition_i w < count → condition_j w < count → MetAtMask w tables.old.allow bs c (es (condition_i w)) → Have tables.old.ends tables.old.goes count bs es → Have tables.new.ends tables.new.goes count bs es) }
 {
     let form = words::form_of(w);
     let i = words::condition_i(w);
     let j = ending::ends::partner(form, i, words::condition_j(w));
     match form {
-        BEGIN_AFTER_BEGIN => cut(goes, j * MEMBERS + i, allow, c, a, z),
-        HOLDS_BEFORE => cut(goes, j * MEMBERS + i, allow, c, a, z),
-        _ => cut(ends, i * MEMBERS + j, allow, c, a, z),
+        BEGIN_AFTER_BEGIN | HOLDS_BEFORE => {
+            cut(&mut tables.goes, j * MEMBERS + i, &tables.allow, c, span)
+        }
+        _ => cut(&mut tables.ends, i * MEMBERS + j, &tables.allow, c, span),
     }
 }
 
 // Leaves out what the conditions leave out.
-fn cut_all(
-    conds: &[u32],
-    allow: &[u64; MASKS],
-    a: u32,
-    z: u32,
-    ends: &mut [u64; PAIRS],
-    goes: &mut [u64; PAIRS],
-)
-    requires { ConditionsReady conds.now a z }
-    ensures { (count : ℕ) (bs es : ℕ → ℕ) → InSpan count a z bs es → count ≤ 4 → ((c : ℕ) → c < length conds.now → (condition_i (get_or conds.now c 0) < count) × (condition_j (get_or conds.now c 0) < count) × MetByMask conds.now allow.now bs c (es (condition_i (get_or conds.now c 0)))) → Have ends.old goes.old count bs es → Have ends.new goes.new count bs es }
+fn cut_all(span: Span, tables: &mut Tables)
+    requires { (length tables.old.conditions.now ≤ 8) × ((c : ℕ) → c < length tables.old.conditions.now → (condition_i (get_or tables.old.conditions.now c 0) < 4) × (condition_j (get_or tables.old.conditions.now c 0) < 4)) }
+    ensures { SameElse tables.old tables.new × ((count : ℕ) (bs es : ℕ → ℕ) → InSpan count span.a span.z bs es → count ≤ 4 → ((c : ℕ) → c < length tables.old.conditions.now → (condition_i (get_or tables.old.conditions.now c 0) < count) × (condition_j (get_or tables.old.conditions.now c 0) < count) × MetByMask tables.old.conditions.now tables.old.allow bs c (es (condition_i (get_or tables.old.conditions.now c 0)))) → Have tables.old.ends tables.old.goes count bs es → Have tables.new.ends tables.new.goes count bs es) }
 {
-    let mut c = 0;
-    while c < conds.len() {
-        cut_for(conds[c], c, allow, a, z, ends, goes);
-        c += 1;
+    let conds = tables.conditions;
+    for (c, &w) in conds.iter().enumerate() {
+        cut_for(w, c, span, tables);
     }
 }
 
-// The row of member i, of node m, from x, as far as the tables and z allow.
-fn own_row(
-    table: &[u64],
-    m: usize,
-    i: usize,
-    x: u32,
-    z: u32,
-    ends: &[u64; PAIRS],
-    goes: &[u64; PAIRS],
-) -> u64
-    requires { (m * 64 + 64 ≤ length table.now) × (i < 4) × (x ≤ z) × (z < 64) }
-    ensures { (e : ℕ) → In result e ↔ (InTable table.now m x e × (x ≤ e) × (e ≤ z) × In (pair_at ends.now i i x) e × In (pair_at goes.now i i x) x) }
+// The row of member i, of node m, from x, as far as the tables and the span allow.
+fn own_row(table: &[u64], m: usize, i: usize, x: u32, span: Span, tables: &Tables) -> u64
+    requires { (m * 64 + 64 ≤ length table.now) × (i < 4) × (x ≤ span.z) }
+    ensures { (e : ℕ) → In result e ↔ (InTable table.now m x e × (x ≤ e) × (e ≤ span.z) × In (pair_at tables.now.ends i i x) e × In (pair_at tables.now.goes i i x) x) }
 {
-    if !bitset::has(pair_at(goes, i, i, x), x) {
+    if !bitset::has(pair_at(&tables.goes, i, i, x), x) {
         return 0;
     }
-    let row = bitset::inter(table[m * MOMENTS + x as usize], bitset::between(x, z));
-    bitset::inter(row, pair_at(ends, i, i, x))
+    let row = bitset::inter(table[m * MOMENTS + x as usize], bitset::between(x, span.z));
+    bitset::inter(row, pair_at(&tables.ends, i, i, x))
 }
 
-// Puts the row of member i, of node m, on the diagonal of `ends`, for its begins from a to z.
-fn fill_own_row(
-    table: &[u64],
-    m: usize,
-    i: usize,
-    a: u32,
-    z: u32,
-    goes: &[u64; PAIRS],
-    ends: &mut [u64; PAIRS],
-)
-    requires { (m * 64 + 64 ≤ length table.now) × (i < 4) × (a ≤ z) × (z < 64) }
-    ensures { OwnRow (InTable table.now m) goes.now i a z ends.old ends.new (z + 1) }
+// Puts the row of member i, of node m, on the diagonal of `ends`, for its begins in the span.
+fn fill_own_row(table: &[u64], m: usize, i: usize, span: Span, tables: &mut Tables)
+    requires { (m * 64 + 64 ≤ length table.now) × (i < 4) }
+    ensures { OwnRow (InTable table.now m) tables.old.goes i span.a span.z tables.old.ends tables.new.ends (span.z + 1) × SameElse tables.old tables.new × (tables.new.goes ≡ tables.old.goes) }
 {
-    let mut x = a;
-    while x <= z {
-        let row = own_row(table, m, i, x, z, ends, goes);
-        ends[pair_index(i, i, x)] = row;
-        x += 1;
+    for x in span.a..=span.z {
+        tables.ends[pair_index(i, i, x)] = own_row(table, m, i, x, span, tables);
     }
 }
 
 // Does so for each member.
-fn fill_own(
-    members: &[u32],
-    table: &[u64],
-    a: u32,
-    z: u32,
-    goes: &[u64; PAIRS],
-    ends: &mut [u64; PAIRS],
-)
-    requires { (length members.now ≤ 4) × ((i : ℕ) → i < length members.now → member_node (get_or members.now i 0) * 64 + 64 ≤ length table.now) × (a ≤ z) × (z < 64) }
-    ensures { OwnRows members.now table.now goes.now a z ends.old ends.new (length members.now) }
+fn fill_own(members: &[u32], table: &[u64], span: Span, tables: &mut Tables)
+    requires { (length members.now ≤ 4) × ((i : ℕ) → i < length members.now → member_node (get_or members.now i 0) * 64 + 64 ≤ length table.now) }
+    ensures { OwnRows members.now table.now tables.old.goes span.a span.z tables.old.ends tables.new.ends (length members.now) × SameElse tables.old tables.new × (tables.new.goes ≡ tables.old.goes) }
 {
-    let mut i = 0;
-    while i < members.len() {
-        fill_own_row(table, words::member_node(members[i]), i, a, z, goes, ends);
-        i += 1;
+    for (i, &w) in members.iter().enumerate() {
+        fill_own_row(table, words::member_node(w), i, span, tables);
     }
 }
 
 // Whether members i and j, begun at x and y, may both end, and each may begin where the other does.
-fn together(ends: &[u64; PAIRS], goes: &[u64; PAIRS], i: usize, x: u32, j: usize, y: u32) -> bool
+fn together(tables: &Tables, i: usize, x: u32, j: usize, y: u32) -> bool
     requires { (i < 4) × (j < 4) × (x < 64) × (y < 64) }
-    ensures { (d e : ℕ) → In (pair_at ends.now i i x) d → In (pair_at ends.now i j y) d → In (pair_at ends.now j j y) e → In (pair_at ends.now j i x) e → In (pair_at goes.now j i y) x → result ≡ true }
+    ensures { (d e : ℕ) → In (pair_at tables.now.ends i i x) d → In (pair_at tables.now.ends i j y) d → In (pair_at tables.now.ends j j y) e → In (pair_at tables.now.ends j i x) e → In (pair_at tables.now.goes j i y) x → result ≡ true }
 {
+    let ends = &tables.ends;
     if bitset::inter(pair_at(ends, i, i, x), pair_at(ends, i, j, y)) == 0 {
         return false;
     }
     if bitset::inter(pair_at(ends, j, j, y), pair_at(ends, j, i, x)) == 0 {
         return false;
     }
-    bitset::has(pair_at(goes, j, i, y), x)
+    bitset::has(pair_at(&tables.goes, j, i, y), x)
 }
 
 // The begins of member j, where member i begins at x, with which both may end.
-fn partners(ends: &[u64; PAIRS], goes: &[u64; PAIRS], i: usize, x: u32, j: usize) -> u64
+fn partners(tables: &Tables, i: usize, x: u32, j: usize) -> u64
     requires { (i < 4) × (j < 4) × (x < 64) }
-    ensures { (y d e : ℕ) → In (pair_at goes.now i j x) y → In (pair_at ends.now i i x) d → In (pair_at ends.now i j y) d → In (pair_at ends.now j j y) e → In (pair_at ends.now j i x) e → In (pair_at goes.now j i y) x → In result y }
+    ensures { (y d e : ℕ) → In (pair_at tables.now.goes i j x) y → In (pair_at tables.now.ends i i x) d → In (pair_at tables.now.ends i j y) d → In (pair_at tables.now.ends j j y) e → In (pair_at tables.now.ends j i x) e → In (pair_at tables.now.goes j i y) x → In result y }
 {
-    if pair_at(ends, i, i, x) == 0 {
+    if pair_at(&tables.ends, i, i, x) == 0 {
         return 0;
     }
     let mut r = 0;
-    let mut rest = pair_at(goes, i, j, x);
-    while rest != 0 {
-        let y = bitset::lowest(rest);
-        if together(ends, goes, i, x, j, y) {
+    for y in bitset::members(pair_at(&tables.goes, i, j, x)) {
+        if together(tables, i, x, j, y) {
             r = bitset::union(r, bitset::single(y));
         }
-        rest = bitset::drop_lowest(rest);
     }
     r
 }
@@ -176,153 +121,137 @@ fn some_ends(ends: &[u64; PAIRS], i: usize, j: usize, begins: u64) -> u64
     requires { (i < 4) × (j < 4) }
     ensures { (y e : ℕ) → In begins y → In (pair_at ends.now i j y) e → In result e }
 {
-    let mut r = 0;
-    let mut rest = begins;
-    while rest != 0 {
-        r = bitset::union(r, pair_at(ends, i, j, bitset::lowest(rest)));
-        rest = bitset::drop_lowest(rest);
-    }
-    r
+    bitset::join_rows(begins, ends, pair_index(i, j, 0))
 }
 
 // Leaves out, for the pair of members i and j, the begins of j with which no ends of both are left, and the ends of i with which no begin of j
 // is left.
-fn cut_pair(i: usize, j: usize, a: u32, z: u32, ends: &mut [u64; PAIRS], goes: &mut [u64; PAIRS])
-    requires { (i < 4) × (j < 4) × (a ≤ z) × (z < 64) }
-    ensures { (count : ℕ) → i < count → j < count → count ≤ 4 → LeftOut count a z ends.old goes.old ends.new goes.new }
+fn cut_pair(i: usize, j: usize, span: Span, tables: &mut Tables)
+    requires { (i < 4) × (j < 4) }
+    ensures { SameElse tables.old tables.new × ((count : ℕ) → i < count → j < count → count ≤ 4 → LeftOut count span.a span.z tables.old.ends tables.old.goes tables.new.ends tables.new.goes) }
 {
-    let mut x = a;
-    while x <= z {
-        let begins = partners(ends, goes, i, x, j);
-        goes[pair_index(i, j, x)] = begins;
+    for x in span.a..=span.z {
+        let begins = partners(tables, i, x, j);
+        tables.goes[pair_index(i, j, x)] = begins;
         let p = pair_index(i, i, x);
-        ends[p] = bitset::inter(ends[p], some_ends(ends, i, j, begins));
-        x += 1;
+        tables.ends[p] = bitset::inter(tables.ends[p], some_ends(&tables.ends, i, j, begins));
     }
 }
 
-// The pairs of members that some condition is on, i and j at i * MEMBERS + j.
+// The pair of the members i and j, as a set of pairs: it stands at i * MEMBERS + j.
+pub fn pair(i: usize, j: usize) -> u64
+    requires { (i < 8) × (j < 8) }
+{
+    bitset::single((i * MEMBERS + j) as u32)
+}
+
+// The members i and j of pair p, where these are different members of the set.
+pub fn members_of(p: u32, count: usize) -> Option<(usize, usize)>
+    ensures { MatchOption result (Unit {0}) (λ m. (m.0 < count) × (m.1 < count)) }
+{
+    let i = p as usize / MEMBERS;
+    let j = p as usize % MEMBERS;
+    if i < count && j < count && i != j {
+        Some((i, j))
+    } else {
+        None
+    }
+}
+
+// The pairs of members that condition w is on.
+fn pairs_of(w: u32) -> u64 {
+    let i = words::condition_i(w);
+    let j = ending::ends::partner(words::form_of(w), i, words::condition_j(w));
+    bitset::union(pair(i, j), pair(j, i))
+}
+
+// The pairs of members that some condition is on.
 fn constrained(conds: &[u32]) -> u64 {
-    let mut pairs = 0;
-    let mut c = 0;
-    while c < conds.len() {
-        let w = conds[c];
-        let i = words::condition_i(w);
-        let j = ending::ends::partner(words::form_of(w), i, words::condition_j(w));
-        pairs = bitset::union(pairs, bitset::single((i * MEMBERS + j) as u32));
-        pairs = bitset::union(pairs, bitset::single((j * MEMBERS + i) as u32));
-        c += 1;
-    }
-    pairs
+    conds
+        .iter()
+        .fold(0, |pairs, &w| bitset::union(pairs, pairs_of(w)))
 }
 
-// Does so where i and j are different members of the set.
-fn cut_members(
-    count: usize,
-    i: usize,
-    j: usize,
-    a: u32,
-    z: u32,
-    ends: &mut [u64; PAIRS],
-    goes: &mut [u64; PAIRS],
-)
-    requires { (count ≤ 4) × (a ≤ z) × (z < 64) }
-    ensures { LeftOut count a z ends.old goes.old ends.new goes.new }
+// Cuts each of these pairs of different members.
+fn cut_pairs(pairs: u64, count: usize, span: Span, tables: &mut Tables)
+    requires { count ≤ 4 }
+    ensures { SameElse tables.old tables.new × LeftOut count span.a span.z tables.old.ends tables.old.goes tables.new.ends tables.new.goes }
 {
-    if count <= i {
+    for p in bitset::members(pairs) {
+        if let Some((i, j)) = members_of(p, count) {
+            cut_pair(i, j, span, tables);
+        }
+    }
+}
+
+// Cuts each pair that some condition is on, but none where the span is short.
+fn cut_constrained(count: usize, span: Span, tables: &mut Tables)
+    requires { count ≤ 4 }
+    ensures { SameElse tables.old tables.new × LeftOut count span.a span.z tables.old.ends tables.old.goes tables.new.ends tables.new.goes }
+{
+    if span.is_short() {
         return;
     }
-    if count <= j {
-        return;
-    }
-    if i != j {
-        cut_pair(i, j, a, z, ends, goes);
-    }
+    cut_pairs(constrained(tables.conditions), count, span, tables);
 }
 
-// Does so for each of these pairs.
-fn cut_pairs(
-    pairs: u64,
-    count: usize,
-    a: u32,
-    z: u32,
-    ends: &mut [u64; PAIRS],
-    goes: &mut [u64; PAIRS],
-)
-    requires { (count ≤ 4) × (a ≤ z) × (z < 64) }
-    ensures { LeftOut count a z ends.old goes.old ends.new goes.new }
-{
-    let mut rest = pairs;
-    while rest != 0 {
-        let p = bitset::lowest(rest) as usize;
-        cut_members(count, p / 4, p % 4, a, z, ends, goes);
-        rest = bitset::drop_lowest(rest);
-    }
-}
-
-// Cuts each pair that some condition is on, but none where a..z is short.
-fn cut_constrained(
-    conds: &[u32],
-    count: usize,
-    a: u32,
-    z: u32,
-    ends: &mut [u64; PAIRS],
-    goes: &mut [u64; PAIRS],
-)
-    requires { (count ≤ 4) × (a ≤ z) × (z < 64) }
-    ensures { LeftOut count a z ends.old goes.old ends.new goes.new }
-{
-    if is_short(a, z) {
-        return;
-    }
-    cut_pairs(constrained(conds), count, a, z, ends, goes);
-}
-
-// The ends of member i begun at x or later, for each x from z down to a.
-fn fill_later_row(ends: &[u64; PAIRS], i: usize, a: u32, z: u32, later: &mut [u64; ROWS])
-    requires { (i < 4) × LaterReady a z later.old }
-    ensures { ((x y e : ℕ) → a ≤ x → x ≤ y → y ≤ z → In (pair_at ends.now i i y) e → In (get_or later.new (i * 64 + x) 0) e) × ((p : ℕ) → p < i * 64 → get_or later.new p 0 ≡ get_or later.old p 0) × (length later.new ≡ 256) }
+// The ends of member i begun at x or later, for each x of the span from the last down.
+fn fill_later_row(ends: &[u64; PAIRS], i: usize, span: Span, later: &mut [u64; ROWS])
+    requires { i < 4 }
+    ensures { ((x y e : ℕ) → span.a ≤ x → x ≤ y → y ≤ span.z → In (pair_at ends.now i i y) e → In (get_or later.new (i * 64 + x) 0) e) × ((p : ℕ) → p < i * 64 → get_or later.new p 0 ≡ get_or later.old p 0) }
 {
     let mut all = 0;
-    let mut x = z + 1;
-    while a < x {
-        x -= 1;
+    for x in (span.a..=span.z).rev() {
         all = bitset::union(all, pair_at(ends, i, i, x));
         later[i * MOMENTS + x as usize] = all;
     }
 }
 
-fn fill_later(ends: &[u64; PAIRS], count: usize, a: u32, z: u32, later: &mut [u64; ROWS])
-    requires { (count ≤ 4) × LaterReady a z later.old }
-    ensures { (i x y e : ℕ) → i < count → a ≤ x → x ≤ y → y ≤ z → In (pair_at ends.now i i y) e → In (get_or later.new (i * 64 + x) 0) e }
+fn fill_later(ends: &[u64; PAIRS], count: usize, span: Span, later: &mut [u64; ROWS])
+    requires { count ≤ 4 }
+    ensures { (i x y e : ℕ) → i < count → span.a ≤ x → x ≤ y → y ≤ span.z → In (pair_at ends.now i i y) e → In (get_or later.new (i * 64 + x) 0) e }
 {
-    let mut i = 0;
-    while i < count {
-        fill_later_row(ends, i, a, z, later);
-        i += 1;
+    for i in 0..count {
+        fill_later_row(ends, i, span, later);
     }
 }
 
-// All tables of the set.
+// Tables that nothing is left out of, with no bounds.
+pub fn unpruned(conditions: &[u32], count: usize) -> Tables
+    ensures { UnprunedTables conditions.now count result }
+{
+    let every = bitset::from(0);
+    Tables {
+        conditions,
+        count,
+        allow: [0; MASKS],
+        ends: [every; PAIRS],
+        goes: [every; PAIRS],
+        later: [0; ROWS],
+        bounds: [0; BOUNDS],
+    }
+}
+
+// All tables of the set, from tables that nothing is left out of.
 pub fn fill(
     members: &[u32],
-    conds: &[u32],
     values: &[u8; FORMULA_VALUES],
     table: &[u64],
     a: u32,
     z: u32,
     n: u32,
-    allow: &mut [u64; MASKS],
-    ends: &mut [u64; PAIRS],
-    goes: &mut [u64; PAIRS],
-    later: &mut [u64; ROWS],
+    tables: &mut Tables,
 )
-    requires { TablesReady (task_set_of members.now conds.now values.now n) table.now a z allow.old ends.old goes.old later.old }
-    ensures { Tables (task_set_of members.now conds.now values.now n) (InTable table.now) a z allow.new ends.new goes.new later.new }
+    requires { TablesReady (task_set_of members.now tables.old.conditions.now values.now n) table.now a z tables.old }
+    ensures { TablesOf (task_set_of members.now tables.old.conditions.now values.now n) (InTable table.now) a z tables.new }
 {
-    conditions::fill_allowed(values, conds, a, z, n, allow);
-    cut_all(conds, allow, a, z, ends, goes);
-    fill_own(members, table, a, z, goes, ends);
-    cut_constrained(conds, members.len(), a, z, ends, goes);
-    fill_later(ends, members.len(), a, z, later);
+    let span = Span { a, z };
+    let conds = tables.conditions;
+    let count = members.len();
+    conditions::fill_allowed(values, conds, span, n, &mut tables.allow);
+    cut_all(span, tables);
+    fill_own(members, table, span, tables);
+    cut_constrained(count, span, tables);
+    fill_later(&tables.ends, count, span, &mut tables.later);
+    bounds::fill(conds, &tables.ends, count, span, &mut tables.bounds);
 }

@@ -1,14 +1,16 @@
 -- Laws of the words of bytes, written over the front of a buffer. Assumes nothing.
-use Prim.Native.Nat.{ℕ, zero, suc, ◌+◌, ◌*◌, ◌/◌, ◌<◌, ◌≤◌}
+use Prim.Native.Nat.{ℕ, zero, suc, ◌+◌, ◌/◌, ◌<◌, ◌≤◌}
 use native.Mathlib.Nat.{zero-add}
 use native.Mathlib.Numerals.{add-one}
 use mathlib.Core.Path.{◌≡◌, refl, sym, ◌∙◌}
 use mathlib.Core.List.{List, [], ◌∷◌, ◌++◌}
 use native.Mathlib.Omega.{arith}
 use lib.ListN.{length, get_or, take, drop, set}
-use lib.Seq.{paste-suc, get_or-drop, length-take-le, take_all, take_at, drop_at}
+use lib.Seq.{paste-suc, length-take-le, take_all, take_at, drop_at}
 use Rattle.text.specs.Files.{words_of}
-use Rattle.text.specs.Code.Decoded.{word_of_bytes, Decoded}
+use Rattle.std.specs.Int.{w32, from_le_bytes}
+use Rattle.std.specs.Simd.{first_chunks}
+use Rattle.text.specs.Code.Decoded.{Decoded}
 
 -- d with the first n elements of s over its own first n
 abbrev pub over : List ℕ → ℕ → List ℕ → List ℕ
@@ -26,29 +28,25 @@ length-words (a ∷ b ∷ []) = refl
 length-words (a ∷ b ∷ c ∷ []) = refl
 length-words (a ∷ b ∷ c ∷ d ∷ rest) = omega (arith, length-words rest)
 
-past_four : (a b c d : ℕ) (rest : List ℕ) (m n : ℕ) → n ≡ 4 + m → get_or (a ∷ b ∷ c ∷ d ∷ rest) n 0 ≡ get_or rest m 0
-past_four a b c d rest m n e = rw e (sym (get_or-drop 4 (a ∷ b ∷ c ∷ d ∷ rest) m 0))
-
-pub word_at : (bytes : List ℕ) (i : ℕ) → i < length bytes / 4 → get_or (words_of bytes) i 0 ≡ word_of_bytes bytes (i * 4)
+-- the word that `from_le_bytes` makes of four bytes
+pub word_at : (bytes : List ℕ) (k i : ℕ) → i < k → k ≤ length bytes / 4 → from_le_bytes w32 (get_or (first_chunks 4 k bytes) i []) ≡ get_or (words_of bytes) i 0
 unfolding words_of
-word_at [] i h = omega arith
-word_at (a ∷ []) i h = omega arith
-word_at (a ∷ b ∷ []) i h = omega arith
-word_at (a ∷ b ∷ c ∷ []) i h = omega arith
-word_at (a ∷ b ∷ c ∷ d ∷ rest) zero h = refl
-word_at (a ∷ b ∷ c ∷ d ∷ rest) (suc i) h =
-    let past : (j : ℕ) → get_or (a ∷ b ∷ c ∷ d ∷ rest) (suc i * 4 + j) 0 ≡ get_or rest (i * 4 + j) 0 = λ j. past_four a b c d rest (i * 4 + j) (suc i * 4 + j) (omega arith) in
-    let first : get_or (a ∷ b ∷ c ∷ d ∷ rest) (suc i * 4) 0 ≡ get_or rest (i * 4) 0 = past_four a b c d rest (i * 4) (suc i * 4) (omega arith) in
-    word_at rest i (omega arith) ∙ cc (first, past 1, past 2, past 3)
+word_at bytes zero i h l = absurd (omega arith)
+word_at [] (suc k) i h l = absurd (omega arith)
+word_at (a ∷ []) (suc k) i h l = absurd (omega arith)
+word_at (a ∷ b ∷ []) (suc k) i h l = absurd (omega arith)
+word_at (a ∷ b ∷ c ∷ []) (suc k) i h l = absurd (omega arith)
+word_at (a ∷ b ∷ c ∷ d ∷ rest) (suc k) zero h l = refl
+word_at (a ∷ b ∷ c ∷ d ∷ rest) (suc k) (suc i) h l = word_at rest k i (omega arith) (omega arith)
 
 -- the words written over the front of out, as many as the bytes have, are what `decode` promises
-pub decoded : (bytes old out : List ℕ) (i : ℕ) → out ≡ over old i (words_of bytes) → i ≡ length bytes / 4 → length out ≡ length old → length bytes / 4 ≤ length old
-    → Decoded bytes old out (length bytes / 4)
-decoded bytes old out i so_far whole same room =
-    let e : out ≡ over old (length bytes / 4) (words_of bytes) = rw whole at so_far in
-    let many : length (take (length bytes / 4) (words_of bytes)) ≡ length bytes / 4 = length-take-le _ (words_of bytes) (omega (arith, length-words bytes)) in
+pub decoded : (bytes old out : List ℕ) (n i : ℕ) → out ≡ over old i (words_of bytes) → i ≡ n → n ≡ length bytes / 4 → length out ≡ length old → length bytes / 4 ≤ length old
+    → Decoded bytes old out n
+decoded bytes old out n i so_far whole all same room =
+    let e : out ≡ over old n (words_of bytes) = rw whole at so_far in
+    let many : length (take n (words_of bytes)) ≡ n = length-take-le _ (words_of bytes) (omega (arith, length-words bytes)) in
     record {
       counts = (omega arith, sym (length-take-le _ out (omega arith)));
-      words = rw e (take_at (take (length bytes / 4) (words_of bytes)) (drop (length bytes / 4) old) _ many ∙ take_all (length bytes / 4) (words_of bytes) (omega (arith, length-words bytes)));
-      rest = rw e (drop_at (take (length bytes / 4) (words_of bytes)) (drop (length bytes / 4) old) _ many);
+      words = rw e (take_at (take n (words_of bytes)) (drop n old) _ many ∙ take_all n (words_of bytes) (omega (arith, length-words bytes)));
+      rest = rw e (drop_at (take n (words_of bytes)) (drop n old) _ many);
     }

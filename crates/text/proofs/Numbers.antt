@@ -12,6 +12,7 @@ use lib.ListN.{length, take, get_or, length-append}
 use lib.Seq.{take-suc}
 use Rattle.io.specs.Digits.{hex_digit_ascii, last_digits, IsDigitCount}
 use Rattle.text.specs.Report.{decimal_in, decimal_of, hex_line, hex_lines}
+use Rattle.text.specs.declared.report.Text.{Text}
 use Rattle.text.specs.Code.Written.{Appended}
 use Rattle.text.proofs.Texts.{then}
 
@@ -22,6 +23,11 @@ length_digits b (suc k) n = length-append (last_digits b k (n / b)) (hex_digit_a
 pub length-hex_line : (w : ℕ) → length (hex_line w) ≡ 9
 unfolding hex_line
 length-hex_line w = length-append (last_digits 16 8 w) (10 ∷ []) ∙ omega (arith, length_digits 16 8 w)
+
+pub length-hex_lines : (ws : List ℕ) → length (hex_lines ws) ≡ length ws * 9
+unfolding hex_lines
+length-hex_lines [] = refl
+length-hex_lines (w ∷ ws) = length-append (hex_line w) (hex_lines ws) ∙ omega (arith, length-hex_line w, length-hex_lines ws)
 
 -- one place more is ten times as much
 tenfold : (j : ℕ) → 10 ^ (suc (suc j) - 1) ≡ 10 ^ (suc j - 1) * 10
@@ -50,18 +56,22 @@ few b least m n k base h small w = by_cases (dec_lt m k) (λ more. absurd (too_m
         let most : b ^ m ≤ b ^ (k - 1) = pow-le-pow_right {n = b} base {i = m} {j = k - 1} (omega arith) in
         omega (arith, w.2 (omega arith))
 
--- the digits that `io` makes, as this crate's texts
-pub decimal_end : {old out : List ℕ} {start end : ℕ} (n k : ℕ) (text : List ℕ) → text ≡ last_digits 10 k n → IsDigitCount 10 1 n k → n < 2 ^ 64 → Appended old start text out end → Appended old start (decimal_of n) out end × (end ≤ start + 20)
-unfolding decimal_of
-decimal_end {old} {out} {start} {end} n k text e fewest fits h =
-    let most : k ≤ 20 = few 10 1 20 n k (omega arith) (omega arith) (omega arith) fewest in
-    (subst (λ (t : List ℕ). Appended old start t out end) (e ∙ decimal_is 20 k n most fewest) h, omega (arith, h.ends, ap length e, length_digits 10 k n))
+-- the hexadecimal digits of a 32-bit word, where eight are asked, are eight
+pub eight : {word n k : ℕ} → n ≡ word → word < 2 ^ 32 → IsDigitCount 16 8 n k → k ≡ 8
+eight {word} {n} {k} e fits w = omega (arith, w.0, few 16 8 8 n k (omega arith) (omega arith) (omega arith) w)
 
-pub hex_end : {old mid out : List ℕ} {start m end : ℕ} (w k : ℕ) (text : List ℕ) → text ≡ last_digits 16 k w → IsDigitCount 16 8 w k → w < 2 ^ 32 → Appended old start text mid m → Appended mid m (10 ∷ []) out end → Appended old start (hex_line w) out end
+-- the digits that `io` makes, as this crate's texts
+pub decimal_end : {old new : Text} (n k : ℕ) (text : List ℕ) → text ≡ last_digits 10 k n → IsDigitCount 10 1 n k → n < 2 ^ 64 → Appended old text new → Appended old (decimal_of n) new × (new.end ≤ old.end + 20)
+unfolding decimal_of
+decimal_end {old} {new} n k text e fewest fits h =
+    let most : k ≤ 20 = few 10 1 20 n k (omega arith) (omega arith) (omega arith) fewest in
+    (subst (λ (t : List ℕ). Appended old t new) (e ∙ decimal_is 20 k n most fewest) h, omega (arith, h.ends, ap length e, length_digits 10 k n))
+
+pub hex_end : {old mid new : Text} (word n k : ℕ) (text : List ℕ) → n ≡ word → text ≡ last_digits 16 k n → IsDigitCount 16 8 n k → word < 2 ^ 32 → Appended old text mid → Appended mid (10 ∷ []) new → Appended old (hex_line word) new
 unfolding hex_line
-hex_end {old} {mid} {out} {start} {m} {end} w k text e fewest fits first next =
-    let all : k ≡ 8 = omega (arith, fewest.0, few 16 8 8 w k (omega arith) (omega arith) (omega arith) fewest) in
-    subst (λ (t : List ℕ). Appended old start (t ++ (10 ∷ [])) out end) (e ∙ ap (λ (j : ℕ). last_digits 16 j w) all) (then first next)
+hex_end {old} {mid} {new} word n k text same e fewest fits first next =
+    let digits : text ≡ last_digits 16 8 word = cc (e, same, eight same fits fewest) in
+    subst (λ (t : List ℕ). Appended old (t ++ (10 ∷ [])) new) digits (then first next)
 
 lines_append : (v w : List ℕ) → hex_lines (v ++ w) ≡ hex_lines v ++ hex_lines w
 unfolding hex_lines
@@ -73,10 +83,7 @@ pub lines_more : (ws : List ℕ) (i : ℕ) → i < length ws → hex_lines (take
 unfolding hex_lines
 lines_more ws i h = rw (add-one, take-suc ws i 0 h, lines_append (take i ws) (get_or ws i 0 ∷ []), append-nil (hex_line (get_or ws i 0)))
 
--- one line more, and all lines
-pub line_more : {old mid out : List ℕ} {start m end : ℕ} (ws : List ℕ) (i : ℕ) → i < length ws → Appended old start (hex_lines (take i ws)) mid m → Appended mid m (hex_line (get_or ws i 0)) out end → Appended old start (hex_lines (take (i + 1) ws)) out end
-line_more {old} {mid} {out} {start} {m} {end} ws i h first next =
-    subst (λ (t : List ℕ). Appended old start t out end) (sym (lines_more ws i h)) (then first next)
-
-pub lines_all : {old out : List ℕ} {start end : ℕ} (ws : List ℕ) (i n : ℕ) → i ≡ n → Appended old start (hex_lines (take i ws)) out end → Appended old start (hex_lines (take n ws)) out end
-lines_all {old} {out} {start} {end} ws i n e h = subst (λ (k : ℕ). Appended old start (hex_lines (take k ws)) out end) e h
+-- one line more
+pub line_more : {old mid new : Text} (ws : List ℕ) (i : ℕ) → i < length ws → Appended old (hex_lines (take i ws)) mid → Appended mid (hex_line (get_or ws i 0)) new → Appended old (hex_lines (take (i + 1) ws)) new
+line_more {old} {mid} {new} ws i h first next =
+    subst (λ (t : List ℕ). Appended old t new) (sym (lines_more ws i h)) (then first next)

@@ -1,10 +1,8 @@
 -- The starts and the facts of a plan are its parts before and after one place. Assumes nothing.
-use Prim.Native.Nat.{ℕ, ◌-◌, ◌≤◌}
-use mathlib.Core.Path.{◌≡◌, sym, ◌∙◌}
+use Prim.Native.Nat.{ℕ, ◌≤◌}
+use mathlib.Core.Path.{◌≡◌, sym}
 use mathlib.Core.List.{List}
-use native.Mathlib.Omega.{arith}
-use lib.ListN.{length, take, drop, length-drop}
-use lib.Seq.{take_all}
+use lib.ListN.{length, take, drop}
 use Rattle.words.proofs.Scan.{drop_while-drop, take_while-fits, take_while-take}
 use Rattle.text.specs.Files.{is_start_word, starts_of, given_facts}
 
@@ -15,6 +13,5 @@ module _ (plan : List ℕ) (s : ℕ) (ends : s ≡ length (starts_of plan)) wher
   pub starts_before : take s plan ≡ starts_of plan
   starts_before = rw ends (take_while-take is_start_word plan)
 
-  -- the part `&plan[s..]`
-  pub facts_after_lem : take (length plan - s) (drop s plan) ≡ given_facts plan
-  facts_after_lem = take_all (length plan - s) (drop s plan) (omega (arith, length-drop s plan)) ∙ rw ends (sym (drop_while-drop is_start_word plan))
+  pub facts_after : drop s plan ≡ given_facts plan
+  facts_after = rw ends (sym (drop_while-drop is_start_word plan))

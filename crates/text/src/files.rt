@@ -1,7 +1,7 @@
 // The two files of planread: their size, their bytes as words, and where the starts of a plan end.
-ghost use Rattle.std.specs.Prelude.{◌≡◌, ◌+◌, ◌<◌, ◌≤◌, ◌/◌, length};
+ghost use Rattle.std.specs.Prelude.{◌≡◌, ◌≤◌, ◌/◌, length};
 ghost use Rattle.text.specs.Files.{sized, starts_of};
-ghost use Rattle.text.specs.Code.Decoded.{word_of_bytes, Decoded};
+ghost use Rattle.text.specs.Code.Decoded.{Decoded};
 
 // 32 KiB, the most that a file may have.
 pub const MAX_BYTES: usize = 32768;
@@ -9,7 +9,7 @@ pub const MAX_BYTES: usize = 32768;
 pub fn is_sized(n: usize) -> bool
     ensures { result ≡ sized n }
 {
-    if n <= MAX_BYTES { n % 4 == 0 } else { false }
+    n <= MAX_BYTES && n % 4 == 0
 }
 
 // How many words of a plan are starts: those before the first that is not of kind 9.
@@ -20,31 +20,14 @@ pub fn starts_length(plan: &[u32]) -> usize
 }
 
 // Writes the words of bytes, four bytes each and the lowest first, to the front of out, and answers how many.
+// It does not answer them as a slice, so that its contract can say that the rest of out stays as it was.
 pub fn decode(bytes: &[u8], out: &mut [u32]) -> usize
     requires { length bytes.now / 4 ≤ length out.old }
     ensures { Decoded bytes.now out.old out.new result }
 {
-    let n = bytes.len() / 4;
-    let mut i = 0;
-    while i < n {
-        out[i] = word_at(bytes, i * 4);
-        i += 1;
+    let (fours, _) = bytes.as_chunks::<4>();
+    for (i, four) in fours.iter().enumerate() {
+        out[i] = u32::from_le_bytes(*four);
     }
-    n
-}
-
-fn word_at(bytes: &[u8], at: usize) -> u32
-    requires { at + 3 < length bytes.now }
-    ensures { result ≡ word_of_bytes bytes.now at }
-{
-    wide(bytes[at])
-        + wide(bytes[at + 1]) * 256
-        + wide(bytes[at + 2]) * 65536
-        + wide(bytes[at + 3]) * 16777216
-}
-
-fn wide(x: u8) -> u32
-    ensures { (result ≡ x) × (result < 256) }
-{
-    x as u32
+    fours.len()
 }

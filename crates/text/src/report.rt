@@ -1,106 +1,119 @@
 // The text that planread prints, written to a buffer of bytes.
-ghost use Rattle.std.specs.Prelude.{◌≡◌, ◌+◌, ◌*◌, ◌≤◌, length, take};
+ghost use Rattle.std.specs.Prelude.{◌≡◌, ◌+◌, ◌*◌, ◌≤◌, length};
 ghost use Rattle.answers.specs.Packed.{length_of};
 ghost use Rattle.text.specs.Report.{decimal_of, field_text, hex_line, hex_lines, accepted_text, refused_text, report_of};
-ghost use Rattle.text.specs.Code.Written.{Appended, WrittenText};
+ghost use Rattle.text.specs.Code.Written.{Appended};
 
 use answers::Answer;
 
-// Writes the answer's line and, where it is accepted, its words, one a line. Answers the number of bytes.
-pub fn report(answer: Answer, words: &[u32], out: &mut [u8]) -> usize
+// A text at the start of a lent buffer of bytes: the buffer, and where the text ends in it. Each method writes behind the text.
+// The text is not written by `write!`, since its contract lets any write fail, and says nothing of the text after that.
+#[derive(Drop)]
+struct Text<'a> {
+    out: &'a mut [u8],
+    end: usize,
+}
+
+// Writes the answer's line and, where it is accepted, its words, one a line, at the start of out, and answers that text.
+pub fn report<'a>(answer: Answer, words: &[u32], out: &'a mut [u8]) -> &'a [u8]
     requires { (length_of answer ≤ length words.now) × (length_of answer * 9 + 100 ≤ length out.old) }
-    ensures { WrittenText (report_of answer words.now) out.new result }
+    ensures { result.now ≡ report_of answer words.now }
 {
-    match answer {
-        Answer::Accepted { length, count } => accepted(out, length, count, words),
-        Answer::Refused {
-            number,
-            position,
-            count,
-        } => refused(out, number, position, count),
-    }
+    let mut text = Text { out, end: 0 };
+    text.answer(answer, words);
+    let Text { out, end } = text;
+    &out[..end]
 }
 
-// Writes a text at the start of out.
-pub fn line(out: &mut [u8], text: &[u8]) -> usize
+// Writes a text at the start of out, and answers it.
+pub fn line<'a>(out: &'a mut [u8], text: &[u8]) -> &'a [u8]
     requires { length text.now ≤ length out.old }
-    ensures { WrittenText text.now out.new result }
+    ensures { result.now ≡ text.now }
 {
-    append(out, 0, text)
+    let end = text.len();
+    out[..end].copy_from_slice(text);
+    &out[..end]
 }
 
-fn accepted(out: &mut [u8], n: usize, count: u64, words: &[u32]) -> usize
-    requires { (n ≤ length words.now) × (n * 9 + 100 ≤ length out.old) }
-    ensures { WrittenText (accepted_text n count words.now) out.new result }
-{
-    let a = field(out, 0, b"read ", n as u64);
-    let b = field(out, a, b" triples ", count);
-    let c = append(out, b, b"\n");
-    lines(out, c, words, n)
-}
-
-fn refused(out: &mut [u8], number: u64, position: usize, count: u64) -> usize
-    requires { 100 ≤ length out.old }
-    ensures { WrittenText (refused_text number position count) out.new result }
-{
-    let a = field(out, 0, b"refused ", number);
-    let b = field(out, a, b" at ", position as u64);
-    let c = field(out, b, b" triples ", count);
-    append(out, c, b"\n")
-}
-
-// Each of these writes at `at` and answers where the text ends.
-
-fn field(out: &mut [u8], at: usize, name: &[u8], n: u64) -> usize
-    requires { at + length name.now + 20 ≤ length out.old }
-    ensures appended { Appended out.old at (field_text name.now n) out.new result }
-    ensures upper_bound { result ≤ at + length name.now + 20 }
-{
-    let end = append(out, at, name);
-    decimal(out, end, n)
-}
-
-fn lines(out: &mut [u8], at: usize, words: &[u32], n: usize) -> usize
-    requires { (n ≤ length words.now) × (at + n * 9 ≤ length out.old) }
-    ensures { Appended out.old at (hex_lines (take n words.now)) out.new result }
-{
-    let mut i = 0;
-    let mut end = at;
-    while i < n {
-        end = hex_line(out, end, words[i]);
-        i += 1;
+impl Text<'_> {
+    fn answer(&mut self, answer: Answer, words: &[u32])
+        requires { (length_of answer ≤ length words.now) × (self.old.end + length_of answer * 9 + 100 ≤ length self.old.out.now) }
+        ensures { Appended self.old (report_of answer words.now) self.new }
+    {
+        match answer {
+            Answer::Accepted { length, count } => self.accepted(&words[..length], count),
+            Answer::Refused {
+                number,
+                position,
+                count,
+            } => self.refused(number, position, count),
+        }
     }
-    end
-}
 
-fn hex_line(out: &mut [u8], at: usize, word: u32) -> usize
-    requires { at + 9 ≤ length out.old }
-    ensures { Appended out.old at (hex_line word) out.new result }
-{
-    let mut digits = [0u8; 16];
-    let k = io::hex(word as u64, 8, &mut digits);
-    let end = append(out, at, &digits[..k]);
-    append(out, end, b"\n")
-}
-
-fn decimal(out: &mut [u8], at: usize, n: u64) -> usize
-    requires { at + 20 ≤ length out.old }
-    ensures appended { Appended out.old at (decimal_of n) out.new result }
-    ensures upper_bound { result ≤ at + 20 }
-{
-    let mut digits = [0u8; 20];
-    let k = io::decimal(n, &mut digits);
-    append(out, at, &digits[..k])
-}
-
-fn append(out: &mut [u8], at: usize, text: &[u8]) -> usize
-    requires { at + length text.now ≤ length out.old }
-    ensures { Appended out.old at text.now out.new result }
-{
-    let mut i = 0;
-    while i < text.len() {
-        out[at + i] = text[i];
-        i += 1;
+    fn accepted(&mut self, words: &[u32], count: u64)
+        requires { self.old.end + length words.now * 9 + 100 ≤ length self.old.out.now }
+        ensures { Appended self.old (accepted_text (length words.now) count words.now) self.new }
+    {
+        self.field(b"read ", words.len() as u64);
+        self.field(b" triples ", count);
+        self.append(b"\n");
+        self.lines(words);
     }
-    at + i
+
+    fn refused(&mut self, number: u64, position: usize, count: u64)
+        requires { self.old.end + 100 ≤ length self.old.out.now }
+        ensures { Appended self.old (refused_text number position count) self.new }
+    {
+        self.field(b"refused ", number);
+        self.field(b" at ", position as u64);
+        self.field(b" triples ", count);
+        self.append(b"\n");
+    }
+
+    fn field(&mut self, name: &[u8], n: u64)
+        requires { self.old.end + length name.now + 20 ≤ length self.old.out.now }
+        ensures appended { Appended self.old (field_text name.now n) self.new }
+        ensures upper_bound { self.new.end ≤ self.old.end + length name.now + 20 }
+    {
+        self.append(name);
+        self.decimal(n);
+    }
+
+    fn lines(&mut self, words: &[u32])
+        requires { self.old.end + length words.now * 9 ≤ length self.old.out.now }
+        ensures { Appended self.old (hex_lines words.now) self.new }
+    {
+        for &word in words {
+            self.hex_line(word);
+        }
+    }
+
+    fn hex_line(&mut self, word: u32)
+        requires { self.old.end + 9 ≤ length self.old.out.now }
+        ensures { Appended self.old (hex_line word) self.new }
+    {
+        let mut digits = [0u8; 16];
+        let k = io::hex(u64::from(word), 8, &mut digits);
+        self.append(&digits[..k]);
+        self.append(b"\n");
+    }
+
+    fn decimal(&mut self, n: u64)
+        requires { self.old.end + 20 ≤ length self.old.out.now }
+        ensures appended { Appended self.old (decimal_of n) self.new }
+        ensures upper_bound { self.new.end ≤ self.old.end + 20 }
+    {
+        let mut digits = [0u8; 20];
+        let k = io::decimal(n, &mut digits);
+        self.append(&digits[..k]);
+    }
+
+    fn append(&mut self, text: &[u8])
+        requires { self.old.end + length text.now ≤ length self.old.out.now }
+        ensures { Appended self.old text.now self.new }
+    {
+        let end = self.end + text.len();
+        self.out[self.end..end].copy_from_slice(text);
+        self.end = end;
+    }
 }

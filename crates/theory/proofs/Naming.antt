@@ -11,6 +11,7 @@ use lib.Dec.{eqb}
 use lib.ListN.{length, get_or}
 use Rattle.words.specs.Fields.{of_kind, kind, form, is_set, member_node}
 use Rattle.words.specs.Scan.{take_while, from_nth, count}
+use Rattle.std.proofs.lemmas.List.Sums.{take_while-cons}
 use Rattle.words.proofs.Choices.{both_true}
 use Rattle.bitset.specs.Code.Members.{sum_below}
 use Rattle.bitset.proofs.Sums.{sum-cong, sum-front}
@@ -103,7 +104,7 @@ module _ (v w : ℕ) (ws : List ℕ) where
 
   member-leads : kind w ≡ 7 → leads v (w ∷ ws) ≡ count v (word_children w) + leads v ws
   unfolding count
-  member-leads h = rw h (omega arith)
+  member-leads h = rw (take_while-cons (of_kind 7) w ws, h) (omega arith)
 
   other_names : (kind w ≡ 6 → ⊥) → (kind w ≡ 7 → ⊥) → count v (word_children w) ≡ 0
   unfolding count

@@ -86,7 +86,12 @@ pub fn judge_starts(job: &[u32], index: Index, starts: &[u32], last: usize) -> P
     if times.number != 0 {
         return refused(times, index);
     }
-    let history = history::history(job, &durations, &effects, starts, last);
+    let walked = history::Actions {
+        job,
+        durations: &durations,
+        effects: &effects,
+    };
+    let history = walked.history(starts, last);
     let outside = outside_windows(job, shifts, starts);
     let over = over_limit(job, &durations, groups, starts);
     let unmet = check_needs(job, &places, &ends, &history, starts);

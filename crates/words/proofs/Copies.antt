@@ -1,12 +1,12 @@
 -- Lists written to a buffer, one after the other, and word by word. Assumes nothing.
 use mathlib.Core.List.{List, [], ◌∷◌, ◌++◌}
-use mathlib.Core.Path.{◌≡◌, ap, sym, ◌∙◌}
+use mathlib.Core.Path.{◌≡◌, sym, ◌∙◌}
 use Prim.Native.Nat.{ℕ, suc, ◌+◌, ◌-◌, ◌<◌, ◌≤◌}
 use native.Mathlib.Nat.{add-zero, zero-add, add-suc, suc-add}
 use native.Mathlib.Numerals.{add-one}
 use native.Mathlib.Omega.{arith}
-use lib.ListN.{length, get_or, take, drop, set, length-set, length-drop, length-append}
-use lib.Seq.{sets, sets-eq, length-sets, take-suc, take-length, length-take-le, take-take, take_at}
+use lib.ListN.{length, get_or, take, drop, set, length-drop, length-append}
+use lib.Seq.{sets, sets-eq, take-suc, take-length, length-take-le, take_at}
 use Rattle.words.specs.Scan.{take_while}
 use Rattle.words.specs.Lists.{insert}
 use Rattle.words.specs.Code.Place.{not_above}
@@ -31,22 +31,11 @@ sets_front buffer ws n h =
 pub sets_first : (buffer ws : List ℕ) → length ws ≤ length buffer → take (length ws) (sets buffer 0 ws) ≡ ws
 sets_first buffer ws h = rw zero-add at (sets_front buffer ws 0 (rw zero-add h))
 
-pub sets_before : (buffer ws : List ℕ) (n : ℕ) → n + length ws ≤ length buffer → take n (sets buffer n ws) ≡ take n buffer
-sets_before buffer ws n h =
-    let front = take n buffer in
-    sym (take-take n (n + length ws) (sets buffer n ws) (omega arith)) ∙ rw (sets_front buffer ws n h) (take_at front ws n (length-take-le n buffer (omega arith)))
-
 -- the words that stay before w, then w, then the rest
-module _ (buffer list : List ℕ) (w i : ℕ) {b : List ℕ} (p : b ≡ sets buffer 0 (take i list)) where
-  pub front_size : length b ≡ length buffer
-  front_size = ap length p ∙ length-sets buffer 0 (take i list)
-
-  module _ {b' : List ℕ} (q : b' ≡ sets (set b i w) (i + 1) (take (length list - i) (drop i list))) where
-    pub inserted_size : length b' ≡ length buffer
-    inserted_size = ap length q ∙ simp (length-sets, length-set) front_size
-
-    pub inserted : i ≡ length (take_while (not_above w) list) → i ≤ length list → b' ≡ sets buffer 0 (insert w list)
-    inserted e l =
-        let n : length (take i list) ≡ i = length-take-le i list l in
-        let rest : take (length list - i) (drop i list) ≡ drop i list = rw (← length-drop i list) (take-length (drop i list)) in
-        q ∙ rw (p, rest, insert-split w list, ← e, sets_append (take i list) (w ∷ drop i list) buffer 0, n, add-one i, zero-add)
+module _ (buffer list : List ℕ) (w i : ℕ) {b : List ℕ} (p : b ≡ sets buffer 0 (take i list))
+    {b' : List ℕ} (q : b' ≡ sets (set b i w) (i + 1) (take (length list - i) (drop i list))) where
+  pub inserted : i ≡ length (take_while (not_above w) list) → i ≤ length list → b' ≡ sets buffer 0 (insert w list)
+  inserted e l =
+      let n : length (take i list) ≡ i = length-take-le i list l in
+      let rest : take (length list - i) (drop i list) ≡ drop i list = rw (← length-drop i list) (take-length (drop i list)) in
+      q ∙ rw (p, rest, insert-split w list, ← e, sets_append (take i list) (w ∷ drop i list) buffer 0, n, add-one i, zero-add)

@@ -1,4 +1,5 @@
-// The forms of formulas, nodes and conditions, bits 27..24 of their words, by the names of the C header.
+// The forms of formulas, nodes and conditions, bits 27..24 of their words, by the names of the C header. They are numbers and no enums: fields of
+// the words that the host in C lends, of which the rules of a word's shape and range name runs, as 3 to 5.
 
 // The forms of a formula.
 pub const ALWAYS: u32 = 0;

@@ -10,7 +10,7 @@ pub mod forms;
 
 pub use buffers::{copy_words, insert_word};
 
-// The kinds of words.
+// The kinds of words. They are numbers and no enum: fields of the words that the host in C lends, which `may_follow` compares by their order.
 pub const HEAD: u32 = 1;
 
 pub const KNOWN: u32 = 2;
@@ -39,7 +39,7 @@ pub const GROUP: u32 = 13;
 
 pub const GROUP_MEMBER: u32 = 14;
 
-// The roles of a law, all four by name.
+// The roles of a law, all four by name: numbers, as a law's word has them, which `makes` compares by their order.
 pub const NEEDS_TRUE: u32 = 0;
 
 pub const NEEDS_FALSE: u32 = 1;
@@ -48,7 +48,7 @@ pub const MAKES_TRUE: u32 = 2;
 
 pub const MAKES_FALSE: u32 = 3;
 
-// The values of a fluent or a formula.
+// The values of a fluent or a formula. They are bytes and no enum: the tables of 'and' and 'or' hold them, and two of them make an index.
 pub const FAILS: u8 = 0;
 
 pub const OPEN: u8 = 1;

@@ -3,22 +3,14 @@ use native.Mathlib.Omega.{arith}
 use Rattle.covering.proofs.Laws.{some_none, some_more, gain_yes, gain_no}
 use Rattle.bitset.proofs.In.{in_union, in_none, in_more}
 use Rattle.covering.proofs.ends_before.Goals as goal
-use Rattle.covering.proofs.ends_before.Goals.{then-begins-i, else-begins-i}
+use Rattle.covering.proofs.ends_before.Goals.{then-begin-x, else-begin-x}
 
 pub loop-i-init : goal.loop-i-init
-loop-i-init c = (omega arith, in_none (λ e. some_none))
+loop-i-init c = in_none (λ e. some_none)
 
 pub loop-i-preserved : goal.loop-i-preserved
-loop-i-preserved c = (
-  omega arith,
-  in_more (λ e. elim c.if-begins-i.branch [
-    | then-begins-i w ↦ rw w.r-is (gain_yes w.if-begins-i.true (in_union w.union-r.ensures e))
-    | else-begins-i w ↦ rw w.r-is (gain_no (λ l. let z = w.if-begins-i.false in omega arith))
-  ]) (λ e. some_more _) c.loop-i.invariant.1,
-)
-
-pub returns : goal.returns
-returns c = let l = c.loop-i in λ e. (
-  λ t. let s = (l.invariant.1 e).0 t in record { at = s.at; below = omega (arith, s.below); is = s.is },
-  λ s. (l.invariant.1 e).1 (record { at = s.at; below = omega (arith, s.below); is = s.is }),
-)
+loop-i-preserved c =
+    in_more (λ e. elim c.if-begin-x.branch [
+      | then-begin-x w ↦ rw w.r-is (gain_yes w.if-begin-x.true (in_union w.union-r.ensures e))
+      | else-begin-x w ↦ rw w.r-is (gain_no (λ l. let z = w.if-begin-x.false in omega arith))
+    ]) (λ e. some_more _) c.loop-i.invariant

@@ -16,14 +16,14 @@ pub record Reaches (Es : ℕ → ℕ) (c x e : ℕ) : Type 0 where
   pub upto : end ≤ e
 
 -- some i below k is P
-pub record Some (k : ℕ) (P : ℕ → Type 0) : Type 0 where
+pub record SomeBelow (k : ℕ) (P : ℕ → Type 0) : Type 0 where
   pub at : ℕ
   pub below : at < k
   pub is : P at
 
 -- some member that begins before x reaches x - 1
 abbrev pub Bridged : ℕ → (ℕ → ℕ) → (ℕ → ℕ) → ℕ → ℕ → Type 0
-Bridged count bs Es x e = Some count (λ c. (bs c < x) × Reaches Es c (x - 1) e)
+Bridged count bs Es x e = SomeBelow count (λ c. (bs c < x) × Reaches Es c (x - 1) e)
 
 -- what member i asks of e
 pub record Needed (count : ℕ) (bs Es : ℕ → ℕ) (b i e : ℕ) : Type 0 where
@@ -31,14 +31,14 @@ pub record Needed (count : ℕ) (bs Es : ℕ → ℕ) (b i e : ℕ) : Type 0 whe
   pub bridged : b < bs i → Bridged count bs Es (bs i) e
 
 pub record Coverable (count : ℕ) (bs Es : ℕ → ℕ) (b e : ℕ) : Type 0 where
-  pub last : Some count (λ i. In (Es i) e)
-  pub first : Some count (λ i. bs i ≡ b)
+  pub last : SomeBelow count (λ i. In (Es i) e)
+  pub first : SomeBelow count (λ i. bs i ≡ b)
   pub needs : (i : ℕ) → i < count → Needed count bs Es b i e
 
 -- what working them out needs: moments
 pub record CoverReady (count : ℕ) (bs Es : ℕ → ℕ) : Type 0 where
   pub few : count ≤ 4
-  pub begins : (i : ℕ) → bs i < 64
+  pub begins : (i : ℕ) → i < count → bs i < 64
   pub ends : (i e : ℕ) → i < count → In (Es i) e → e < 64
 
 -- ends out of the masks that cover b..e

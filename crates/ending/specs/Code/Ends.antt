@@ -5,6 +5,7 @@ use Rattle.words.specs.Fields.{condition_i, condition_j}
 use Rattle.model.specs.Forms.{ConditionForm, BeginAfterBegin, BeginAfterEnd, HoldsBefore, HoldsAfter, HoldsBetween, ReservedCondition, condition_form}
 use Rattle.covering.specs.Code.Cover.{entry_at}
 use Rattle.keeping.specs.Code.Tables.{pair_at}
+use Rattle.keeping.specs.declared.Tables.{Tables}
 
 -- a condition asks of member i either its begin or its end: the one that it asks
 abbrev pub asked : ConditionForm → ℕ → ℕ → ℕ
@@ -35,24 +36,24 @@ abbrev pub MetByMask : List ℕ → List ℕ → (ℕ → ℕ) → ℕ → ℕ �
 MetByMask cs allow bs c e = MetAtMask (get_or cs c 0) allow bs c e
 
 -- e is an end of member i that its own row and the conditions on it have
-pub record EndAt (cs allow ends : List ℕ) (bs : ℕ → ℕ) (i e : ℕ) : Type 0 where
-  pub reads : In (pair_at ends i i (bs i)) e
-  pub met : (c : ℕ) → c < length cs → condition_i (get_or cs c 0) ≡ i → MetByMask cs allow bs c e
+pub record EndAt (t : Tables) (bs : ℕ → ℕ) (i e : ℕ) : Type 0 where
+  pub reads : In (pair_at t.ends i i (bs i)) e
+  pub met : (c : ℕ) → c < length t.conditions.now → condition_i (get_or t.conditions.now c 0) ≡ i → MetByMask t.conditions.now t.allow bs c e
 
--- what the ends of count members with these begins need
-pub record EndsReady (cs : List ℕ) (count : ℕ) (begins : List ℕ) : Type 0 where
-  pub few : count ≤ 4
-  pub conditions : length cs ≤ 8
-  pub named : (c : ℕ) → c < length cs → (condition_i (get_or cs c 0) < 4) × (condition_j (get_or cs c 0) < 4)
+-- what the ends of members with these begins need
+pub record EndsReady (t : Tables) (begins : List ℕ) : Type 0 where
+  pub few : t.count ≤ 4
+  pub conditions : length t.conditions.now ≤ 8
+  pub named : (c : ℕ) → c < length t.conditions.now → (condition_i (get_or t.conditions.now c 0) < 4) × (condition_j (get_or t.conditions.now c 0) < 4)
   pub moments : (i : ℕ) → entry_at begins i < 64
 
 -- what the conditions need of the begins and masks of the members
-pub record Narrowable (cs begins ends : List ℕ) : Type 0 where
-  pub few : length cs ≤ 8
-  pub named : (c : ℕ) → c < length cs → (condition_i (get_or cs c 0) < 4) × (condition_j (get_or cs c 0) < 4)
+pub record Narrowable (t : Tables) (begins ends : List ℕ) : Type 0 where
+  pub few : length t.conditions.now ≤ 8
+  pub named : (c : ℕ) → c < length t.conditions.now → (condition_i (get_or t.conditions.now c 0) < 4) × (condition_j (get_or t.conditions.now c 0) < 4)
   pub moments : (i : ℕ) → entry_at begins i < 64
   pub small : (i e : ℕ) → In (entry_at ends i) e → e < 64
 
 -- the masks `new` are the masks `old` with the first c conditions
-pub record Narrowed (cs allow begins old : List ℕ) (c : ℕ) (new : List ℕ) : Type 0 where
-  pub mask : (i e : ℕ) → In (entry_at new i) e ↔ (In (entry_at old i) e × ((d : ℕ) → d < c → condition_i (get_or cs d 0) ≡ i → MetByMask cs allow (entry_at begins) d e))
+pub record Narrowed (t : Tables) (begins old : List ℕ) (c : ℕ) (new : List ℕ) : Type 0 where
+  pub mask : (i e : ℕ) → In (entry_at new i) e ↔ (In (entry_at old i) e × ((d : ℕ) → d < c → condition_i (get_or t.conditions.now d 0) ≡ i → MetByMask t.conditions.now t.allow (entry_at begins) d e))

@@ -4,10 +4,7 @@ use Rattle.extract.proofs.Whole.{emit_writable, emit_emitted}
 use Rattle.extract.proofs.emit.Goals as goal
 
 pub write_reading-requires : goal.write_reading-requires
-write_reading-requires c =
-    let (starts, durations, s) = c.requires in
-    (record { count = c.args.count; starts = starts; durations = durations }, emit_writable s)
+write_reading-requires c = emit_writable c.requires
 
 pub returns : goal.returns
-returns c = λ starts durations s.
-    emit_emitted s refl (c.write_reading.ensures (record { count = c.args.count; starts = starts; durations = durations }) (emit_writable s))
+returns c = emit_emitted c.requires refl c.write_reading.ensures

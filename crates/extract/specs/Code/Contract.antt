@@ -6,11 +6,12 @@ use Rattle.model.specs.Trajectory.{Trajectory}
 use Rattle.model.specs.Procedure.{Procedure}
 use Rattle.model.specs.Code.Table.{InTable}
 use Rattle.model.specs.declared.Triple.{Triple}
-use Rattle.reading.specs.declared.pauses.Timeline.{Timeline}
 use Rattle.reading.specs.Reading.{whole, Reading}
 use Rattle.model.specs.Code.Forms.{NamedOnce}
 use Rattle.lengths.specs.Code.Bound.{length_bound}
-use Rattle.extract.specs.Code.Parts.{Prepared, Unseen, procedure_by, trajectory_by}
+use Rattle.extract.specs.declared.Source.{Source}
+use Rattle.extract.specs.Code.Source.{procedure_of, trajectory_of}
+use Rattle.extract.specs.Code.Parts.{Prepared}
 
 -- there is room from `at` on for every list of words that R allows
 abbrev pub Room : (List ℕ → Type 0) → ℕ → ℕ → Type 0
@@ -33,10 +34,9 @@ pub record Writable (R : Procedure → Trajectory → Triple → List ℕ → Ty
   pub found : InTable table t.node t.begin t.end
   pub room : Room (R P T t) at size
 
--- the same of the arrays, with what the writer does not see
-abbrev pub WritableBy : (Procedure → Trajectory → Triple → List ℕ → Type 0) → List ℕ → List ℕ → List ℕ → Timeline → List ℕ → Triple → ℕ → ℕ → Unseen → Type 0
-WritableBy R words places values timeline table t at size u =
-    Writable R (procedure_by words places u) (trajectory_by values timeline u) timeline.started (length words) places table t at size
+-- the same of the arrays
+abbrev pub WritableBy : (Procedure → Trajectory → Triple → List ℕ → Type 0) → Source → Triple → ℕ → ℕ → Type 0
+WritableBy R s t at size = Writable R (procedure_of s) (trajectory_of s) s.started (length s.words.now) s.arrays.now.places s.table.now t at size
 
 -- words that R allows stand in the buffer from `at` up to `end`, and all else is as it was
 -- (`sets` stores a list's elements one after the other; `lib.Seq.sets-eq` gives it as take at .. ++ words ++ drop end ..)
@@ -53,6 +53,10 @@ pub record Emittable (P : Procedure) (T : Trajectory) (started job : ℕ) (place
   pub some : 0 < P.count
   pub found : InTable table (P.count - 1) 0 T.last
   pub room : length_bound P T.last ≤ size
+
+-- the same of the arrays
+abbrev pub EmittableBy : Source → ℕ → Type 0
+EmittableBy s size = Emittable (procedure_of s) (trajectory_of s) s.started (length s.words.now) s.arrays.now.places s.table.now size
 
 -- what it promises: a reading's words at the buffer's front, as many as it returns, and the rest of the buffer as it was
 pub record Emitted (P : Procedure) (T : Trajectory) (before after : List ℕ) (count : ℕ) : Type 0 where

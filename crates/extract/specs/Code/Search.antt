@@ -1,5 +1,5 @@
 -- Between functions: what the searches for the moments of two parts ask and promise, by the table of ends.
-use Rattle.std.specs.Prelude.{ℕ, ◌+◌, ◌≤◌, ◌<◌, max, ◌≡◌, List, length}
+use Rattle.std.specs.Prelude.{ℕ, ◌+◌, ◌≤◌, ◌<◌, max, ◌≡◌, List, length, Option, Some, None}
 use Rattle.model.specs.Code.Table.{InTable, row_at}
 use Rattle.bitset.specs.Code.Members.{In, Max}
 use Rattle.reading.specs.Code.Quiet.{QuietIn}
@@ -27,10 +27,10 @@ pub record MeetReady (table : List ℕ) (y end e : ℕ) : Type 0 where
   pub upto : end < 128
   pub size : length table ≡ 4096
 
--- r is such a begin, or is 64 and there is none
-pub record FirstMeets (xs : ℕ) (table : List ℕ) (y first end e r : ℕ) : Type 0 where
-  pub found : r < 64 → Meets xs table y first end e r
-  pub any : (m : ℕ) → Meets xs table y first end e m → r < 64
+-- r is such a begin, or there is none
+abbrev pub FirstMeets : ℕ → List ℕ → ℕ → ℕ → ℕ → ℕ → Option ℕ → Type 0
+FirstMeets xs table y first end e None = (m : ℕ) → Meets xs table y first end e m → ⊥
+FirstMeets xs table y first end e (Some m) = Meets xs table y first end e m
 
 -- x ends at k, which is `from` or later, and y, begun at m, a pause after k, ends at e
 pub record CutAt (table : List ℕ) (x y b e : ℕ) (pause : Pause) (from k m : ℕ) : Type 0 where

@@ -8,17 +8,17 @@ use Rattle.finder.proofs.seek.Goals as goal
 use Rattle.finder.proofs.seek.Goals.{After-tabulate-count}
 
 -- there is a root, and nodes and moments are below 64
-nodes : (f : After-tabulate-count) → (1 ≤ f.args.arrays.count) × (f.args.arrays.count ≤ 64)
+nodes : (f : After-tabulate-count) → (1 ≤ f.args.arrays.now.count) × (f.args.arrays.now.count ≤ 64)
 nodes f = let s = f.requires in (some_node _ _ _ s.clear s.represented, few_nodes _ _ _ s.clear s.represented)
 
-moments : (f : After-tabulate-count) → f.args.arrays.last < 64
+moments : (f : After-tabulate-count) → f.args.arrays.now.last < 64
 moments f = let s = f.requires in few_moments _ _ _ s.clear s.represented
 
 pub tabulate-count-requires : goal.tabulate-count-requires
-tabulate-count-requires c = let s = c.requires in (readable _ _ _ s.clear s.represented, blank 4096 refl, c.all_starts.ensures)
+tabulate-count-requires c = let s = c.requires in (readable _ _ _ s.clear s.represented, blank 4096 refl, c.all_starts-started.ensures)
 
-pub overflow_sub-nodes : goal.overflow_sub-nodes
-overflow_sub-nodes c = omega (arith, nodes (goal.at.overflow_sub-nodes c).After-tabulate-count)
+pub overflow_sub-arrays : goal.overflow_sub-arrays
+overflow_sub-arrays c = omega (arith, nodes (goal.at.overflow_sub-arrays c).After-tabulate-count)
 
 pub has_end-requires : goal.has_end-requires
 has_end-requires c =
@@ -27,15 +27,12 @@ has_end-requires c =
 pub emit-length-requires : goal.emit-length-requires
 emit-length-requires c =
     let s = c.requires in
-    let w = c.args.arrays in
-    (w.starts, w.durations, emit_ready _ _ _ s.clear s.represented c.tabulate-count.ensures c.all_starts.ensures (sym c.has_end.ensures ∙ c.if-has_end.true) (omega (arith, s.room)))
+    emit_ready _ _ _ s.clear s.represented c.tabulate-count.ensures c.all_starts-started.ensures (sym c.has_end.ensures ∙ c.if-has_end.true) (omega (arith, s.room))
 
 pub returns-then-has_end : goal.returns-then-has_end
 returns-then-has_end c =
     let s = c.requires in
-    let w = c.args.arrays in
-    let root = sym c.has_end.ensures ∙ c.if-has_end.true in
-    let emitted = c.emit-length.ensures w.starts w.durations (emit_ready _ _ _ s.clear s.represented c.tabulate-count.ensures c.all_starts.ensures root (omega (arith, s.room))) in record {
+    let emitted = c.emit-length.ensures in record {
       searched = written-reading _ _ _ s.clear s.represented c.tabulate-count.ensures emitted;
       in_range = (omega (arith, emitted.few, c.tabulate-count.ensures.small), omega (arith, emitted.few));
     }

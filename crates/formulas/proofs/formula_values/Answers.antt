@@ -9,12 +9,12 @@ loop-t-init c = columns_none
 
 pub returns : goal.returns
 returns c starts h =
-    let a = c.args in
-    table_same a.and.now a.or.now c.requires.1.well h
-    (columns_all c.loop-t.invariant (omega (arith, c.last_of-last.ensures.0)))
+    let f = c.args.formulas.now in
+    table_same f.and.now f.or.now c.requires.1.well h
+    (columns_all c.loop-t.invariant (omega (arith, c.last_of-t-end.ensures.0)))
 
 pub returns-2 : goal.returns-2
 returns-2 c starts h =
-    let a = c.args in
-    table_same a.and.now a.or.now c.requires.1.well h
-    (columns_all c.fill_moment.ensures (omega (arith, c.last_of-last.ensures.0)))
+    let f = c.args.formulas.now in
+    table_same f.and.now f.or.now c.requires.1.well h
+    (columns_all c.fill_moment.ensures (omega (arith, c.last_of-t-end.ensures.0)))

@@ -16,13 +16,17 @@ kept old table window there begins at p t b y = let u = in_both b y in let v = i
 pub returns-then-begins-eq0 : goal.returns-then-begins-eq0
 returns-then-begins-eq0 c =
     let k = kept _ _ _ _ _ _ c.pair_at.ensures c.inter-there.ensures c.inter-begins.ensures in
-    (λ y e b g w o m v l. in_zero c.if-begins-eq0.true ((k y).1 (b, g, w)), λ y t. in_zero c.if-begins-eq0.true t)
+    record {
+      kept = λ y e b g w o m v l. in_zero c.if-begins-eq0.true ((k y).1 (b, g, w));
+      fewer = λ y t. in_zero c.if-begins-eq0.true t;
+    }
 
 pub returns : goal.returns
 returns c =
     let k = kept _ _ _ _ _ _ c.pair_at.ensures c.inter-there.ensures c.inter-begins.ensures in
-    let l = c.lowest-low in (
-      λ y e b g w o m v later. let t = (k y).1 (b, g, w) in (
+    let l = c.lowest-low in
+    record {
+      kept = λ y e b g w o m v later. let t = (k y).1 (b, g, w) in (
         t,
         (in_both c.inter.ensures e).1 (
           o,
@@ -31,6 +35,6 @@ returns c =
             later l.result ((k l.result).0 (record { yes = l.ensures.member })).2 (lowest_le l.ensures t.yes),
           ),
         ),
-      ),
-      λ y t. ((k y).0 t).0,
-    )
+      );
+      fewer = λ y t. ((k y).0 t).0;
+    }

@@ -1,5 +1,5 @@
 -- `model::set_words` meets its contract: the members lead the words after the node's own, and the conditions lead what stands after them. Assumes nothing.
-use Rattle.std.proofs.Common.{sym, drop, ◌+◌}
+use Rattle.std.proofs.Common.{◌+◌, drop, sym}
 use Rattle.std.proofs.lemmas.List.{take_rest, length-take-le}
 use Rattle.words.proofs.Scan.{drop_while-drop, take_while-fits, take_while-take}
 use Rattle.words.specs.Fields.{of_kind}

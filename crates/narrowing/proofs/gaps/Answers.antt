@@ -1,6 +1,5 @@
 -- A turn takes from the gaps what member i covers, unless it is left. Assumes nothing.
 use Rattle.std.proofs.Common.{ℕ, ◌+◌, ◌≤◌, refl, sym, ◌∙◌}
-use native.Mathlib.Omega.{arith}
 use borrow.Author.Count.{below_more}
 use Rattle.bitset.specs.Code.Members.{In}
 use Rattle.bitset.proofs.In.{in_minus, in_zero}
@@ -16,19 +15,17 @@ more {i = i} {g} {o} {bs} {es} new h =
 pub returns-then-has : goal.returns-then-has
 returns-then-has c = λ g bs es t f. in_zero refl t
 
-pub returns-then-ends-last-eq0 : goal.returns-then-ends-last-eq0
-returns-then-ends-last-eq0 c = λ g bs es t f. in_zero refl t
+pub returns-then-ends-eq0 : goal.returns-then-ends-eq0
+returns-then-ends-eq0 c = λ g bs es t f. in_zero refl t
 
 pub loop-i-preserved : goal.loop-i-preserved
 loop-i-preserved c =
     let h = c.has-in-loop-i in
     let u = c.loop-i-test.true in
-    let k = c.loop-i in (
-      omega arith,
-      elim c.if-not-has.branch [
-        | then-not-has z ↦ rw z.r-is (λ g bs es t f. let w = (in_minus z.minus-r.ensures g).0 t in
-            more (λ l m. absurd (w.1 (z.reach.ensures (bs k.i) (es k.i) g (f.begins k.i u) (f.ends k.i u) l m)))
-            (k.invariant.1 g bs es w.0 f))
-        | else-not-has z ↦ rw z.r-is (λ g bs es t f. more (λ l m. record { yes = sym h.ensures ∙ z.if-not-has.false }) (k.invariant.1 g bs es t f))
-      ],
-    )
+    let k = c.loop-i in
+    elim c.if-not-has.branch [
+      | then-not-has z ↦ rw z.r-is (λ g bs es t f. let w = (in_minus z.minus-r.ensures g).0 t in
+          more (λ l m. absurd (w.1 (z.reach.ensures (bs k.i) (es k.i) g (f.begins k.i u) (f.ends k.i u) l m)))
+          (k.invariant g bs es w.0 f))
+      | else-not-has z ↦ rw z.r-is (λ g bs es t f. more (λ l m. record { yes = sym h.ensures ∙ z.if-not-has.false }) (k.invariant g bs es t f))
+    ]

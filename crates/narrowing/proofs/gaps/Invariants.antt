@@ -1,5 +1,5 @@
 -- The invariant: of the members before i, those that cover a gap are left. Assumes nothing.
-use Rattle.std.proofs.Common.{◌-◌, ℕ, ◌<◌, ◌≤◌}
+use Rattle.std.proofs.Common.{ℕ, ◌<◌, ◌≤◌}
 use Rattle.bitset.specs.Code.Members.{In}
 use Rattle.narrowing.specs.Code.Open.{InDomains}
 use Rattle.narrowing.specs.declared.Open.{Open}
@@ -12,7 +12,4 @@ pub record Gap (i : ℕ) (o : Open) (bs es : ℕ → ℕ) (g : ℕ) : Type 0 whe
   pub left : (j : ℕ) → j < i → bs j ≤ g → g ≤ es j → In o.left j
 
 abbrev pub invariant-loop-i : goal.invariant-loop-i
-invariant-loop-i l = (l.i ≤ l.count) × ((g : ℕ) (bs es : ℕ → ℕ) → In l.r g → InDomains l.count l.state bs es → Gap l.i l.state bs es g)
-
-abbrev pub decreases-loop-i : goal.decreases-loop-i
-decreases-loop-i l = l.count - l.i
+invariant-loop-i l = (g : ℕ) (bs es : ℕ → ℕ) → In l.r g → InDomains l.count l.state bs es → Gap l.i l.state bs es g

@@ -1,83 +1,90 @@
 -- A turn narrows member j, and what is sought with it. Assumes nothing.
-use Rattle.std.proofs.Common.{◌≡◌, ℕ, ◌<◌, ◌≤◌, refl, subst, length}
+use Rattle.std.proofs.Common.{◌≡◌, ℕ, ◌<◌, ◌≤◌, ◌&&◌, ◌↔◌, List, refl, subst, length}
 use native.Mathlib.Omega.{arith}
 use borrow.Author.Rules.{rules}
 use lib.ListN.{set, length-set}
-use Rattle.bitset.specs.Code.Members.{In}
+use Rattle.bitset.specs.Code.Members.{In, has, IsSetOf, FromSome}
 use Rattle.bitset.proofs.In.{in_both, in_from, in_below, in_single, in_without}
-use Rattle.covering.specs.Code.Cover.{entry_at}
-use Rattle.keeping.specs.Code.Tables.{pair_at}
+use Rattle.keeping.specs.Code.Tables.{pair_at, Narrows}
+use Rattle.keeping.specs.declared.Choice.{Choice}
+use Rattle.narrowing.specs.Code.Open.{choice_at}
 use Rattle.narrowing.specs.Code.Tables.{InTables}
-use Rattle.narrowing.proofs.Narrowing.{Has, Ordered, has-start, has-next, has_end}
+use Rattle.narrowing.proofs.Moves.{fits-set}
+use Rattle.narrowing.proofs.Narrowing.{Has, Ordered, has-start, has-next, has_fit}
 use Rattle.narrowing.proofs.put.Invariants.{Narrowing}
-use Rattle.narrowing.proofs.put.Goals.{After-inter-sought}
+use Rattle.narrowing.proofs.put.Goals.{After-inter-window, else-loop-j-test, then-loop-j-test+then-sought-eq0}
 use Rattle.narrowing.proofs.put.Goals as goal
 
 -- the window has what lies between `from` and the last end, which is a moment
-inside : (c : After-inter-sought) (es : ℕ → ℕ) →
-    In (entry_at c.args.state.ends c.args.state.last) (es c.args.state.last) → (t : ℕ) → t ≤ es c.args.state.last → (t < 64) × (c.args.state.from ≤ t → In c.inter-window.result t)
+inside : (c : After-inter-window) (es : ℕ → ℕ) → let o = c.args.state in
+    In (choice_at o.members o.last).ends (es o.last) → (t : ℕ) → t ≤ es o.last → (t < 64) × (o.from ≤ t → In c.inter-window.result t)
 inside c es final t u =
     let v = (c.upto_highest.ensures t).1 (record { member = es c.args.state.last; in_x = final; upto = u }) in
     let m = in_below c.upto_highest.type_inv v in
     (m, λ g. (in_both c.inter-window.ensures t).1 ((in_from c.from.ensures t).1 (g, m), v))
 
+-- the members so far, of those of the set with member i begun at x
+abbrev SoFar : After-inter-window → List Choice → ℕ → Type 0
+SoFar c members sought = let a = c.args in let o = a.state in
+    Narrowing a.tables.now a.i a.x o.from o.last c.without-left.result
+    (set o.members a.i (record { begins = c.single.result; ends = (choice_at o.members a.i).ends })) (choice_at o.members o.last).ends members sought
+
 -- one member more
-next : (c : After-inter-sought) (bs es : ℕ → ℕ) → let a = c.args in let l = c.loop-j in let n = c.narrowed-new.result in
-    InTables a.ends.now a.goes.now a.later.now a.count a.state.from bs es → Ordered a.count a.state.from a.state.last bs es → bs a.i ≡ a.x
-    → In (entry_at a.state.ends a.state.last) (es a.state.last) → Has a.count l.begins l.masks c.without-left.result a.state.last l.sought bs es
-    → Has a.count (set l.begins l.j n.begins) (set l.masks l.j n.ends) c.without-left.result a.state.last c.inter-sought.result bs es
-next c bs es tab ord q final h =
-    let a = c.args in
-    let j = c.loop-j.j in
-    let n = c.narrowed-new in
-    let v = c.loop-j.invariant in
-    let lj : j < a.count = c.loop-j-test.true in
-    let o = ord j lj in
-    let w = inside c es final in
-    let k = n.ensures.0 (bs j) (es j) (h.begin j lj)
-    (subst (λ (z : ℕ). In (pair_at a.goes.now a.i j z) (bs j)) q (tab.goes a.i j c.requires.member lj))
-    ((w (bs j) (omega (arith, o))).1 o.0) (h.end j lj)
-    (subst (λ (z : ℕ). In (pair_at a.ends.now j a.i z) (es j)) q (tab.ends j a.i lj c.requires.member))
-    ((w (es j) o.2).1 (omega (arith, o)))
-    (λ z t g. tab.later j z lj ((in_from c.from.ensures z).0 ((in_both c.inter-window.ensures z).0 t).0).0 g) in
-    has-next j _ _ _ (omega (arith, v.begins_four, c.requires.few, lj)) (omega (arith, v.masks_four, c.requires.few, lj)) k.0 k.1 n.ensures.1
-    ((in_both c.inter-sought.ensures (es a.state.last)).1 (
-      h.final,
-      (c.from_lowest.ensures (es a.state.last)).1 (record { member = es j; in_x = k.1; from = o.2; below = (w (es a.state.last) (omega arith)).0 }),
-    )) h
+module _ (c : After-inter-window) (members : List Choice) (sought j : ℕ) (new : Choice) (m s : ℕ) (inner : j < c.args.tables.now.count)
+    (keeps : Narrows c.args.tables.now c.args.i c.args.x j c.inter-window.result (choice_at members j) new)
+    (late : (k : ℕ) → In m k ↔ FromSome new.ends k) (both : IsSetOf s (λ k. has sought k && has m k)) (so_far : SoFar c members sought) where
+  room : j < length members
+  room = omega (arith, so_far.four, c.requires.few, inner)
 
--- after a turn, whether it goes on with the next member or is done
-turned : (c : After-inter-sought) (j : ℕ) → j ≤ c.args.count → let a = c.args in let l = c.loop-j in let n = c.narrowed-new.result in
-    Narrowing a.ends.now a.goes.now a.later.now a.count a.i a.x a.state.from a.state.last c.without-left.result
-    (set a.state.begins a.i c.single.result) a.state.ends (entry_at a.state.ends a.state.last)
-    (set l.begins l.j n.begins) (set l.masks l.j n.ends) c.inter-sought.result j
-turned c j upto =
-    let v = c.loop-j.invariant in
-    record {
-      upto = upto;
-      begins_four = simp length-set v.begins_four;
-      masks_four = simp length-set v.masks_four;
-      kept = λ bs es tab o q h. next c bs es tab o q h.final (v.kept bs es tab o q h);
-    }
+  next : (bs es : ℕ → ℕ) → let a = c.args in let o = a.state in
+      InTables a.tables.now o.from bs es → Ordered a.tables.now.count o.from o.last bs es → bs a.i ≡ a.x → In (choice_at o.members o.last).ends (es o.last)
+      → Has a.tables.now.count members c.without-left.result o.last sought bs es → Has a.tables.now.count (set members j new) c.without-left.result o.last s bs es
+  next bs es tab ord q final h =
+      let a = c.args in
+      let o = ord j inner in
+      let w = inside c es final in
+      let k = keeps.kept (bs j) (es j) (h.begin j inner)
+      (subst (λ (z : ℕ). In (pair_at a.tables.now.goes a.i j z) (bs j)) q (tab.goes a.i j c.requires.member inner))
+      ((w (bs j) (omega (arith, o))).1 o.0) (h.end j inner)
+      (subst (λ (z : ℕ). In (pair_at a.tables.now.ends j a.i z) (es j)) q (tab.ends j a.i inner c.requires.member))
+      ((w (es j) o.2).1 (omega (arith, o)))
+      (λ z t g. tab.later j z inner ((in_from c.from.ensures z).0 ((in_both c.inter-window.ensures z).0 t).0).0 g) in
+      has-next j new s room k.0 k.1 keeps.fewer
+      ((in_both both (es a.state.last)).1 (
+        h.final,
+        (late (es a.state.last)).1 (record { member = es j; in_x = k.1; from = o.2; below = (w (es a.state.last) (omega arith)).0 }),
+      )) h
 
-pub loop-j-preserved-then-sought-eq0 : goal.loop-j-preserved-then-sought-eq0
-loop-j-preserved-then-sought-eq0 c = turned (goal.at.loop-j-preserved-then-sought-eq0 c).After-inter-sought _ (omega arith)
+  turned : SoFar c (set members j new) s
+  turned = record {
+    four = simp length-set so_far.four;
+    kept = λ bs es tab o q h. next bs es tab o q h.final (so_far.kept bs es tab o q h);
+  }
 
 pub loop-j-preserved : goal.loop-j-preserved
-loop-j-preserved c = turned (goal.at.loop-j-preserved c).After-inter-sought _ (omega (arith, c.loop-j-test.true))
+loop-j-preserved c = turned (goal.at.loop-j-preserved c).After-inter-window _ _ _ _ _ _ c.loop-j-test.true c.narrowed-new.ensures c.from_lowest.ensures c.inter-sought.ensures c.loop-j.invariant
 
 pub returns : goal.returns
 returns c =
-    let l = c.loop-j in
-    let a = c.args in (
+    let a = c.args in
+    let o = a.state in
+    let g = (goal.at.returns c).After-inter-window in
+    -- when the loop ends, early or not
+    let e : SoFar g c.loop-j-test.members c.loop-j-test.sought
+    = elim c.loop-j-test.branch [
+      | else-loop-j-test w ↦ rw (w.members-is, w.sought-is) c.loop-j.invariant
+      | then-loop-j-test+then-sought-eq0 w ↦ rw (w.members-is, w.sought-is)
+          (turned g _ _ _ _ _ _ w.loop-j-test.true w.narrowed-new.ensures w.from_lowest.ensures w.inter-sought.ensures c.loop-j.invariant)
+    ] in (
       refl,
       refl,
       c.without-left.ensures,
       λ bs es tab f q.
-          let four : length a.state.begins ≡ 4 = search rules in
-          let start = has-start a.state.begins a.state.ends a.i _ a.x (omega (arith, c.requires.few, c.requires.member)) c.requires.last
-          (in_single c.single.ensures) (in_without c.without-left.ensures) q f.begins f.ends f.fixed in
-          let h = l.invariant.kept bs es tab f.inside q start in
-          has_end c.inter.result (omega (arith, l.invariant.masks_four, c.requires.few, c.requires.last))
-          ((in_both c.inter.ensures (es a.state.last)).1 (h.end a.state.last c.requires.last, h.final)) f.inside h,
+          let room : a.i < length o.members = search rules in
+          let old : Has a.tables.now.count o.members o.left o.last (choice_at o.members o.last).ends bs es
+          = record { begin = f.begins; end = f.ends; fixed = f.fixed; final = f.ends o.last c.requires.last } in
+          let start = has-start o.members a.i _ a.x room (in_single c.single.ensures) (in_without c.without-left.ensures) q old in
+          let h = e.kept bs es tab f.inside q start in
+          fits-set _ o.last _ (omega (arith, e.four, c.requires.few, c.requires.last)) (has_fit f.inside h)
+          (h.begin o.last) (λ l. (in_both c.inter.ensures (es o.last)).1 (h.end o.last l, h.final)) (λ x t. t),
     )

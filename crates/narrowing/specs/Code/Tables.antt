@@ -3,6 +3,7 @@
 use Rattle.std.specs.Prelude.{ℕ, ◌+◌, ◌*◌, ◌≤◌, ◌<◌, List, get_or}
 use Rattle.bitset.specs.Code.Members.{In}
 use Rattle.keeping.specs.Code.Tables.{pair_at}
+use Rattle.keeping.specs.declared.Tables.{Tables}
 
 -- ends of i where j begins, as the tables have them
 abbrev pub EndsHave : ℕ → List ℕ → (ℕ → ℕ) → (ℕ → ℕ) → Type 0
@@ -24,7 +25,7 @@ pub record Bounded (bounds : List ℕ) (p y e : ℕ) : Type 0 where
   pub soon : (d : ℕ) → e ≤ d → d < 64 → In (get_or bounds (1024 + p * 64 + d) 0) y
 
 -- the tables have these begins and ends: ends of i where j begins, begins of j where i begins, ends of i begun at x or later
-pub record InTables (E G L : List ℕ) (count lo : ℕ) (bs es : ℕ → ℕ) : Type 0 where
-  pub ends : EndsHave count E bs es
-  pub goes : GoesHave count G bs
-  pub later : (i x : ℕ) → i < count → lo ≤ x → x ≤ bs i → In (get_or L (i * 64 + x) 0) (es i)
+pub record InTables (t : Tables) (lo : ℕ) (bs es : ℕ → ℕ) : Type 0 where
+  pub ends : EndsHave t.count t.ends bs es
+  pub goes : GoesHave t.count t.goes bs
+  pub later : (i x : ℕ) → i < t.count → lo ≤ x → x ≤ bs i → In (get_or t.later (i * 64 + x) 0) (es i)

@@ -6,14 +6,14 @@ use mathlib.Core.Logic.{inr}
 use native.Mathlib.Omega.{arith}
 use Rattle.bitset.specs.Code.Members.{In}
 use Rattle.bitset.proofs.In.{in_both, in_zero, in_without, in_dropped}
-use Rattle.covering.specs.Code.Cover.{entry_at}
+use Rattle.narrowing.specs.Code.Open.{choice_at}
 use Rattle.keeping.specs.Code.Tables.{pair_at}
 use Rattle.ending.specs.Code.Search.{SoughtPlacement}
 use Rattle.searching.proofs.Growth.{fewer, grown_none, grown_more, grown_as, ready_as, tried, skipped, over_both, tried_over, all_tried, finds_none}
 use Rattle.searching.proofs.+search_tries.Goals as goal
 
 pub search-returns-then-state-eq0 : goal.search-returns-then-state-eq0
-search-returns-then-state-eq0 t c = let e = c.leaf.ensures in (e.0, e.1 _ _ _)
+search-returns-then-state-eq0 t c = let e = c.leaf.ensures in (e.0, e.1)
 
 pub search-loop-rest-init : goal.search-loop-rest-init
 search-loop-rest-init t c =
@@ -21,7 +21,7 @@ search-loop-rest-init t c =
     let h = c.last_gap-h.ensures in
     -- some member that is left covers a gap
     let over : (g e : ℕ) (bs es : ℕ → ℕ) → In c.gaps-gaps.result g
-    → SoughtPlacement a.conds.now a.allow.now a.ends.now a.goes.now a.later.now a.bounds.now a.count a.state e bs es
+    → SoughtPlacement a.tables.now a.state e bs es
     → (i : ℕ) × In a.state.left i × (bs i ≤ g) × (g ≤ es i)
     = λ g e bs es u s.
     let o = c.gaps-gaps.ensures g bs es u s.fits in
@@ -42,7 +42,7 @@ search-loop-rest-preserved t c =
     record {
       grown = grown_more v.grown grown;
       left = λ i u. v.left i ((in_dropped c.lowest-i.ensures c.drop_lowest-rest.ensures i).0 u).0;
-      untried = tried_over w.0 w.1 c.lowest-i.ensures c.drop_lowest-rest.ensures (w.3 c.args.count) grown n.1 v.untried;
+      untried = tried_over w.0 w.1 c.lowest-i.ensures c.drop_lowest-rest.ensures (w.3 c.args.tables.now.count) grown n.1 v.untried;
     }
 
 pub search-returns : goal.search-returns
@@ -59,7 +59,7 @@ tries-loop-rest-preserved-then-inter-eq0 t c =
           (λ bs es h f q. in_zero c.if-inter-eq0.true ((in_both c.inter.ensures (es a.i)).1 (
             f.ends a.i l,
             subst (λ (m : ℕ). In m (es a.i)) (sym c.pair_at-row.ensures)
-                (subst (λ (x : ℕ). In (pair_at a.ends.now a.i a.i x) (es a.i)) q (h.ends a.i a.i l l)),
+                (subst (λ (x : ℕ). In (pair_at a.tables.now.ends a.i a.i x) (es a.i)) q (h.ends a.i a.i l l)),
           ))) v.1,
     )
 
@@ -77,8 +77,8 @@ tries-search-r-requires t c =
     )
 
 -- a begin that is tried
-pub tries-loop-rest-preserved-then-left-last-ne0 : goal.tries-loop-rest-preserved-then-left-last-ne0
-tries-loop-rest-preserved-then-left-last-ne0 t c =
+pub tries-loop-rest-preserved-then-next-state-ne0 : goal.tries-loop-rest-preserved-then-next-state-ne0
+tries-loop-rest-preserved-then-next-state-ne0 t c =
     let v = c.loop-rest.invariant in
     let w = c.placed-next.ensures in
     let g = grown_as w.0 c.search-r.ensures.0 in
@@ -89,8 +89,8 @@ pub tries-loop-rest-preserved : goal.tries-loop-rest-preserved
 tries-loop-rest-preserved t c =
     let v = c.loop-rest.invariant in
     let w = c.placed-next.ensures in
-    let none : entry_at c.placed-next.result.ends c.placed-next.result.last ≡ 0
-    = subst (λ (x : ℕ). entry_at c.placed-next.result.ends x ≡ 0) (sym w.1) (omega (arith, c.if-left-last-ne0.false)) in (
+    let none : (choice_at c.placed-next.result.members c.placed-next.result.last).ends ≡ 0
+    = subst (λ (x : ℕ). (choice_at c.placed-next.result.members x).ends ≡ 0) (sym w.1) (omega (arith, c.if-next-state-ne0.false)) in (
       v.0,
       tried w.0 w.1 c.lowest-x.ensures c.drop_lowest-rest.ensures w.3 grown_none
           (finds_none c.placed-next.result c.loop-rest.r (omega (arith, w.1, c.requires.state.last)) none) v.1,

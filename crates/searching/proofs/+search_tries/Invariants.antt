@@ -1,8 +1,8 @@
 -- `search` places one of the members that are left, `tries` that member at each of its begins: the measures are 2 * left + 1 and 2 * left. The
 -- loops' invariant: each placement that is sought is found, or has a member or a begin that is still to be tried. Assumes nothing.
 use Prim.Native.Nat.{ℕ, ◌+◌, ◌*◌}
-use mathlib.Core.List.{List}
 use Rattle.bitset.specs.Code.Members.{In, pop_count}
+use Rattle.keeping.specs.declared.Tables.{Tables}
 use Rattle.ending.specs.Code.Search.{Grown}
 use Rattle.narrowing.specs.declared.Open.{Open}
 use Rattle.ending.specs.declared.Found.{Found}
@@ -16,20 +16,20 @@ abbrev pub decreases-tries : goal.decreases-tries
 decreases-tries l = pop_count l.state.left * 2
 
 -- each placement that is sought is found, or has a member of `rest` over the gaps
-pub record Gapped (conds allow ends goes later bounds : List ℕ) (count : ℕ) (state : Open) (g h : ℕ) (old r : Found) (rest : ℕ) : Type 0 where
-  pub grown : Grown conds allow ends count state.from old r
-  pub untried : Untried conds allow ends goes later bounds count state r (Over rest g h)
+pub record Gapped (t : Tables) (state : Open) (g h : ℕ) (old r : Found) (rest : ℕ) : Type 0 where
+  pub grown : Grown t state.from old r
+  pub untried : Untried t state r (Over rest g h)
   pub left : (i : ℕ) → In rest i → In state.left i
 
 abbrev pub invariant-search-loop-rest : goal.invariant-search-loop-rest
-invariant-search-loop-rest l = Gapped l.conds l.allow l.ends l.goes l.later l.bounds l.count l.state l.g l.h l.initial.r l.r l.rest
+invariant-search-loop-rest l = Gapped l.tables l.state l.g l.h l.initial.r l.r l.rest
 
 abbrev pub decreases-search-loop-rest : goal.decreases-search-loop-rest
 decreases-search-loop-rest l = pop_count l.rest
 
 abbrev pub invariant-tries-loop-rest : goal.invariant-tries-loop-rest
 invariant-tries-loop-rest l =
-    Grown l.conds l.allow l.ends l.count l.state.from l.initial.r l.r × Untried l.conds l.allow l.ends l.goes l.later l.bounds l.count l.state l.r (Begin l.rest l.i)
+    Grown l.tables l.state.from l.initial.r l.r × Untried l.tables l.state l.r (Begin l.rest l.i)
 
 abbrev pub decreases-tries-loop-rest : goal.decreases-tries-loop-rest
 decreases-tries-loop-rest l = pop_count l.rest

@@ -1,18 +1,10 @@
 -- Between functions: how the bounds of begins by ends are filled. Row p is that of a pair of members: the later ends stand at p * 64, the sooner
 -- ones 1024 further.
-use Rattle.std.specs.Prelude.{ℕ, ◌+◌, ◌*◌, ◌≤◌, ◌<◌, ◌≡◌, List, length, get_or}
+use Rattle.std.specs.Prelude.{ℕ, ◌+◌, ◌*◌, ◌≤◌, ◌<◌, ◌≡◌, List, get_or}
 use Rattle.bitset.specs.Code.Members.{In}
-
--- what filling the bounds for the moments a..z needs
-pub record BoundsReady (count a z : ℕ) (bounds : List ℕ) : Type 0 where
-  pub few : count ≤ 4
-  pub forward : a ≤ z
-  pub moments : z < 64
-  pub long : length bounds ≡ 2052
 
 -- each entry keeps its members, and the entries from 2048 on are as they were
 pub record Grows (old new : List ℕ) : Type 0 where
-  pub long : length new ≡ 2052
   pub kept : (q y : ℕ) → In (get_or old q 0) y → In (get_or new q 0) y
   pub words : (q : ℕ) → 2048 ≤ q → get_or new q 0 ≡ get_or old q 0
 

@@ -1,9 +1,14 @@
 -- Between functions: the masks of moments that the conditions of a set allow.
-use Rattle.std.specs.Prelude.{ℕ, ◌+◌, ◌*◌, ◌≤◌, ◌<◌, ◌≡◌, ◌↔◌, List, get_or}
+use Rattle.std.specs.Prelude.{Bool, true, ℕ, ◌+◌, ◌*◌, ◌≤◌, ◌<◌, ◌≡◌, ◌↔◌, List, get_or}
 use Rattle.bitset.specs.Code.Members.{In}
 use Rattle.words.specs.Fields.{holds}
 use Rattle.model.specs.Forms.{ConditionForm, BeginAfterBegin, BeginAfterEnd, HoldsBefore, HoldsAfter, HoldsBetween, ReservedCondition}
 use Rattle.sets.specs.Set.{MetAs, MetAt}
+
+-- the mask has, of the moments from a to z, those at which the test says yes
+pub record Picked (a z : ℕ) (says : ℕ → Bool → Type 0) (mask : ℕ) : Type 0 where
+  pub inside : (t : ℕ) → In mask t → (a ≤ t) × (t ≤ z)
+  pub told : (t : ℕ) → a ≤ t → t ≤ z → (r : Bool) × says t r × ((r ≡ true) ↔ In mask t)
 
 -- the moments at which a condition of form f, with N, can ask for its formula, where it asks of moments of a..z
 abbrev pub Seen : ConditionForm → ℕ → ℕ → ℕ → ℕ → ℕ → Type 0
@@ -17,6 +22,10 @@ Seen ReservedCondition n N a z t = ⊥
 -- of these moments, r has those at which formula k does not hold
 abbrev pub Failing : ConditionForm → (ℕ → ℕ → ℕ) → ℕ → ℕ → ℕ → ℕ → ℕ → ℕ → Type 0
 Failing f value n k N a z r = (t : ℕ) → Seen f n N a z t → In r t ↔ (value k t ≡ holds → ⊥)
+
+-- r tells whether a condition of form f, with M and N, which asks nothing of member j, is met at y, where the formula fails at `fails`
+pub record Tells (f : ConditionForm) (n M N fails y : ℕ) (r : Bool) : Type 0 where
+  pub met : (value : ℕ → ℕ → ℕ) (k a z x : ℕ) → a ≤ y → y ≤ z → Failing f value n k N a z fails → (r ≡ true) ↔ MetAs f value n k M N y y x
 
 -- the moments y of a..z at which a condition of form f, on formula k with M and N, is met, where member j begins at x
 abbrev pub MaskOf : ConditionForm → (ℕ → ℕ → ℕ) → ℕ → ℕ → ℕ → ℕ → ℕ → ℕ → ℕ → ℕ → Type 0

@@ -1,10 +1,11 @@
 -- Between functions: how the tables of a set are filled, and what they say. bs and es are begins and ends of all members.
 use Rattle.std.specs.Prelude.{ℕ, ◌+◌, ◌*◌, ◌≤◌, ◌<◌, ◌≡◌, List, length, get_or}
 use Rattle.bitset.specs.Code.Members.{In}
-use Rattle.words.specs.Fields.{member_node, condition_i, condition_j}
+use Rattle.words.specs.Fields.{member_node}
 use Rattle.model.specs.Code.Table.{InTable}
 use Rattle.keeping.specs.Code.Tables.{pair_at}
-use Rattle.narrowing.specs.Code.Tables.{EndsHave, GoesHave, InTables}
+use Rattle.keeping.specs.declared.Tables.{Tables}
+use Rattle.narrowing.specs.Code.Tables.{EndsHave, GoesHave, BoundsHave, InTables}
 use Rattle.ending.specs.Code.Search.{Masked, SearchReady}
 use Rattle.sets.specs.Set.{TaskSet, member_count}
 use Rattle.sets.specs.Code.Set.{member, Formed}
@@ -50,41 +51,32 @@ pub record OwnRows (members table goes : List ℕ) (a z : ℕ) (old new : List �
   pub kept : (bs es : ℕ → ℕ) → InSpan (length members) a z bs es → ((i : ℕ) → i < length members → InTable table (member_node (get_or members i 0)) (bs i) (es i))
       → GoesHave (length members) goes bs → EndsHave (length members) old bs es → EndsHave (length members) new bs es
 
--- what cutting the tables by condition c, of word w, needs, and by all conditions
-pub record ConditionReady (w c a z : ℕ) : Type 0 where
-  pub number : c < 8
-  pub first : condition_i w < 4
-  pub second : condition_j w < 4
-  pub forward : a ≤ z
-  pub moments : z < 64
+-- tables of these conditions and so many members, that nothing is left out of, with no bounds
+pub record UnprunedTables (cs : List ℕ) (members : ℕ) (t : Tables) : Type 0 where
+  pub conditions : t.conditions.now ≡ cs
+  pub count : t.count ≡ members
+  pub ends : Unpruned t.ends
+  pub goes : Unpruned t.goes
+  pub bounds : (q : ℕ) → get_or t.bounds q 0 ≡ 0
 
-pub record ConditionsReady (cs : List ℕ) (a z : ℕ) : Type 0 where
-  pub few : length cs ≤ 8
-  pub named : (c : ℕ) → c < length cs → (condition_i (get_or cs c 0) < 4) × (condition_j (get_or cs c 0) < 4)
-  pub forward : a ≤ z
-  pub moments : z < 64
+-- but for the ends of i where j begins, and the begins of j where i begins, the tables are as they were
+abbrev pub SameElse : Tables → Tables → Type 0
+SameElse old new = new ≡ record old { ends = new.ends; goes = new.goes }
 
--- what filling the ends begun at a moment or later needs
-pub record LaterReady (a z : ℕ) (later : List ℕ) : Type 0 where
-  pub forward : a ≤ z
-  pub moments : z < 64
-  pub long : length later ≡ 256
-
--- what filling the tables of a set for the moments a..z needs: tables that nothing is left out of, and arrays of their length
-pub record TablesReady (s : TaskSet) (table : List ℕ) (a z : ℕ) (allow ends goes later : List ℕ) : Type 0 where
+-- what filling the tables of a set for the moments a..z needs
+pub record TablesReady (s : TaskSet) (table : List ℕ) (a z : ℕ) (t : Tables) : Type 0 where
   pub formed : Formed s
   pub rows : (i : ℕ) → i < member_count s → member s i * 64 + 64 ≤ length table
   pub forward : a ≤ z
   pub upto : z ≤ s.last
-  pub unpruned_ends : Unpruned ends
-  pub unpruned_goes : Unpruned goes
-  pub allow_long : length allow ≡ 512
-  pub later_long : length later ≡ 256
+  pub unpruned : UnprunedTables s.conditions (member_count s) t
 
 -- what the tables of a set for the moments a..z say: by the masks and own rows the set reads as it does by R, and they have the begins and
 -- ends of each placement
-pub record Tables (s : TaskSet) (R : ℕ → ℕ → ℕ → Type 0) (a z : ℕ) (allow ends goes later : List ℕ) : Type 0 where
-  pub ready : SearchReady s.conditions ends (member_count s) a z
-  pub reads : (b e : ℕ) (bs es : ℕ → ℕ) → a ≤ b → e ≤ z → Masked s.conditions allow ends (member_count s) b e bs es → Placed s R b e bs es
-  pub masked : (b e : ℕ) (bs es : ℕ → ℕ) → a ≤ b → e ≤ z → Placed s R b e bs es → Masked s.conditions allow ends (member_count s) b e bs es
-  pub kept : (b e : ℕ) (bs es : ℕ → ℕ) → a ≤ b → e ≤ z → Placed s R b e bs es → InTables ends goes later (member_count s) a bs es
+pub record TablesOf (s : TaskSet) (R : ℕ → ℕ → ℕ → Type 0) (a z : ℕ) (t : Tables) : Type 0 where
+  pub count : t.count ≡ member_count s
+  pub ready : SearchReady t a z
+  pub reads : (b e : ℕ) (bs es : ℕ → ℕ) → a ≤ b → e ≤ z → Masked t b e bs es → Placed s R b e bs es
+  pub masked : (b e : ℕ) (bs es : ℕ → ℕ) → a ≤ b → e ≤ z → Placed s R b e bs es → Masked t b e bs es
+  pub kept : (b e : ℕ) (bs es : ℕ → ℕ) → a ≤ b → e ≤ z → Placed s R b e bs es → InTables t a bs es
+  pub bounded : (b e : ℕ) (bs es : ℕ → ℕ) → a ≤ b → e ≤ z → Placed s R b e bs es → BoundsHave t.count t.bounds bs es

@@ -1,14 +1,10 @@
--- Between functions: a text that is written to a buffer of bytes: at an index, and at its start.
+-- Between functions: a text that is written to a buffer of bytes, after what stands there.
 use Rattle.std.specs.Prelude.{ℕ, ◌+◌, ◌≡◌, List, ◌++◌, length, take}
-use Rattle.io.specs.Counts.{IsPrefixLen}
+use Rattle.text.specs.declared.report.Text.{Text}
 
--- out is old with a text written at an index, and end is where the text ends: what stands before `end` is what stood before, and the text
-pub record Appended (old : List ℕ) (start : ℕ) (text out : List ℕ) (end : ℕ) : Type 0 where
-  pub ends : end ≡ start + length text
-  pub reads : take end out ≡ take start old ++ text
-  pub same : length out ≡ length old
-
--- the first r bytes of out are the text
-pub record WrittenText (text out : List ℕ) (r : ℕ) : Type 0 where
-  pub counts : IsPrefixLen r out
-  pub reads : take r out ≡ text
+-- new is old with a text written behind it, in the same buffer, which keeps its length
+pub record Appended (old : Text) (text : List ℕ) (new : Text) : Type 0 where
+  pub buffer : new.out.ghost_name ≡ old.out.ghost_name
+  pub room : length new.out.now ≡ length old.out.now
+  pub ends : new.end ≡ old.end + length text
+  pub reads : take new.end new.out.now ≡ take old.end old.out.now ++ text

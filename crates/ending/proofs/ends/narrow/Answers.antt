@@ -11,7 +11,7 @@ use Rattle.ending.proofs.ends.narrow.Goals.{After-partner-j}
 
 -- in each turn the condition's member and its partner, and their begins, are in range
 facts : (c : After-partner-j) → let i = c.condition_i-i.result in let j = c.partner-j.result in
-    (i < 4) × (j < 4) × (entry_at c.args.begins i < 64) × (entry_at c.args.begins j < 64) × (length c.args.conds.now ≤ 8)
+    (i < 4) × (j < 4) × (entry_at c.args.begins i < 64) × (entry_at c.args.begins j < 64) × (length c.args.tables.now.conditions.now ≤ 8)
 facts c =
     let n = c.requires.named c.loop-c.c c.loop-c-test.true in
     let i : c.condition_i-i.result < 4 = omega (arith, n.0, c.condition_i-i.ensures.0) in
@@ -24,10 +24,10 @@ facts c =
     )
 
 pub loop-c-init : goal.loop-c-init
-loop-c-init c = record { upto = omega arith; four = omega arith; masks = record { mask = λ i e. (λ t. (t, λ d l. absurd (omega arith)), λ t. t.0) } }
+loop-c-init c = record { four = omega arith; masks = record { mask = λ i e. (λ t. (t, λ d l. absurd (omega arith)), λ t. t.0) } }
 
-pub overflow_mul-c : goal.overflow_mul-c
-overflow_mul-c c = omega (arith, facts (goal.at.overflow_mul-c c).After-partner-j)
+pub overflow_mul-met : goal.overflow_mul-met
+overflow_mul-met c = omega (arith, facts (goal.at.overflow_mul-met c).After-partner-j)
 
 pub offset_bounds-begins-j : goal.offset_bounds-begins-j
 offset_bounds-begins-j c = omega (arith, facts (goal.at.offset_bounds-begins-j c).After-partner-j)
@@ -35,17 +35,17 @@ offset_bounds-begins-j c = omega (arith, facts (goal.at.offset_bounds-begins-j c
 pub bounds-begins-j : goal.bounds-begins-j
 bounds-begins-j c = omega (arith, facts (goal.at.bounds-begins-j c).After-partner-j)
 
-pub overflow_cast-begins : goal.overflow_cast-begins
-overflow_cast-begins c = omega (arith, facts (goal.at.overflow_cast-begins c).After-partner-j)
+pub overflow_cast-met : goal.overflow_cast-met
+overflow_cast-met c = omega (arith, facts (goal.at.overflow_cast-met c).After-partner-j)
 
-pub overflow_add-c : goal.overflow_add-c
-overflow_add-c c = omega (arith, facts (goal.at.overflow_add-c c).After-partner-j)
+pub overflow_add-met : goal.overflow_add-met
+overflow_add-met c = omega (arith, facts (goal.at.overflow_add-met c).After-partner-j)
 
-pub offset_bounds-allow-c : goal.offset_bounds-allow-c
-offset_bounds-allow-c c = omega (arith, facts (goal.at.offset_bounds-allow-c c).After-partner-j)
+pub offset_bounds-tables-c : goal.offset_bounds-tables-c
+offset_bounds-tables-c c = omega (arith, facts (goal.at.offset_bounds-tables-c c).After-partner-j)
 
-pub bounds-allow-c : goal.bounds-allow-c
-bounds-allow-c c = omega (arith, facts (goal.at.bounds-allow-c c).After-partner-j)
+pub bounds-tables-c : goal.bounds-tables-c
+bounds-tables-c c = omega (arith, facts (goal.at.bounds-tables-c c).After-partner-j)
 
 pub offset_bounds-begins-i : goal.offset_bounds-begins-i
 offset_bounds-begins-i c = omega (arith, facts (goal.at.offset_bounds-begins-i c).After-partner-j)
@@ -74,10 +74,9 @@ loop-c-preserved c =
     let a = c.args in
     let qi = c.condition_i-i.ensures.0 in
     record {
-      upto = omega arith;
       four = simp length-set k.invariant.four;
       masks = narrow_more c.condition_i-i.result c.end_mask-mask.result c.inter.result qi k.invariant.four (facts (goal.at.loop-c-preserved c).After-partner-j).0 c.requires.small
-          (λ e l. met_mask a.conds.now a.allow.now a.begins k.c c.form_of-form.ensures.0 qi c.condition_j.ensures.0 c.partner-j.ensures
+          (λ e l. met_mask a.tables.now.conditions.now a.tables.now.allow a.begins k.c c.form_of-form.ensures.0 qi c.condition_j.ensures.0 c.partner-j.ensures
           (c.end_mask-mask.ensures e l))
           (λ e. in_both c.inter.ensures e)
           k.invariant.masks;

@@ -1,28 +1,19 @@
 -- `reply::reply_words` meets its contract: the starts end within the plan, and the report reads what `find_reading` wrote. Assumes nothing.
-use Rattle.std.proofs.Common.{length, arith, sym, ap}
-use lib.Seq.{length-take-le}
-use Rattle.text.proofs.Plans.{starts_fit}
-use Rattle.finder.proofs.Outcomes.{outcome_length}
-use Rattle.reader.proofs.Replies.{length-lent, answered}
+use Rattle.std.proofs.Common.{◌∙◌}
+use Rattle.text.proofs.Plans.{starts_fit, starts_before, facts_after}
 use Rattle.reader.proofs.reply.reply_words.Goals as goal
 
-pub slice_bounds-find_reading-end : goal.slice_bounds-find_reading-end
-slice_bounds-find_reading-end c = sym (length-take-le _ c.args.plan.now (starts_fit c.args.plan.now _ c.starts_length-s.ensures))
+pub split_at-requires : goal.split_at-requires
+split_at-requires c = starts_fit c.args.plan.now _ c.starts_length.ensures
 
-pub offset_bounds-plan-s : goal.offset_bounds-plan-s
-offset_bounds-plan-s c = omega (arith, starts_fit c.args.plan.now _ c.starts_length-s.ensures)
-
-pub slice_bounds-find_reading-count : goal.slice_bounds-find_reading-count
-slice_bounds-find_reading-count c = starts_fit c.args.plan.now _ c.starts_length-s.ensures
-
-pub slice_bounds-find_reading-start : goal.slice_bounds-find_reading-start
-slice_bounds-find_reading-start c = omega (arith, starts_fit c.args.plan.now _ c.starts_length-s.ensures)
-
-pub report-requires : goal.report-requires
-report-requires c =
-    let written = outcome_length c.find_reading-answer.ensures.outcome in
-    omega (arith, written, ap length c.requires.0, length-lent, c.requires.1)
-
-pub returns-clause-text : goal.returns-clause-text
-returns-clause-text c =
-    (answered c.args.job.now c.args.plan.now c.args.buffer.now _ _ _ _ _ c.requires.0 c.starts_length-s.ensures c.find_reading-answer.ensures.outcome c.report.ensures).1
+pub returns : goal.returns
+returns c =
+    let plan = c.args.plan.now in
+    let starts = c.split_at.ensures.front ∙ starts_before plan _ c.starts_length.ensures in
+    let facts = c.split_at.ensures.back ∙ facts_after plan _ c.starts_length.ensures in
+    record {
+      answer = c.find_reading-answer.result;
+      after = c.find_reading-answer.new.buffer;
+      outcome = rw (c.requires.0, starts, facts) at c.find_reading-answer.ensures.outcome;
+      reported = c.report.ensures;
+    }

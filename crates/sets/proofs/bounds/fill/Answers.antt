@@ -2,7 +2,6 @@
 use Prim.Native.Nat.{ℕ, ◌+◌}
 use mathlib.Core.Path.{◌≡◌}
 use mathlib.Core.List.{List}
-use native.Mathlib.Omega.{arith}
 use lib.ListN.{get_or}
 use Rattle.bitset.proofs.In.{in_zero}
 use Rattle.narrowing.specs.Code.Tables.{BoundsHave}
@@ -15,22 +14,10 @@ unfilled bounds none count bs es w j f g t = in_zero (none (2048 + j)) t
 pub returns-then-is_short : goal.returns-then-is_short
 returns-then-is_short c = λ bs es within ends. unfilled c.args.bounds.now c.requires.1 c.args.count bs es
 
-pub loop-rest-init : goal.loop-rest-init
-loop-rest-init c = record { long = c.requires.0.long; have = λ bs es within ends. unfilled c.args.bounds.now c.requires.1 c.args.count bs es }
+pub loop-p-init : goal.loop-p-init
+loop-p-init c = λ bs es within ends. unfilled c.args.bounds.now c.requires.1 c.args.count bs es
 
-pub fill_members-requires : goal.fill_members-requires
-fill_members-requires c =
-    let p = c.requires.0 in
-    record { few = p.few; forward = p.forward; moments = p.moments; long = c.loop-rest.invariant.long }
-
-pub loop-rest-smaller : goal.loop-rest-smaller
-loop-rest-smaller c = omega (arith, c.drop_lowest-rest.ensures.fewer)
-
-pub loop-rest-preserved : goal.loop-rest-preserved
-loop-rest-preserved c =
-    let v = c.loop-rest.invariant in
-    let o = c.fill_members.ensures in
-    record { long = o.0; have = λ bs es within ends. o.1 bs es within ends (v.have bs es within ends) }
-
-pub returns : goal.returns
-returns c = c.loop-rest.invariant.have
+pub loop-p-preserved-in-Some-members_of : goal.loop-p-preserved-in-Some-members_of
+loop-p-preserved-in-Some-members_of c = λ bs es within ends.
+    let m = c.in-Some-members_of.ensures in
+    c.fill_members.ensures c.args.count bs es m.0 m.1 within ends (c.loop-p.invariant bs es within ends)

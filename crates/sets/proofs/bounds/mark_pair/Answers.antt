@@ -7,26 +7,27 @@ use native.Mathlib.Omega.{arith}
 use lib.ListN.{get_or}
 use Rattle.bitset.specs.Code.Members.{In}
 use Rattle.bitset.proofs.In.{in_both, in_between}
-use Rattle.sets.proofs.Late.{grows_none, grows_more, marked_more, marked_same}
+use Rattle.sets.proofs.Late.{grows_more, marked_more, marked_same}
+use Rattle.sets.proofs.bounds.mark_pair.Invariants.{MarkedTo}
 use Rattle.sets.proofs.bounds.mark_pair.Goals as goal
+use Rattle.sets.proofs.bounds.mark_pair.Goals.{After-mark}
 
-pub loop-y-init : goal.loop-y-init
-loop-y-init c = record { from = omega arith; upto = omega arith; grows = grows_none c.requires.3; marked = λ v e g h. absurd (omega arith) }
-
-pub loop-y-preserved : goal.loop-y-preserved
-loop-y-preserved c =
+-- and so is y
+stepped : (c : After-mark) → let a = c.args in MarkedTo a.ends.now a.p a.span.a a.span.z a.bounds.now c.mark.new.bounds (c.loop-y.y + 1)
+stepped c =
     let l = c.loop-y in
     let a = c.args in
     let o = c.mark.ensures in
     record {
-      from = omega arith;
-      upto = omega arith;
       grows = grows_more l.invariant.grows o.0;
       marked = λ v e g h m n t. by_cases (ℕ_discrete v l.y)
           (λ q. marked_same q (o.1 e ((in_both c.inter-mask.ensures e).1
-          (subst (λ (v : ℕ). In (get_or a.ends.now (a.p * 64 + v) 0) e) q t, (in_between c.between-window.ensures e).1 (m, n)))))
+          (subst (λ (v : ℕ). In (get_or a.ends.now (a.p * 64 + v) 0) e) q t, (in_between c.all-window.ensures e).1 (m, n)))))
           (λ q. marked_more o.0 (l.invariant.marked v e g (omega arith) m n t));
     }
 
-pub returns : goal.returns
-returns c = let l = c.loop-y in (l.invariant.grows, λ y e g h m n t. l.invariant.marked y e g (omega arith) m n t)
+pub loop-y-preserved : goal.loop-y-preserved
+loop-y-preserved c = stepped (goal.at.loop-y-preserved c).After-mark
+
+pub returns-2 : goal.returns-2
+returns-2 c = let s = stepped (goal.at.returns-2 c).After-mark in (s.grows, λ y e g h. s.marked y e g (omega arith))

@@ -3,16 +3,5 @@ use native.Mathlib.Omega.{arith}
 use Rattle.sets.proofs.Masks.{allowed_more}
 use Rattle.sets.proofs.conditions.fill_allowed.Goals as goal
 
-pub loop-c-init : goal.loop-c-init
-loop-c-init c = record { upto = omega arith; long = c.requires.4; masks = record { mask = λ d x y g. absurd (omega arith) } }
-
 pub loop-c-preserved : goal.loop-c-preserved
-loop-c-preserved c = let l = c.loop-c in
-    record {
-      upto = omega arith;
-      long = c.fill_masks.ensures.2;
-      masks = allowed_more l.c (omega arith) l.invariant.masks c.fill_masks.ensures.0 c.fill_masks.ensures.1;
-    }
-
-pub returns : goal.returns
-returns c = record { mask = λ d x y g. c.loop-c.invariant.masks.mask d x y (omega arith) }
+loop-c-preserved c = allowed_more c.loop-c.c (omega arith) c.loop-c.invariant c.fill_masks.ensures.0 c.fill_masks.ensures.1

@@ -1,5 +1,5 @@
 -- `sets::conditions::fill_masks` meets its contract. The invariant: the masks for the begins before x are right. Assumes nothing.
-use Prim.Native.Nat.{ℕ, ◌+◌, ◌-◌, ◌*◌, ◌≤◌, ◌<◌}
+use Prim.Native.Nat.{ℕ, ◌+◌, ◌*◌, ◌≤◌, ◌<◌}
 use mathlib.Core.Path.{◌≡◌}
 use mathlib.Core.Logic.{◌↔◌}
 use mathlib.Core.List.{List}
@@ -11,14 +11,9 @@ use Rattle.sets.proofs.conditions.fill_masks.Given as goal
 
 -- the masks of condition c for the begins before x
 pub record MasksTo (values : List ℕ) (w c a z n : ℕ) (old allow : List ℕ) (x : ℕ) : Type 0 where
-  pub from : a ≤ x
-  pub upto : x ≤ z + 1
   pub long : length allow ≡ 512
   pub masks : (u y : ℕ) → a ≤ u → u < x → In (get_or allow (c * 64 + u) 0) y ↔ ((a ≤ y) × (y ≤ z) × MetAt (value_in values) n w y y u)
   pub others : (p : ℕ) → p < c * 64 → get_or allow p 0 ≡ get_or old p 0
 
 abbrev pub invariant-loop-x : goal.invariant-loop-x
-invariant-loop-x l = MasksTo l.values l.w l.c l.a l.z l.n l.initial.allow l.allow l.x
-
-abbrev pub decreases-loop-x : goal.decreases-loop-x
-decreases-loop-x l = l.z + 1 - l.x
+invariant-loop-x l = MasksTo l.values l.w l.c l.span.a l.span.z l.n l.initial.allow l.allow l.x

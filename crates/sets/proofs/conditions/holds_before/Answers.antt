@@ -1,7 +1,5 @@
 -- `sets::conditions::holds_before` meets its contract. Assumes nothing.
 use Prim.Native.Nat.{ℕ, ◌-◌, ◌≤◌}
-use mathlib.Core.Path.{refl}
-use mathlib.Core.Bool.{false≢true}
 use mathlib.Core.Logic.{◌↔◌}
 use native.Mathlib.Omega.{arith}
 use Rattle.bitset.specs.Code.Members.{In}
@@ -11,22 +9,18 @@ use Rattle.sets.proofs.conditions.holds_before.Goals as goal
 use Rattle.sets.proofs.conditions.holds_before.Goals.{After-inter}
 
 -- the moments of the window at which the formula fails
-inside : (c : After-inter) (t : ℕ) → let a = c.args in In c.inter.result t ↔ (In a.fails t × ((a.y - a.last ≤ t) × (t ≤ a.y - a.first)))
+inside : (c : After-inter) (t : ℕ) → let a = c.args in In c.inter.result t ↔ (In a.asked.fails t × ((a.y - a.asked.last ≤ t) × (t ≤ a.y - a.asked.first)))
 inside c t = (
   λ u. let o = (in_both c.inter.ensures t).0 u in (o.0, (in_between c.between.ensures t).0 o.1),
   λ o. (in_both c.inter.ensures t).1 (o.0, (in_between c.between.ensures t).1 o.1),
 )
 
-pub returns-then-y-last : goal.returns-then-y-last
-returns-then-y-last c = λ value k n a z x l u f. (λ z. absurd (false≢true z), λ m. let g = m.0 in absurd (omega arith))
-
-pub returns-then-y-first : goal.returns-then-y-first
-returns-then-y-first c = λ value k n a z x l u f. (λ z. (omega arith, λ t g m. absurd (omega arith)), λ m. refl)
-
 pub returns : goal.returns
-returns c = λ value k n a z x l u f.
-    let s = c.args in
-    let h = through value k _ f (s.y - s.last) (s.y - s.first) c.inter.type_inv (λ t v w. (omega arith, omega arith)) (inside (goal.at.returns c).After-inter) in (
-      λ z. (omega arith, λ t g m. h.0 z t (omega arith) (omega arith)),
-      λ m. h.1 (λ t g u. m.1 t (omega arith) (omega arith)),
-    )
+returns c = λ n. record {
+  met = λ value k a z x l u f.
+      let s = c.args in
+      let h = through value k _ f (s.y - s.asked.last) (s.y - s.asked.first) c.inter.type_inv (λ t v w. (omega arith, omega arith)) (inside (goal.at.returns c).After-inter) in (
+        λ z. (omega arith, λ t g m. h.0 z t (omega arith) (omega arith)),
+        λ m. h.1 (λ t g u. m.1 t (omega arith) (omega arith)),
+      );
+}

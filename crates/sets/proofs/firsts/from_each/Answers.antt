@@ -18,25 +18,24 @@ pub returns-then-pair_at-eq0 : goal.returns-then-pair_at-eq0
 returns-then-pair_at-eq0 c = let a = c.args in (
   grown_none,
   λ e bs es m t d l q g. in_zero (sym c.pair_at.ensures ∙ c.if-pair_at-eq0.true)
-      (subst (λ (x : ℕ). In (pair_at a.ends.now a.first a.first x) (es a.first)) q (m.lawful a.first c.requires.1).reads),
+      (subst (λ (x : ℕ). In (pair_at a.tables.now.ends a.first a.first x) (es a.first)) q (m.lawful a.first c.requires.1).reads),
 )
 
 pub loop-last-init : goal.loop-last-init
-loop-last-init c = (omega arith, grown_none, λ m l. absurd (omega arith))
+loop-last-init c = (grown_none, λ m l. absurd (omega arith))
 
 pub from_first-r-requires : goal.from_first-r-requires
 from_first-r-requires c = let p = c.requires in
-    (ready_as refl (sym c.loop-last.invariant.1.upto) p.0, p.1, c.loop-last-test.true)
+    (ready_as refl (sym c.loop-last.invariant.0.upto) p.0, p.1, c.loop-last-test.true)
 
 pub loop-last-preserved : goal.loop-last-preserved
 loop-last-preserved c =
     let l = c.loop-last in
     let v = l.invariant in
     let n = c.from_first-r.ensures in (
-      omega (arith, c.loop-last-test.true),
-      grown_more v.1 n.0,
+      grown_more v.0 n.0,
       λ m u e bs es k t b o q r g. by_cases (dec_lt m l.last)
-          (λ d. n.0.kept e (v.2 m d e bs es k t b (omega (arith, o, n.0.upto)) q r g))
+          (λ d. n.0.kept e (v.1 m d e bs es k t b (omega (arith, o, n.0.upto)) q r g))
           (λ d. let j : m ≡ l.last = omega arith in n.1 e bs es k t b (omega (arith, o, n.0.upto)) q (subst (λ (x : ℕ). es x ≡ e) j r) g),
     )
 
@@ -44,9 +43,9 @@ pub returns : goal.returns
 returns c =
     let r = c.requires.0 in
     let v = c.loop-last.invariant in (
-      v.1,
+      v.0,
       λ e bs es m t b o q g.
           let i = m.inside 0 r.some in
           let y = m.covers e (omega arith) (omega arith) in
-          v.2 y.0 (omega (arith, y.1, c.loop-last-test.false)) e bs es m t b (omega (arith, o, v.1.upto)) q (omega (arith, y.3, m.inside y.0 y.1)) g,
+          v.1 y.0 (omega (arith, y.1, c.loop-last-test.false)) e bs es m t b (omega (arith, o, v.0.upto)) q (omega (arith, y.3, m.inside y.0 y.1)) g,
     )

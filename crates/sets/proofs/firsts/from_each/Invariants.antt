@@ -1,5 +1,5 @@
 -- `sets::firsts::from_each` meets its contract. The invariant: the placements are found in which a member before `last` ends last. Assumes nothing.
-use Prim.Native.Nat.{ℕ, ◌-◌, ◌≤◌, ◌<◌}
+use Prim.Native.Nat.{ℕ, ◌≤◌, ◌<◌}
 use mathlib.Core.Path.{◌≡◌}
 use Rattle.bitset.specs.Code.Members.{In}
 use Rattle.narrowing.specs.Code.Tables.{InTables, BoundsHave}
@@ -8,9 +8,6 @@ use Rattle.sets.proofs.firsts.from_each.Given as goal
 
 abbrev pub invariant-loop-last : goal.invariant-loop-last
 invariant-loop-last l =
-    (l.last ≤ l.count) × Grown l.conds l.allow l.ends l.count l.a l.initial.r l.r
-    × ((m : ℕ) → m < l.last → (e : ℕ) (bs es : ℕ → ℕ) → Masked l.conds l.allow l.ends l.count l.a e bs es → InTables l.ends l.goes l.later l.count l.a bs es
-    → BoundsHave l.count l.bounds bs es → e ≤ l.r.upto → bs l.first ≡ l.a → es m ≡ e → In l.goal e → In l.r.ends e)
-
-abbrev pub decreases-loop-last : goal.decreases-loop-last
-decreases-loop-last l = l.count - l.last
+    Grown l.tables l.a l.initial.r l.r
+    × ((m : ℕ) → m < l.last → (e : ℕ) (bs es : ℕ → ℕ) → Masked l.tables l.a e bs es → InTables l.tables l.a bs es
+    → BoundsHave l.tables.count l.tables.bounds bs es → e ≤ l.r.upto → bs l.first ≡ l.a → es m ≡ e → In l.goal e → In l.r.ends e)

@@ -7,7 +7,7 @@ use lib.ListN.{get_or}
 use Rattle.bitset.specs.Code.Members.{has, In}
 use Rattle.bitset.proofs.Bools.{not_both, either}
 use Rattle.bitset.proofs.In.{in_both, in_minus, in_without, in_zero}
-use Rattle.covering.specs.Code.Cover.{entry_at}
+use Rattle.narrowing.specs.Code.Open.{choice_at}
 use Rattle.ending.specs.Code.Search.{Masked, SoughtPlacement}
 use Rattle.narrowing.specs.Code.Tables.{InTables, BoundsHave}
 use Rattle.searching.proofs.Growth.{grown_none, grown_as, ready_as}
@@ -24,21 +24,21 @@ same c = let u = c.unplaced-state.ensures in let p = c.placed-next.ensures in (p
 
 -- a placement to e is found, or the set still has it
 sought : (c : After-placed-next) (e : ℕ) (bs es : ℕ → ℕ) → let a = c.args in
-    Masked a.conds.now a.allow.now a.ends.now a.count a.a e bs es → InTables a.ends.now a.goes.now a.later.now a.count a.a bs es
-    → BoundsHave a.count a.bounds.now bs es → e ≤ a.found.upto → bs a.first ≡ a.a → es a.last ≡ e → In a.goal e
-    → In a.found.ends e ⊎ SoughtPlacement a.conds.now a.allow.now a.ends.now a.goes.now a.later.now a.bounds.now a.count c.placed-next.result e bs es
+    Masked a.tables.now a.a e bs es → InTables a.tables.now a.a bs es
+    → BoundsHave a.tables.now.count a.tables.now.bounds bs es → e ≤ a.found.upto → bs a.first ≡ a.a → es a.last ≡ e → In a.goal e
+    → In a.found.ends e ⊎ SoughtPlacement a.tables.now c.placed-next.result e bs es
 sought c e bs es m t d l q r g =
     let a = c.args in
     let u = c.unplaced-state.ensures in
     let z = same c in
-    let f = u.3 a.ends.now a.goes.now bs es t
+    let f = u.3 bs es t
     (λ i k. let o = m.inside i k in (o.0, o.1, omega (arith, o.2, r), omega (arith, o.2, l))) (subst (λ (x : ℕ). In a.goal x) (sym r) g) in
-    let t' = subst (λ (x : ℕ). InTables a.ends.now a.goes.now a.later.now a.count x bs es) (sym u.0) t in
+    let t' = subst (λ (x : ℕ). InTables a.tables.now x bs es) (sym u.0) t in
     ⊎_elim
     (λ k. inl (subst (λ (x : ℕ). In a.found.ends x) (subst (λ (x : ℕ). es x ≡ e) (sym u.1) r) k))
     (λ k. inr (record {
-      masked = subst (λ (x : ℕ). Masked a.conds.now a.allow.now a.ends.now a.count x e bs es) (sym z.0) m;
-      tables = subst (λ (x : ℕ). InTables a.ends.now a.goes.now a.later.now a.count x bs es) (sym z.0) t;
+      masked = subst (λ (x : ℕ). Masked a.tables.now x e bs es) (sym z.0) m;
+      tables = subst (λ (x : ℕ). InTables a.tables.now x bs es) (sym z.0) t;
       bounded = d;
       fits = k;
       final = subst (λ (x : ℕ). es x ≡ e) (sym z.1) r;
@@ -51,11 +51,11 @@ overflow_mul-last c = omega (arith, index (goal.at.overflow_mul-last c).Start)
 pub overflow_add-last : goal.overflow_add-last
 overflow_add-last c = omega (arith, index (goal.at.overflow_add-last c).Start)
 
-pub offset_bounds-later-last : goal.offset_bounds-later-last
-offset_bounds-later-last c = omega (arith, index (goal.at.offset_bounds-later-last c).Start)
+pub offset_bounds-tables-last : goal.offset_bounds-tables-last
+offset_bounds-tables-last c = omega (arith, index (goal.at.offset_bounds-tables-last c).Start)
 
-pub bounds-later-last : goal.bounds-later-last
-bounds-later-last c = omega (arith, index (goal.at.bounds-later-last c).Start)
+pub bounds-tables-last : goal.bounds-tables-last
+bounds-tables-last c = omega (arith, index (goal.at.bounds-tables-last c).Start)
 
 -- all ends that the last member may have are found
 pub returns-then-inter-eq0 : goal.returns-then-inter-eq0
@@ -65,7 +65,7 @@ returns-then-inter-eq0 c = let a = c.args in let m = c.minus-sought.ensures in (
       let o = h.inside a.last c.requires.2 in
       ⊎_elim (λ f. record { yes = f })
       (λ f. in_zero c.if-inter-eq0.true ((in_both c.inter.ensures e).1 (
-        subst (λ (x : ℕ). In (get_or a.later.now (a.last * 64 + a.a) 0) x) r (t.later a.last a.a c.requires.2 (omega arith) o.0),
+        subst (λ (x : ℕ). In (get_or a.tables.now.later (a.last * 64 + a.a) 0) x) r (t.later a.last a.a c.requires.2 (omega arith) o.0),
         (in_minus m e).1 (g, λ k. not_both k.yes f),
       )))
       (either (has a.found.ends e)),
@@ -85,18 +85,18 @@ placed-next-requires c = let p = c.requires in let r = p.0 in let u = c.unplaced
       from = omega (arith, u.0, r.forward, r.moments);
     }
 
-pub offset_bounds-left-last : goal.offset_bounds-left-last
-offset_bounds-left-last c = let p = c.requires in omega (arith, p.2, p.0.few)
+pub offset_bounds-next-last : goal.offset_bounds-next-last
+offset_bounds-next-last c = let p = c.requires in omega (arith, p.2, p.0.few)
 
-pub bounds-left-last : goal.bounds-left-last
-bounds-left-last c = let p = c.requires in omega (arith, p.2, p.0.few)
+pub bounds-next-last : goal.bounds-next-last
+bounds-next-last c = let p = c.requires in omega (arith, p.2, p.0.few)
 
-pub returns-then-left-last-eq0 : goal.returns-then-left-last-eq0
-returns-then-left-last-eq0 c = (
+pub returns-then-next-last-eq0 : goal.returns-then-next-last-eq0
+returns-then-next-last-eq0 c = (
   grown_none,
   λ e bs es m t d l q r g. ⊎_elim (λ h. h)
-      (λ h. in_zero (subst (λ (x : ℕ). entry_at c.placed-next.result.ends x ≡ 0) (sym (same (goal.at.returns-then-left-last-eq0 c).After-placed-next).1) (omega (arith, c.if-left-last-eq0.true))) (h.fits.ends _ (omega (arith, (same (goal.at.returns-then-left-last-eq0 c).After-placed-next).1, c.requires.2))))
-      (sought (goal.at.returns-then-left-last-eq0 c).After-placed-next e bs es m t d l q r g),
+      (λ h. in_zero (subst (λ (x : ℕ). (choice_at c.placed-next.result.members x).ends ≡ 0) (sym (same (goal.at.returns-then-next-last-eq0 c).After-placed-next).1) (omega (arith, c.if-next-last-eq0.true))) (h.fits.ends _ (omega (arith, (same (goal.at.returns-then-next-last-eq0 c).After-placed-next).1, c.requires.2))))
+      (sought (goal.at.returns-then-next-last-eq0 c).After-placed-next e bs es m t d l q r g),
 )
 
 pub search-requires : goal.search-requires

@@ -1,12 +1,8 @@
 -- `sets::tables::cut_pairs` meets its contract. The invariant: the tables have what they had of each placement, and no end more. Assumes
 -- nothing.
-use Rattle.bitset.specs.Code.Members.{pop_count}
-use Rattle.sets.specs.Code.Tables.{LeftOut}
+use Rattle.sets.specs.Code.Tables.{LeftOut, SameElse}
 use Rattle.sets.proofs.tables.cut_pairs.Given as goal
 
-abbrev pub invariant-loop-rest : goal.invariant-loop-rest
-invariant-loop-rest l =
-    LeftOut l.count l.a l.z l.initial.ends l.initial.goes l.ends l.goes
-
-abbrev pub decreases-loop-rest : goal.decreases-loop-rest
-decreases-loop-rest l = pop_count l.rest
+abbrev pub invariant-loop-p : goal.invariant-loop-p
+invariant-loop-p l =
+    SameElse l.initial.tables l.tables × LeftOut l.count l.span.a l.span.z l.initial.tables.ends l.initial.tables.goes l.tables.ends l.tables.goes

@@ -1,9 +1,14 @@
 -- `sets::tables::fill` meets its contract. Assumes nothing.
-use Prim.Native.Nat.{◌≤◌, ◌<◌}
+use Prim.Native.Nat.{◌≤◌}
+use mathlib.Core.Path.{◌∙◌, sym, subst}
 use native.Mathlib.Omega.{arith}
 use lib.ListN.{length, length-map}
 use Rattle.words.specs.Fields.{member_node}
-use Rattle.sets.proofs.Pairs.{node_rows, filled}
+use Rattle.model.specs.Code.Table.{InTable}
+use Rattle.keeping.specs.declared.Tables.{Tables}
+use Rattle.sets.specs.Code.Rows.{task_set_of}
+use Rattle.sets.specs.Code.Tables.{TablesOf}
+use Rattle.sets.proofs.Pairs.{node_rows, filled, same_more}
 use Rattle.sets.proofs.tables.fill.Goals as goal
 use Rattle.sets.proofs.tables.fill.Goals.{Start}
 
@@ -11,30 +16,23 @@ use Rattle.sets.proofs.tables.fill.Goals.{Start}
 few : (s : Start) → length s.args.members.now ≤ 4
 few s = omega (arith, s.requires.formed.few, length-map s.args.members.now member_node)
 
-small : (s : Start) → s.args.z < 64
-small s = omega (arith, s.requires.formed.moments, s.requires.upto)
-
-pub cut_all-requires : goal.cut_all-requires
-cut_all-requires c = let f = c.requires.formed in
-    record {
-      few = f.conditions;
-      named = λ k l. let m = f.named k l in (omega (arith, f.few), omega (arith, f.few));
-      forward = c.requires.forward;
-      moments = small (goal.at.cut_all-requires c).Start;
-    }
-
 pub fill_own-requires : goal.fill_own-requires
-fill_own-requires c = (few (goal.at.fill_own-requires c).Start, node_rows c.args.members.now c.requires.rows, c.requires.forward, small (goal.at.fill_own-requires c).Start)
-
-pub cut_constrained-requires : goal.cut_constrained-requires
-cut_constrained-requires c = (few (goal.at.cut_constrained-requires c).Start, c.requires.forward, small (goal.at.cut_constrained-requires c).Start)
-
-pub fill_later-requires : goal.fill_later-requires
-fill_later-requires c = (few (goal.at.fill_later-requires c).Start, record { forward = c.requires.forward; moments = small (goal.at.fill_later-requires c).Start; long = c.requires.later_long })
+fill_own-requires c = (few (goal.at.fill_own-requires c).Start, node_rows c.args.members.now c.requires.rows)
 
 pub returns : goal.returns
 returns c =
     let a = c.args in
     let p = c.requires in
-    filled a.members.now a.conds.now a.values.now a.table.now a.n a.a a.z p.formed p.forward p.upto p.unpruned_ends
-    p.unpruned_goes c.fill_allowed.ensures c.cut_all.ensures c.fill_own.ensures c.cut_constrained.ensures c.fill_later.ensures
+    let cut = c.cut_all.ensures in
+    let own = c.fill_own.ensures in
+    let pairs = c.cut_constrained.ensures in
+    let done = c.cut_constrained.new.tables in
+    let start : Tables = record a.tables.now { allow = c.fill_allowed.new.allow } in
+    let same = same_more start (same_more start cut.0 own.1) pairs.0 in
+    subst (λ (t : Tables). TablesOf (task_set_of a.members.now a.tables.now.conditions.now a.values.now a.n) (InTable a.table.now) a.a a.z
+    (record t { later = c.fill_later.new.later; bounds = c.fill.new.bounds }))
+    (sym same)
+    (filled a.members.now a.values.now a.table.now a.n a.a a.z
+    (record a.tables.now { allow = c.fill_allowed.new.allow; ends = done.ends; goes = done.goes; later = c.fill_later.new.later; bounds = c.fill.new.bounds })
+    p.formed p.forward p.upto p.unpruned.ends p.unpruned.goes c.fill_allowed.ensures cut.1 own.0 (rw own.2 at pairs.1) (p.unpruned.count ∙ length-map a.members.now member_node)
+    c.fill_later.ensures c.fill.ensures)

@@ -9,24 +9,14 @@ use Rattle.bitset.specs.Code.Members.{In}
 use Rattle.keeping.specs.Code.Tables.{pair_at}
 use Rattle.sets.proofs.tables.fill_later.Goals as goal
 
-pub loop-i-init : goal.loop-i-init
-loop-i-init c = record { upto = omega arith; long = c.requires.1.long; masks = λ k x y e l. absurd (omega arith) }
-
 pub loop-i-preserved : goal.loop-i-preserved
 loop-i-preserved c =
     let l = c.loop-i in
     let E = c.args.ends.now in
     let new = c.fill_later_row.new.later in
     let o = c.fill_later_row.ensures in
-    record {
-      upto = omega arith;
-      long = o.2;
-      masks = λ k x y e g h m n t. by_cases (dec_lt k l.i)
-          (λ b. subst (λ (v : ℕ). In v e) (sym (o.1 (k * 64 + x) (omega (arith, c.requires.0, c.requires.1.forward, c.requires.1.moments)))) (l.invariant.masks k x y e b h m n t))
-          (λ b.
-          let q : l.i ≡ k = omega arith in
-          subst (λ (k : ℕ). In (get_or new (k * 64 + x) 0) e) q (o.0 x y e h m n (subst (λ (k : ℕ). In (pair_at E k k y) e) (sym q) t)));
-    }
-
-pub returns : goal.returns
-returns c = λ i x y e l. c.loop-i.invariant.masks i x y e (omega arith)
+    λ k x y e g h m n t. by_cases (dec_lt k l.i)
+    (λ b. subst (λ (v : ℕ). In v e) (sym (o.1 (k * 64 + x) (omega (arith, c.requires)))) (l.invariant k x y e b h m n t))
+    (λ b.
+    let q : l.i ≡ k = omega arith in
+    subst (λ (k : ℕ). In (get_or new (k * 64 + x) 0) e) q (o.0 x y e h m n (subst (λ (k : ℕ). In (pair_at E k k y) e) (sym q) t)))

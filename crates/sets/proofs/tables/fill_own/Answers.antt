@@ -1,22 +1,20 @@
 -- `sets::tables::fill_own` meets its contract. The invariant: the rows of the members before i are right. Assumes nothing.
+use mathlib.Core.Path.{◌∙◌}
 use native.Mathlib.Omega.{arith}
-use Rattle.sets.proofs.Pairs.{own_rows_more}
+use Rattle.sets.proofs.Pairs.{own_rows_more, same_more}
 use Rattle.sets.proofs.tables.fill_own.Goals as goal
-
-pub loop-i-init : goal.loop-i-init
-loop-i-init c = (omega arith, record { own = λ i x e l. absurd (omega arith); kept = λ bs es within reads begins have. have })
-
-pub fill_own_row-requires : goal.fill_own_row-requires
-fill_own_row-requires c =
-    let i = c.loop-i.i in
-    let p = c.requires in
-    (omega (arith, c.member_node.ensures.0, p.1 i (omega arith)), omega (arith, p.0), p.2, p.3)
 
 pub loop-i-preserved : goal.loop-i-preserved
 loop-i-preserved c =
     let l = c.loop-i in
-    let p = c.requires in
-    (omega arith, own_rows_more l.i c.member_node.result p.0 (omega arith) p.3 c.member_node.ensures.0 l.invariant.1 c.fill_own_row.ensures)
+    let h = l.invariant in
+    let o = c.fill_own_row.ensures in (
+      own_rows_more l.i c.member_node.result c.requires.0 (omega arith) c.args.span.moments c.member_node.ensures.0 h.0 (rw h.2 at o.0),
+      same_more c.args.tables.now h.1 o.1,
+      o.2 ∙ h.2,
+    )
 
 pub returns : goal.returns
-returns c = let r = c.loop-i.invariant.1 in record { own = λ i x e l. r.own i x e (omega arith); kept = r.kept }
+returns c =
+    let h = c.loop-i.invariant in
+    (record { own = λ i x e l. h.0.own i x e (omega arith); kept = h.0.kept }, h.1, h.2)

@@ -2,14 +2,11 @@
 -- nothing.
 use Prim.Native.Nat.{ℕ}
 use mathlib.Core.Logic.{◌⊎◌}
-use Rattle.bitset.specs.Code.Members.{In, pop_count}
+use Rattle.bitset.specs.Code.Members.{In}
 use Rattle.keeping.specs.Code.Tables.{pair_at}
 use Rattle.sets.proofs.tables.partners.Given as goal
 
-abbrev pub invariant-loop-rest : goal.invariant-loop-rest
-invariant-loop-rest l =
-    (y d e : ℕ) → In (pair_at l.goes l.i l.j l.x) y → In (pair_at l.ends l.i l.i l.x) d → In (pair_at l.ends l.i l.j y) d → In (pair_at l.ends l.j l.j y) e
-    → In (pair_at l.ends l.j l.i l.x) e → In (pair_at l.goes l.j l.i y) l.x → In l.r y ⊎ In l.rest y
-
-abbrev pub decreases-loop-rest : goal.decreases-loop-rest
-decreases-loop-rest l = pop_count l.rest
+abbrev pub invariant-loop-y : goal.invariant-loop-y
+invariant-loop-y l =
+    (y d e : ℕ) → In (pair_at l.tables.goes l.i l.j l.x) y → In (pair_at l.tables.ends l.i l.i l.x) d → In (pair_at l.tables.ends l.i l.j y) d → In (pair_at l.tables.ends l.j l.j y) e
+    → In (pair_at l.tables.ends l.j l.i l.x) e → In (pair_at l.tables.goes l.j l.i y) l.x → In l.r y ⊎ In l.y-iterator.left y

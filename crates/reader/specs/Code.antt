@@ -1,2 +1,0 @@
--- What passes between functions, and no public contract reaches: Buffers (the room for the reply).
-pub mod Buffers
