@@ -8,13 +8,14 @@ use native.Mathlib.Numerals.{add-one}
 use native.Mathlib.Omega.{arith}
 use lib.Dec.{eqb}
 use lib.ListN.{length, get_or}
-use Rattle.std.specs.Prelude.{Result, Ok, Err, position}
-use Rattle.std.specs.Result.{is_ok}
+use Rattle.std.specs.Prelude.{Option, None, Some, Result, Ok, Err, position}
+use Rattle.std.specs.Option.{is_some}
+use Rattle.std.specs.Result.{is_ok, IsErrAnd}
 use Rattle.std.specs.List.{position_or_len}
 use Rattle.std.proofs.lemmas.List.Sums.{fails_before_first, passes_at_first}
 use borrow.Author.Tests.{lt-ltb, le-ltb, eq-eqb, ne_eqb, eqb-true, eqb-false}
 use Rattle.answers.specs.Packed.{answer_of}
-use Rattle.answers.specs.Rows.{refusal, passed, row, first_refusal, refusal_at, first_of, ruled, refused_at}
+use Rattle.answers.specs.Rows.{refusal, passed, row, first_refusal, refusal_at, first_of, ruled, refused_at, if_any}
 use Rattle.answers.specs.declared.Refusal.{Refusal}
 
 -- a number at a position
@@ -106,6 +107,15 @@ abbrev error-or : {T E : Type 0} → E → Result T E → E
 error-or d (Ok x) = d
 error-or d (Err e) = e
 
+-- the refusal that is handed on where rows refuse
+pub err-ruled : {T : Type 0} {r e : Refusal} (x : T) → e ≡ r → (r.number ≡ 0 → ⊥) → Err e ≡ ruled r x
+err-ruled {r} x q h = rw (q, ne_eqb r.number 0 h)
+
+pub handed_on : {T : Type 0} {r e : Refusal} (x : T) (result : Result T Refusal) → IsErrAnd result (λ f. f ≡ e) → e ≡ r → (r.number ≡ 0 → ⊥)
+    → result ≡ ruled r x
+handed_on x (Ok y) a q h = absurd a
+handed_on x (Err f) a q h = err-ruled x (a ∙ q) h
+
 -- what a result of rows tells of them
 module _ {T : Type 0} (r : Refusal) (x : T) where
   pub ok-passed : {y : T} → Ok y ≡ ruled r x → (r.number ≡ 0) × (y ≡ x)
@@ -144,3 +154,22 @@ module _ (number : ℕ) (test : ℕ → Bool) (ws : List ℕ) (some : 0 < number
           rw (lt-ltb at (length ws) l, first_found at-word at (length ws) (passed-before at (omega arith)) (λ e. omega (arith, hit, e)) l, hit, ne_eqb number 0 (λ e. omega arith))
       cases (no h) =
           rw (le-ltb at (length ws) (omega arith), passed-before (length ws) (omega arith))
+
+-- what a number that may be none tells of it
+abbrev some-or : ℕ → Option ℕ → ℕ
+some-or d None = d
+some-or d (Some n) = n
+
+pub any-number : {m : ℕ} (n : ℕ) → Some m ≡ if_any n → (m ≡ n) × (n ≡ 0 → ⊥)
+any-number {m} n = go (eqb n 0) refl
+  where
+    go : (t : Bool) → eqb n 0 ≡ t → Some m ≡ cond t None (Some n) → (m ≡ n) × (n ≡ 0 → ⊥)
+    go true e h = absurd (true≢false (ap is_some h))
+    go false e h = (ap (some-or m) h, eqb-false n 0 e)
+
+pub no_number : (n : ℕ) → None ≡ if_any n → n ≡ 0
+no_number n = go (eqb n 0) refl
+  where
+    go : (t : Bool) → eqb n 0 ≡ t → None ≡ cond t None (Some n) → n ≡ 0
+    go true e h = eqb-true n 0 e
+    go false e h = absurd (true≢false (sym (ap is_some h)))

@@ -43,3 +43,7 @@ RuledBy r P result = MatchResult result (λ x. (r.number ≡ 0) × P x) (λ e. (
 abbrev pub refused_at : ℕ → Option ℕ → Result ⊤ Refusal
 refused_at number None = Ok tt
 refused_at number (Some i) = Err (refusal number i)
+
+-- a refusal's number, where it is one
+abbrev pub if_any : ℕ → Option ℕ
+if_any number = cond (eqb number 0) None (Some number)

@@ -1,33 +1,29 @@
 -- Which row an answer of find comes from. Assumes nothing.
 use mathlib.Core.List.{List}
-use mathlib.Core.Path.{◌≡◌, ◌∙◌}
-use Prim.Native.Nat.{ℕ, ◌≤◌, ◌<◌}
+use mathlib.Core.Path.{◌≡◌, refl, sym, ◌∙◌}
+use Prim.Native.Nat.{ℕ, ◌^◌, ◌<◌}
 use native.Mathlib.Omega.{arith}
-use borrow.Author.Tests.{ne_eqb, lt-ltb, le-ltb}
-use lib.ListN.{length}
-use Rattle.answers.specs.declared.Refusal.{Refusal}
-use Rattle.answers.specs.declared.Answer.{Answer}
-use Rattle.answers.specs.declared.Answer.TheVariants.{Refused}
-use Rattle.answers.specs.Packed.{length_of, answer_of}
-use Rattle.theory.specs.Answers.{check_refusal}
-use Rattle.finder.specs.Find.{find_refusal, Searched, Outcome, refused, sought}
+use lib.Dec.{ltb}
+use lib.ListN.{get_or}
+use Rattle.answers.specs.Rows.{first_refusal}
+use Rattle.answers.proofs.Rows.{or_refused, or_passed}
+use Rattle.answers.proofs.Range.{Fitting, or_fits, row_fits}
+use Rattle.theory.specs.Answers.{buffer_refusal, check_refusal}
+use Rattle.theory.proofs.Range.{check_fits}
+use Rattle.finder.specs.Find.{find_refusal}
 
-module _ (job starts facts buffer : List ℕ) where
-  pub short_buffer : length buffer < 4096 → Outcome job starts facts buffer (Refused 12 0 0) buffer
-  unfolding find_refusal
-  short_buffer h = refused {n = 12} {p = 0} (rw (lt-ltb (length buffer) 4096 h)) (λ e. omega arith)
+module _ (room : ℕ) (job starts facts : List ℕ) where
+  -- row 12, then the rows of check
+  rows : first_refusal (buffer_refusal room) (check_refusal job starts facts) ≡ find_refusal room job starts facts
+  unfolding find_refusal check_refusal
+  rows = refl
 
-  module _ (room : 4096 ≤ length buffer) where
-    -- with room in the buffer the row is check's
-    pub same_row : find_refusal (length buffer) job starts facts ≡ check_refusal job starts facts
-    unfolding find_refusal check_refusal
-    same_row = rw (le-ltb (length buffer) 4096 room)
+  pub by_buffer : ((buffer_refusal room).number ≡ 0 → ⊥) → buffer_refusal room ≡ find_refusal room job starts facts
+  by_buffer n = or_refused (buffer_refusal room) (check_refusal job starts facts) n ∙ rows
 
-    pub row-refused : {a : Answer} {r : Refusal} → a ≡ answer_of r 0 0 → r ≡ check_refusal job starts facts → (r.number ≡ 0 → ⊥)
-        → Outcome job starts facts buffer a buffer × (length_of a ≤ 4032)
-    row-refused {a} {r} e is n =
-        let made : a ≡ Refused r.number r.position 0 = e ∙ rw (ne_eqb r.number 0 n) in
-        rw made (refused {n = r.number} {p = r.position} (rw (same_row, ← is)) n, omega arith)
+  pub by_check : (buffer_refusal room).number ≡ 0 → check_refusal job starts facts ≡ find_refusal room job starts facts
+  by_check z = or_passed (buffer_refusal room) (check_refusal job starts facts) z ∙ rows
 
-    pub then_sought : (check_refusal job starts facts).number ≡ 0 → {a : Answer} {after : List ℕ} → Searched job starts buffer a after → Outcome job starts facts buffer a after
-    then_sought h s = sought (rw same_row h) s
+  -- the fields of a refusal hold it
+  pub find_fits : ((i : ℕ) → get_or starts i 0 < 2 ^ 32) → Fitting (find_refusal room job starts facts)
+  find_fits words = rw (sym rows) (or_fits (buffer_refusal room) _ (row_fits (ltb room 4096) 12 0 (omega arith) (omega arith)) (check_fits job starts words facts))

@@ -5,9 +5,9 @@ ghost use Rattle.std.specs.Prelude.{◌≤◌, length};
 ghost use Rattle.answers.specs.Packed.{length_of};
 ghost use Rattle.answers.specs.Code.Packed.{InRange};
 ghost use Rattle.finder.specs.Find.{Searched, Outcome};
-ghost use Rattle.finder.specs.Code.Seek.{Seekable};
+ghost use Rattle.finder.specs.Code.Seek.{Seekable, Readied};
 
-use answers::{Answer, answer_of};
+use answers::{Answer, Refusal, answered};
 use extract::Source;
 use model::Arrays;
 use reading::pauses::all_starts;
@@ -46,20 +46,23 @@ fn seek(job: &[u32], starts: &[u32], arrays: &Arrays, buffer: &mut [u32]) -> Ans
     }
 }
 
+// Runs every row, and returns the arrays of a plan that passes. Its plan is off the stack before a reading is sought.
+#[inline(never)]
+fn readied(job: &[u32], starts: &[u32], facts: &[u32], room: usize) -> Result<Arrays, Refusal>
+    ensures { Readied room job.now starts.now facts.now result }
+{
+    buffer_refusal(room)?;
+    let plan = judge_facts(job, starts, facts)?;
+    Ok(arrays_of(job, starts, &plan))
+}
+
 // The find call on any lists: runs every row, then seeks a reading.
 pub fn find_reading(job: &[u32], starts: &[u32], facts: &[u32], buffer: &mut [u32]) -> Answer
     ensures outcome { Outcome job.now starts.now facts.now buffer.old result buffer.new }
     ensures in_range { InRange result × (length_of result ≤ 4032) }
 {
-    let short = buffer_refusal(buffer.len());
-    if short.number != 0 {
-        return answer_of(short, 0, 0);
+    match readied(job, starts, facts, buffer.len()) {
+        Ok(arrays) => seek(job, starts, &arrays, buffer),
+        Err(refusal) => answered(Err(refusal)),
     }
-    let plan = judge_facts(job, starts, facts);
-    let refusal = plan.refusal;
-    if refusal.number != 0 {
-        return answer_of(refusal, 0, 0);
-    }
-    let arrays = arrays_of(job, starts, plan);
-    seek(job, starts, &arrays, buffer)
 }

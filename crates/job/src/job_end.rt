@@ -1,6 +1,6 @@
 // The rows of the job end.
 ghost use Rattle.std.specs.Prelude.{List, ◌≡◌, ℕ, ◌-◌, ◌<◌, ◌≤◌, length, get_or};
-ghost use Rattle.answers.specs.Rows.{first_of};
+ghost use Rattle.answers.specs.Rows.{first_of, ruled};
 ghost use Rattle.job.specs.Before.{before, count_of_kind, named};
 ghost use Rattle.job.specs.Refusal.{name_refusal, end_refusal};
 ghost use Rattle.job.specs.Code.Names.{NamedTimes};
@@ -8,48 +8,37 @@ ghost use Rattle.job.specs.Code.State.{Tied};
 
 use crate::State;
 use crate::names::Names;
-use answers::{JOB_NODES, JOB_VALUE, Refusal, first_refusal, row_of};
+use answers::{JOB_NODES, JOB_VALUE, Refusal};
 use words::forms::TASK_SET;
 
-fn less_one(n: usize) -> usize
-    ensures { result ≡ n - 1 }
-{
-    if n == 0 { 0 } else { n - 1 }
-}
-
 // Refuses the lowest node below `root` that is not named exactly once.
-fn name_refusal(names: Names, root: usize) -> Refusal
+fn name_refusal(names: Names, root: usize) -> Result<(), Refusal>
     requires { root ≤ 64 }
-    ensures { (p : List ℕ) → NamedTimes (λ v. named v p) names → result ≡ first_of (name_refusal p) root }
+    ensures { (p : List ℕ) → NamedTimes (λ v. named v p) names → result ≡ ruled (first_of (name_refusal p) root) tt }
 {
     let once = bitset::minus(names.named, names.again);
-    let mut v = 0;
-    while v < root {
+    for v in 0..root {
         if !bitset::has(once, v as u32) {
-            return answers::refuse(JOB_NODES, v);
+            return Err(answers::refuse(JOB_NODES, v));
         }
-        v += 1;
     }
-    answers::none()
+    Ok(())
 }
 
-// The first row of the job end that fits; the row on names runs only if no earlier one does.
-pub fn end_refusal(job: &[u32], s: State) -> Refusal
+// The first row of the job end that fits.
+pub fn end_refusal(job: &[u32], s: State) -> Result<(), Refusal>
     requires { (0 < length job.now) × (count_of_kind 6 (before job.now (length job.now)) ≤ 64) × Tied (before job.now (length job.now)) s }
-    ensures { result ≡ end_refusal (get_or job.now 0 0) (length job.now) (before job.now (length job.now)) }
+    ensures { result ≡ ruled (end_refusal (get_or job.now 0 0) (length job.now) (before job.now (length job.now))) tt }
 {
-    let declared = words::actions_of(job[0]);
-    let root = less_one(s.nodes);
-    let count = row_of(!(s.actions == declared), JOB_VALUE, job.len());
-    let none = row_of(s.nodes == 0, JOB_NODES, 0);
-    let empty = row_of(
-        (words::form_of(s.node) == TASK_SET) & (s.members == 0),
-        JOB_NODES,
-        root,
-    );
-    let earlier = first_refusal(count, first_refusal(none, empty));
-    if earlier.number != 0 {
-        return earlier;
+    if s.actions != words::actions_of(job[0]) {
+        return Err(answers::refuse(JOB_VALUE, job.len()));
+    }
+    if s.nodes == 0 {
+        return Err(answers::refuse(JOB_NODES, 0));
+    }
+    let root = s.nodes - 1;
+    if (words::form_of(s.node) == TASK_SET) & (s.members == 0) {
+        return Err(answers::refuse(JOB_NODES, root));
     }
     name_refusal(s.names, root)
 }

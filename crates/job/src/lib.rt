@@ -2,6 +2,7 @@
 #![tactic(auto)]
 
 ghost use Rattle.std.specs.Prelude.{◌≡◌};
+ghost use Rattle.answers.specs.Rows.{ruled};
 ghost use Rattle.job.specs.Refusal.{job_refusal};
 ghost use Rattle.job.specs.Code.Index.{checked_of};
 
@@ -46,12 +47,6 @@ pub struct Index {
     pub nodes: Places,
 }
 
-#[derive(Clone, Copy)]
-pub struct Checked {
-    pub refusal: Refusal,
-    pub index: Index,
-}
-
 // What the scan keeps of the words before the position that it stands at: how many actions, formulas and nodes they declare, how many
 // members and conditions follow the last node, that node's word, the set of the declared groups, and the nodes named as children.
 #[derive(Clone, Copy)]
@@ -66,38 +61,22 @@ pub struct State {
     pub names: Names,
 }
 
-#[derive(Clone, Copy)]
-pub struct Scanned {
-    pub refusal: Refusal,
-    pub state: State,
-}
-
 // Rows 1 to 5.
-fn job_refusal(job: &[u32]) -> Refusal
-    ensures { result ≡ job_refusal job.now }
+fn job_refusal(job: &[u32]) -> Result<(), Refusal>
+    ensures { result ≡ ruled (job_refusal job.now) tt }
 {
     let n = job.len();
     if !((1 <= n) & (n <= MAX_WORDS)) {
-        return answers::refuse(answers::JOB_LENGTH, 0);
+        return Err(answers::refuse(answers::JOB_LENGTH, 0));
     }
-    let words = scan_words(job);
-    let refusal = words.refusal;
-    if refusal.number != 0 {
-        return refusal;
-    }
-    end_refusal(job, words.state)
+    let state = scan_words(job)?;
+    end_refusal(job, state)
 }
 
-// The refusal of a job, and the index of its words; a refused job's index has none.
-pub fn check_job(job: &[u32]) -> Checked
+// The index of a job's words, or the refusal of the job.
+pub fn check_job(job: &[u32]) -> Result<Index, Refusal>
     ensures { result ≡ checked_of job.now }
 {
-    let refusal = job_refusal(job);
-    if refusal.number == 0 {
-        let index = index_words(job, job.len());
-        Checked { refusal, index }
-    } else {
-        let index = index_words(job, 0);
-        Checked { refusal, index }
-    }
+    job_refusal(job)?;
+    Ok(index_words(job))
 }

@@ -2,7 +2,7 @@
 // most prove themselves.
 ghost use Rattle.std.specs.Prelude.{cond, ◌≡◌, ◌≤◌};
 ghost use Rattle.words.specs.Fields.{group_number};
-ghost use Rattle.words.specs.Tests.{indicator};
+ghost use Rattle.answers.specs.Rows.{if_any};
 ghost use Rattle.bitset.specs.Code.Members.{has};
 ghost use Rattle.job.specs.Follow.{may_follow};
 ghost use Rattle.job.specs.Rules.{word_refusal_of, limited, head_refusal, known_refusal, action_refusal, law_refusal, formula_shape, formula_range, formula_refusal, node_shape, node_range, node_refusal, member_refusal, condition_shape, condition_range, condition_refusal, shift_window_refusal, group_refusal, group_member_refusal};
@@ -14,36 +14,26 @@ use words::{
     LAW, MEMBER, MEMBERS, NODE, NODES, SHIFT_WINDOW, forms,
 };
 
-pub fn word_refusal_of(shape: bool, range: bool, fresh: bool) -> u32
-    ensures { result ≡ word_refusal_of shape range fresh }
+// The number of a word's refusal, if it is refused: by its shape, else by its range, else because it is listed twice.
+pub fn word_refusal_of(shape: bool, range: bool, fresh: bool) -> Option<u32>
+    ensures { result ≡ if_any (word_refusal_of shape range fresh) }
 {
-    if shape {
-        if range {
-            if fresh { 0 } else { JOB_FLUENT_TWICE }
-        } else {
-            JOB_VALUE
-        }
+    if !shape {
+        Some(JOB_SHAPE)
+    } else if !range {
+        Some(JOB_VALUE)
+    } else if !fresh {
+        Some(JOB_FLUENT_TWICE)
     } else {
-        JOB_SHAPE
+        None
     }
 }
 
-pub fn pick_count(t: bool, a: usize, b: usize) -> usize
+// Whichever of two values a test picks, without a branch in the caller.
+pub fn pick<T: Copy>(t: bool, a: T, b: T) -> T
     ensures { result ≡ cond t a b }
 {
     if t { a } else { b }
-}
-
-pub fn pick_word(t: bool, a: u32, b: u32) -> u32
-    ensures { result ≡ cond t a b }
-{
-    if t { a } else { b }
-}
-
-pub fn one_if(t: bool) -> usize
-    ensures { (result ≡ indicator t) × (result ≤ 1) }
-{
-    if t { 1 } else { 0 }
 }
 
 // Whether a word of kind `k` may stand directly after `v`.
@@ -66,8 +56,8 @@ pub fn may_follow(k: u32, v: u32) -> bool
     }
 }
 
-pub fn head(w: u32) -> u32
-    ensures { result ≡ head_refusal w }
+pub fn head(w: u32) -> Option<u32>
+    ensures { result ≡ if_any (head_refusal w) }
 {
     let shape = words::head_shape(w);
     let fluents = words::fluents_of(w);
@@ -81,24 +71,24 @@ pub fn head(w: u32) -> u32
 }
 
 // The words that list a fluent: whether it is the job's.
-pub fn known(head: u32, listed: bool, w: u32) -> u32
-    ensures { result ≡ known_refusal head listed w }
+pub fn known(head: u32, listed: bool, w: u32) -> Option<u32>
+    ensures { result ≡ if_any (known_refusal head listed w) }
 {
     let spare = words::known_spare(head, w);
     let range = words::fluent_of(head, w) < words::fluents_of(head);
     word_refusal_of(spare, range, !listed)
 }
 
-pub fn law(head: u32, listed: bool, w: u32) -> u32
-    ensures { result ≡ law_refusal head listed w }
+pub fn law(head: u32, listed: bool, w: u32) -> Option<u32>
+    ensures { result ≡ if_any (law_refusal head listed w) }
 {
     let spare = words::law_spare(head, w);
     let range = words::fluent_of(head, w) < words::fluents_of(head);
     word_refusal_of(spare, range, !listed)
 }
 
-pub fn action(actions: usize, w: u32) -> u32
-    ensures { result ≡ action_refusal actions w }
+pub fn action(actions: usize, w: u32) -> Option<u32>
+    ensures { result ≡ if_any (action_refusal actions w) }
 {
     let spare = words::action_spare(w);
     let range = (words::action_number(w) == actions) & (1 <= words::duration_of(w));
@@ -106,8 +96,8 @@ pub fn action(actions: usize, w: u32) -> u32
 }
 
 // A word of a kind of which there are at most `most`.
-fn limited_to(most: usize, count: usize, shape: bool, range: bool) -> u32
-    ensures { result ≡ limited most count shape range }
+fn limited_to(most: usize, count: usize, shape: bool, range: bool) -> Option<u32>
+    ensures { result ≡ if_any (limited most count shape range) }
 {
     word_refusal_of(shape, (count < most) & range, true)
 }
@@ -138,8 +128,8 @@ fn formula_range(head: u32, formulas: usize, w: u32) -> bool
         & (!((forms::AND <= f) & (f <= forms::OR)) | (y < formulas))
 }
 
-pub fn formula(head: u32, formulas: usize, w: u32) -> u32
-    ensures { result ≡ formula_refusal head formulas w }
+pub fn formula(head: u32, formulas: usize, w: u32) -> Option<u32>
+    ensures { result ≡ if_any (formula_refusal head formulas w) }
 {
     limited_to(
         FORMULAS,
@@ -182,8 +172,8 @@ fn node_range(actions: usize, formulas: usize, nodes: usize, w: u32) -> bool
         & (!window | (m <= late))
 }
 
-pub fn node(actions: usize, formulas: usize, nodes: usize, w: u32) -> u32
-    ensures { result ≡ node_refusal actions formulas nodes w }
+pub fn node(actions: usize, formulas: usize, nodes: usize, w: u32) -> Option<u32>
+    ensures { result ≡ if_any (node_refusal actions formulas nodes w) }
 {
     limited_to(
         NODES,
@@ -193,8 +183,8 @@ pub fn node(actions: usize, formulas: usize, nodes: usize, w: u32) -> u32
     )
 }
 
-pub fn member(nodes: usize, members: usize, w: u32) -> u32
-    ensures { result ≡ member_refusal nodes members w }
+pub fn member(nodes: usize, members: usize, w: u32) -> Option<u32>
+    ensures { result ≡ if_any (member_refusal nodes members w) }
 {
     let range = words::member_node(w) + 1 < nodes;
     limited_to(MEMBERS, members, words::member_spare(w), range)
@@ -225,8 +215,8 @@ fn condition_range(formulas: usize, members: usize, w: u32) -> bool
         & (!(f <= forms::HOLDS_AFTER) | window)
 }
 
-pub fn condition(formulas: usize, members: usize, conditions: usize, w: u32) -> u32
-    ensures { result ≡ condition_refusal formulas members conditions w }
+pub fn condition(formulas: usize, members: usize, conditions: usize, w: u32) -> Option<u32>
+    ensures { result ≡ if_any (condition_refusal formulas members conditions w) }
 {
     limited_to(
         CONDITIONS,
@@ -236,8 +226,8 @@ pub fn condition(formulas: usize, members: usize, conditions: usize, w: u32) -> 
     )
 }
 
-pub fn shift_window(actions: usize, w: u32) -> u32
-    ensures { result ≡ shift_window_refusal actions w }
+pub fn shift_window(actions: usize, w: u32) -> Option<u32>
+    ensures { result ≡ if_any (shift_window_refusal actions w) }
 {
     let spare = words::shift_window_spare(w);
     let range = (words::shift_window_action(w) < actions)
@@ -246,16 +236,16 @@ pub fn shift_window(actions: usize, w: u32) -> u32
 }
 
 // `groups` is the set of those declared.
-pub fn group(groups: u64, w: u32) -> u32
-    ensures { result ≡ group_refusal (has groups (group_number w)) w }
+pub fn group(groups: u64, w: u32) -> Option<u32>
+    ensures { result ≡ if_any (group_refusal (has groups (group_number w)) w) }
 {
     let spare = words::group_spare(w);
     let g = words::group_number(w);
     word_refusal_of(spare, g < words::GROUPS, !bitset::has(groups, g as u32))
 }
 
-pub fn group_member(actions: usize, groups: u64, listed: bool, w: u32) -> u32
-    ensures { result ≡ group_member_refusal actions (has groups (group_number w)) listed w }
+pub fn group_member(actions: usize, groups: u64, listed: bool, w: u32) -> Option<u32>
+    ensures { result ≡ if_any (group_member_refusal actions (has groups (group_number w)) listed w) }
 {
     let spare = words::group_spare(w);
     let g = words::group_number(w);

@@ -1,6 +1,6 @@
 // The words in turn: the refusal of each by the rule of its kind, at what the scan keeps of the words before.
 ghost use Rattle.std.specs.Prelude.{◌||◌, ◌≡◌, ◌+◌, ◌<◌, ◌≤◌, length, get_or};
-ghost use Rattle.answers.specs.Rows.{first_of};
+ghost use Rattle.answers.specs.Rows.{first_of, if_any, RuledBy};
 ghost use Rattle.bitset.specs.Code.Members.{has, IsSetOf};
 ghost use Rattle.job.specs.Parts.{is_group};
 ghost use Rattle.job.specs.Before.{before};
@@ -11,8 +11,8 @@ ghost use Rattle.job.specs.Code.State.{Tied};
 
 use crate::entries::ENTRY_ROWS;
 use crate::names::Names;
-use crate::{NOTHING, SET_NODE, Scanned, State, entries, names, rules};
-use answers::JOB_SHAPE;
+use crate::{NOTHING, SET_NODE, State, entries, names, rules};
+use answers::{JOB_SHAPE, Refusal};
 use words::{
     ACTION, CONDITION, FORMULA, GROUP, GROUP_MEMBER, HEAD, KNOWN, LAW, MEMBER, NODE, SHIFT_WINDOW,
 };
@@ -26,19 +26,19 @@ fn predecessor(job: &[u32], i: usize) -> u32
         return NOTHING;
     }
     let w = job[i - 1];
-    rules::pick_word(words::is_set(w), SET_NODE, words::kind_of(w))
+    rules::pick(words::is_set(w), SET_NODE, words::kind_of(w))
 }
 
-// The refusal of the word at position `i`, by the rule of its kind, at what the scan keeps of the words before it.
-fn word_refusal(job: &[u32], i: usize, s: State, listed: &[u64; ENTRY_ROWS]) -> u32
+// The number of the refusal of the word at position `i`, if it is refused, by the rule of its kind, at what the scan keeps of the words before it.
+fn word_refusal(job: &[u32], i: usize, s: State, listed: &[u64; ENTRY_ROWS]) -> Option<u32>
     requires { (i < length job.now) × Tied (before job.now i) s × Listed (get_or job.now 0 0) (before job.now i) listed.now }
-    ensures { result ≡ refusal_of job.now i }
+    ensures { result ≡ if_any (refusal_of job.now i) }
 {
     let w = job[i];
     let head = job[0];
     let k = words::kind_of(w);
     if !rules::may_follow(k, predecessor(job, i)) {
-        return JOB_SHAPE;
+        return Some(JOB_SHAPE);
     }
     match k {
         HEAD => rules::head(w),
@@ -57,7 +57,7 @@ fn word_refusal(job: &[u32], i: usize, s: State, listed: &[u64; ENTRY_ROWS]) -> 
             entries::is_listed(listed, head, w),
             w,
         ),
-        _ => JOB_SHAPE,
+        _ => Some(JOB_SHAPE),
     }
 }
 
@@ -78,12 +78,12 @@ fn advance(job: &[u32], i: usize, s: State) -> State
 {
     let w = job[i];
     let k = words::kind_of(w);
-    let actions = s.actions + rules::one_if(k == ACTION);
-    let formulas = s.formulas + rules::one_if(k == FORMULA);
-    let nodes = s.nodes + rules::one_if(k == NODE);
-    let members = rules::pick_count(k == NODE, 0, s.members + rules::one_if(k == MEMBER));
-    let conditions = rules::pick_count(k == NODE, 0, s.conditions + rules::one_if(k == CONDITION));
-    let node = rules::pick_word(k == NODE, w, s.node);
+    let actions = s.actions + usize::from(k == ACTION);
+    let formulas = s.formulas + usize::from(k == FORMULA);
+    let nodes = s.nodes + usize::from(k == NODE);
+    let members = rules::pick(k == NODE, 0, s.members + usize::from(k == MEMBER));
+    let conditions = rules::pick(k == NODE, 0, s.conditions + usize::from(k == CONDITION));
+    let node = rules::pick(k == NODE, w, s.node);
     let groups = with_group(s.groups, w);
     let names = names::with_children(s.names, w);
     State {
@@ -98,10 +98,9 @@ fn advance(job: &[u32], i: usize, s: State) -> State
     }
 }
 
-// The words in turn: the first refusal, and the state after all words where there is none.
-pub fn scan_words(job: &[u32]) -> Scanned
-    ensures { (result.refusal ≡ first_of (refusal_of job.now) (length job.now))
-        × (result.refusal.number ≡ 0 → Tied (before job.now (length job.now)) result.state) }
+// The words in turn: the state after all of them, or the first refusal.
+pub fn scan_words(job: &[u32]) -> Result<State, Refusal>
+    ensures { RuledBy (first_of (refusal_of job.now) (length job.now)) (Tied (before job.now (length job.now))) result }
 {
     let mut s = State {
         actions: 0,
@@ -114,17 +113,12 @@ pub fn scan_words(job: &[u32]) -> Scanned
         names: Names { named: 0, again: 0 },
     };
     let mut listed = [0u64; ENTRY_ROWS];
-    let mut i = 0;
-    while i < job.len() {
-        let number = word_refusal(job, i, s, &listed);
-        if number != 0 {
-            let refusal = answers::refuse(number, i);
-            return Scanned { refusal, state: s };
+    for (i, &w) in job.iter().enumerate() {
+        if let Some(number) = word_refusal(job, i, s, &listed) {
+            return Err(answers::refuse(number, i));
         }
         s = advance(job, i, s);
-        entries::list_word(job[0], job[i], &mut listed);
-        i += 1;
+        entries::list_word(job[0], w, &mut listed);
     }
-    let refusal = answers::none();
-    Scanned { refusal, state: s }
+    Ok(s)
 }

@@ -14,52 +14,91 @@ use lib.ListN.{length, get_or, take, drop, drop_of_length-le}
 use lib.Seq.{sets, sets-eq, take-length, drop-drop}
 use Rattle.words.proofs.Scan.{drop-next}
 use Rattle.words.proofs.Copies.{sets_first}
-use Rattle.answers.proofs.Rows.{or_none, or_refused, or_passed, or_assoc, row-none}
+use Rattle.answers.proofs.Rows.{or_none, or_refused, or_passed, or_assoc, row-none, handed_on}
 use Rattle.answers.specs.declared.Refusal.{Refusal}
-use Rattle.answers.specs.declared.Answer.{Answer}
-use Rattle.answers.specs.declared.Answer.TheVariants.{Refused}
-use Rattle.answers.specs.Packed.{answer_of}
-use Rattle.answers.specs.Rows.{refusal, passed, first_refusal}
+use Rattle.std.specs.Prelude.{Result, Ok, Err}
+use Rattle.std.specs.Result.{IsErrAnd}
+use Rattle.answers.specs.declared.Answer.TheVariants.{Accepted, Refused}
+use Rattle.answers.specs.Packed.{answer_of, answered}
+use Rattle.answers.specs.Rows.{refusal, passed, first_refusal, ruled, RuledBy}
 use Rattle.words.specs.Fields.{fact_room}
 use Rattle.job.specs.Parts.{head_word}
 use Rattle.job.specs.Refusal.{job_refusal}
 use Rattle.starts.specs.Rows.{starts_refusal}
 use Rattle.facts.specs.Facts.{facts_of}
 use Rattle.facts.specs.Code.Written.{Filled}
-use Rattle.theory.specs.Answers.{buffer_refusal, fact_room_refusal, plan_refusal, facts_refusal, check_refusal, fill_refusal}
-use Rattle.theory.specs.Code.Judged.{room_checked_of}
+use Rattle.theory.specs.Answers.{buffer_refusal, fact_room_refusal, plan_refusal, facts_refusal, check_refusal, fill_refusal, written}
+use Rattle.theory.specs.Code.Judged.{room_rows}
 use Rattle.theory.specs.Code.Compared.{part_refusal}
 
--- row 12: where it does not fit, the buffer is long enough; where it fits, it is too short, and the answer is 12
-module _ (room : ℕ) {r : Refusal} (is : r ≡ buffer_refusal room) where
-  pub has_room : r.number ≡ 0 → 4096 ≤ room
-  has_room e = ltb-false room 4096 (row-none (ltb room 4096) 12 0 (omega arith) (rw is at e))
+-- row 12: where it does not fit, the buffer is long enough; where it fits, it is too short
+module _ (room : ℕ) where
+  pub has_room : (buffer_refusal room).number ≡ 0 → 4096 ≤ room
+  has_room e = ltb-false room 4096 (row-none (ltb room 4096) 12 0 (omega arith) e)
 
-  pub lacks_room : (r.number ≡ 0 → ⊥) → room < 4096
-  lacks_room n = by_cases (dec_lt room 4096) (λ l. l) (λ g. absurd (n (rw (is, le-ltb room 4096 (omega arith)))))
+  pub lacks_room : ((buffer_refusal room).number ≡ 0 → ⊥) → room < 4096
+  lacks_room n = by_cases (dec_lt room 4096) (λ l. l) (λ g. absurd (n (rw (le-ltb room 4096 (omega arith)))))
 
-  pub answer_short : {a : Answer} → (r.number ≡ 0 → ⊥) → a ≡ answer_of r 0 0 → a ≡ Refused 12 0 0
-  answer_short n e = e ∙ rw (is, lt-ltb room 4096 (lacks_room n))
+-- a refusal that is handed on, by rows that give the same
+pub handed_by : {T : Type 0} (P : T → Type 0) {r s e : Refusal} (result : Result T Refusal) → IsErrAnd result (λ f. f ≡ e) → e ≡ s → (s.number ≡ 0 → ⊥) → s ≡ r
+    → RuledBy r P result
+handed_by P (Ok x) a q n same = absurd a
+handed_by P (Err f) a q n same = (a ∙ q ∙ same, λ z. n (ap (λ (r : Refusal). r.number) same ∙ z))
+
+pub handed_same : {T : Type 0} (x : T) {r s e : Refusal} (result : Result T Refusal) → IsErrAnd result (λ f. f ≡ e) → e ≡ s → (s.number ≡ 0 → ⊥) → s ≡ r
+    → result ≡ ruled r x
+handed_same x result a q n same = handed_on x result a (q ∙ same) (λ z. n (ap (λ (r : Refusal). r.number) same ∙ z))
+
+-- the answer of a call, by what its rows give
+pub answered_ruled : (r : Refusal) (n : ℕ) → answered (ruled r n) ≡ answer_of r n 0
+answered_ruled r n = cases (eqb r.number 0)
+  where
+    cases : (t : Bool) → answered (cond t (Ok n) (Err r)) ≡ cond t (Accepted n 0) (Refused r.number r.position 0)
+    cases true = refl
+    cases false = refl
 
 -- where no row of the job fits, nor row 12 after them, there is room
-pub room_enough : (room : ℕ) (job : List ℕ) → (room_checked_of room job).refusal.number ≡ 0 → ((job_refusal job).number ≡ 0) × (fact_room (head_word job) ≤ room)
+pub room_enough : (room : ℕ) (job : List ℕ) → (room_rows room job).number ≡ 0 → ((job_refusal job).number ≡ 0) × (fact_room (head_word job) ≤ room)
 room_enough room job e =
     let rows = or_none (job_refusal job) (fact_room_refusal room job) e in
     (rows.0, ltb-false room (fact_room (head_word job)) (row-none (ltb room (fact_room (head_word job))) 12 0 (omega arith) rows.1))
 
 -- fill's rows: row 12, those of the job and row 12 again, those of the starts; where none fits, none of the plan's does, and there is room
 module _ (room : ℕ) (job starts : List ℕ) where
-  pub fill_rows_lem : fill_refusal room job starts ≡ first_refusal (buffer_refusal room) (first_refusal (room_checked_of room job).refusal (starts_refusal job starts))
+  pub fill_rows_lem : fill_refusal room job starts ≡ first_refusal (buffer_refusal room) (first_refusal (room_rows room job) (starts_refusal job starts))
   unfolding fill_refusal
   fill_rows_lem = ap (first_refusal (buffer_refusal room)) (or_assoc (job_refusal job) (fact_room_refusal room job) (starts_refusal job starts))
 
-  pub room_plan : (first_refusal (room_checked_of room job).refusal (starts_refusal job starts)).number ≡ 0
+  pub room_plan : (first_refusal (room_rows room job) (starts_refusal job starts)).number ≡ 0
       → ((plan_refusal job starts).number ≡ 0) × (fact_room (head_word job) ≤ room)
   unfolding plan_refusal
   room_plan e =
-      let both = or_none (room_checked_of room job).refusal (starts_refusal job starts) e in
+      let both = or_none (room_rows room job) (starts_refusal job starts) e in
       let rows = room_enough room job both.0 in
       (ap (λ r. r.number) (sym (or_passed (job_refusal job) (starts_refusal job starts) rows.0)) ∙ both.1, rows.1)
+
+  -- the first of them that fits
+  pub short_fill : ((buffer_refusal room).number ≡ 0 → ⊥) → fill_refusal room job starts ≡ buffer_refusal room
+  short_fill n = fill_rows_lem ∙ sym (or_refused (buffer_refusal room) _ n)
+
+  pub job_fill : (buffer_refusal room).number ≡ 0 → ((room_rows room job).number ≡ 0 → ⊥) → fill_refusal room job starts ≡ room_rows room job
+  job_fill z n = fill_rows_lem ∙ sym (or_passed (buffer_refusal room) _ z) ∙ sym (or_refused (room_rows room job) (starts_refusal job starts) n)
+
+  pub plan_fill : (buffer_refusal room).number ≡ 0 → (room_rows room job).number ≡ 0 → fill_refusal room job starts ≡ plan_refusal job starts
+  unfolding plan_refusal
+  plan_fill z e =
+      fill_rows_lem ∙ sym (or_passed (buffer_refusal room) _ z) ∙ sym (or_passed (room_rows room job) (starts_refusal job starts) e)
+      ∙ or_passed (job_refusal job) (starts_refusal job starts) (room_enough room job e).0
+
+-- a job that its rows refuse
+pub by_job : (job starts : List ℕ) → ((job_refusal job).number ≡ 0 → ⊥) → job_refusal job ≡ plan_refusal job starts
+unfolding plan_refusal
+by_job job starts n = or_refused (job_refusal job) (starts_refusal job starts) n
+
+-- a refusal leaves the buffer
+pub refused_leaves : (e : Refusal) (result : Result ℕ Refusal) (words buffer : List ℕ) → IsErrAnd result (λ f. f ≡ e) → buffer ≡ written (answered result) words buffer
+refused_leaves e (Ok n) words buffer a = absurd a
+refused_leaves e (Err f) words buffer a = refl
 
 -- check's rows are those of the plan, and row 11 after them
 pub check_rows_lem : (job starts facts : List ℕ) → check_refusal job starts facts ≡ first_refusal (plan_refusal job starts) (facts_refusal facts (facts_of job starts) 0)
@@ -111,25 +150,39 @@ module _ (given : List ℕ) (i : ℕ) where
   unfolding facts_refusal
   rest_some l = rw (drop-next given i l)
 
--- the comparison of a part, at its word i and the given list's word j: they are the same, or differ, the given list ends, or the part does
-module _ (given part : List ℕ) (j i : ℕ) where
-  pub part_same : j < length given → i < length part → get_or given j 0 ≡ get_or part i 0
-      → part_refusal (drop j given) (drop i part) j ≡ part_refusal (drop (j + 1) given) (drop (i + 1) part) (j + 1)
-  unfolding part_refusal
-  part_same g w e = rw (drop-next given j g, drop-next part i w, eq-eqb _ _ e, add-one j)
+-- the comparison of a part at position `at` of the given list: its first i words are the same
+module _ (given part : List ℕ) (at i : ℕ) where
+  pub record Same : Type 0 where
+    pub inside : at + i ≤ length given
+    pub left : part_refusal (drop at given) part at ≡ part_refusal (drop (at + i) given) (drop i part) (at + i)
 
-  pub part_differs : j < length given → i < length part → (get_or given j 0 ≡ get_or part i 0 → ⊥)
-      → part_refusal (drop j given) (drop i part) j ≡ refusal 11 j
-  unfolding part_refusal
-  part_differs g w e = rw (drop-next given j g, drop-next part i w, ne_eqb _ _ e)
+  -- the word after them is the same, or differs; the given list ends, or the part does
+  module _ (same : Same) where
+    module _ (g : at + i < length given) (w : i < length part) where
+      pub part_differs : (get_or given (at + i) 0 ≡ get_or part i 0 → ⊥) → part_refusal (drop at given) part at ≡ refusal 11 (at + i)
+      unfolding part_refusal
+      part_differs e = same.left ∙ rw (drop-next given (at + i) g, drop-next part i w, ne_eqb _ _ e)
 
-  pub given_ends : length given ≤ j → i < length part → part_refusal (drop j given) (drop i part) j ≡ refusal 11 j
-  unfolding part_refusal
-  given_ends g w = rw (drop_of_length-le given g, drop-next part i w)
+    pub given_ends : length given ≤ at + i → i < length part → part_refusal (drop at given) part at ≡ refusal 11 (at + i)
+    unfolding part_refusal
+    given_ends g w = same.left ∙ rw (drop_of_length-le given g, drop-next part i w)
 
-  pub part_ends : length part ≤ i → part_refusal (drop j given) (drop i part) j ≡ passed
+    pub part_ends : length part ≤ i → part_refusal (drop at given) part at ≡ passed
+    unfolding part_refusal
+    part_ends w = same.left ∙ rw (drop_of_length-le part w)
+
+module _ (given part : List ℕ) (at : ℕ) where
+  pub same_start : at ≤ length given → Same given part at 0
+  same_start l = record { inside = omega arith; left = rw add-zero }
+
+  pub same_more : {i : ℕ} → Same given part at i → at + i < length given → i < length part → get_or given (at + i) 0 ≡ get_or part i 0 → Same given part at (i + 1)
   unfolding part_refusal
-  part_ends w = rw (drop_of_length-le part w)
+  same_more {i} same g w e = record {
+    inside = omega arith;
+    left =
+        let far : at + (i + 1) ≡ at + i + 1 = omega arith in
+        rw far (same.left ∙ rw (drop-next given (at + i) g, drop-next part i w, eq-eqb _ _ e, add-one (at + i)));
+  }
 
 -- row 11 passes exactly the equal list
 pub equal_passes : (facts : List ℕ) (i : ℕ) → facts_refusal facts facts i ≡ passed

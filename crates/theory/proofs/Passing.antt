@@ -5,10 +5,9 @@ use Prim.Native.Nat.{ℕ, ◌≤◌}
 use native.Mathlib.Omega.{arith}
 use borrow.Author.Tests.{eq-eqb}
 use lib.ListN.{length}
-use Rattle.job.specs.declared.Checked.{Checked}
 use Rattle.job.specs.declared.Index.{Index}
 use Rattle.job.specs.Refusal.{job_refusal}
-use Rattle.job.specs.Code.Index.{places_upto, index_upto, checked_of}
+use Rattle.job.specs.Code.Index.{places_upto, index_of}
 use Rattle.words.specs.Fields.{fact_room}
 use Rattle.job.specs.Parts.{head_word, node_count}
 use Rattle.job.specs.Code.Parts.{formula_count}
@@ -24,18 +23,6 @@ use Rattle.theory.specs.Code.Judged.{room_checked_of, JobChecked, PassedUpto}
 use Rattle.theory.specs.declared.Plan.{Plan}
 use Rattle.job.proofs.WordPositions.{placed, positions-count}
 
-pub checked_refusal : (job : List ℕ) (r : Checked) → r ≡ checked_of job → r.refusal ≡ job_refusal job
-unfolding checked_of
-checked_refusal job r is = rw is
-
--- the rows of a job leave this, and so do they with row 12 after them
-pub job_checked : (job : List ℕ) (r : Checked) → r ≡ checked_of job → JobChecked job r
-unfolding checked_of
-job_checked job r is = rw is (record { good = λ e. e; index = refl })
-
-pub room_checked : (room : ℕ) (job : List ℕ) (r : Checked) → r ≡ room_checked_of room job → JobChecked job r
-room_checked room job r is = rw is (record { good = λ e. (or_none (job_refusal job) (fact_room_refusal room job) e).0; index = refl })
-
 -- a plan that passes the rows of its job and its starts: the job is well formed
 pub job_clear : (job starts : List ℕ) → (plan_refusal job starts).number ≡ 0 → (job_refusal job).number ≡ 0
 unfolding plan_refusal
@@ -44,57 +31,27 @@ job_clear job starts clear = (or_none (job_refusal job) (starts_refusal job star
 pub plan_formed : (job starts : List ℕ) → (plan_refusal job starts).number ≡ 0 → WellFormed job
 plan_formed job starts clear = well_formed job (job_clear job starts clear)
 
--- it has passed them whatever refusal stands beside its tables
-abbrev with_refusal : Plan → Refusal → Plan
-with_refusal plan r = record {
-  refusal = r;
-  index = plan.index;
-  durations = plan.durations;
-  ends = plan.ends;
-  effects = plan.effects;
-  shifts = plan.shifts;
-  groups = plan.groups;
-  history = plan.history;
-}
-
-pub passed-still : {job starts : List ℕ} {k : ℕ} {plan : Plan} (r : Refusal) → PassedUpto job starts k plan → PassedUpto job starts k (with_refusal plan r)
-passed-still r h = record {
-  clear = h.clear;
-  index = h.index;
-  durations = h.durations;
-  laws = h.laws;
-  effects = h.effects;
-  shifts = h.shifts;
-  groups = h.groups;
-  history = h.history;
-}
-
 -- it has no more facts than its head lets it have
 pub few_facts : (job starts : List ℕ) → (plan_refusal job starts).number ≡ 0 → length (facts_of job starts) ≤ fact_room (head_word job)
 few_facts job starts clear = facts_fit job starts (plan_formed job starts clear)
 
-module _ (job : List ℕ) {index : Index} (clear : (job_refusal job).number ≡ 0) (is : index ≡ (checked_of job).index) where
+module _ (job : List ℕ) {index : Index} (clear : (job_refusal job).number ≡ 0) (is : index ≡ index_of job) where
   formed : WellFormed job
   formed = well_formed job clear
 
-  -- the index is that of all words
-  whole : index ≡ index_upto job (length job)
-  unfolding checked_of
-  whole = is ∙ rw (eq-eqb (job_refusal job).number 0 clear)
-
   pub actions-indexed : Indexed job 3 index.actions.position
-  actions-indexed = rw whole (placed job 3 (omega (arith, formed.counted, formed.few_actions)))
+  actions-indexed = rw is (placed job 3 (omega (arith, formed.counted, formed.few_actions)))
 
   pub formulas_indexed : Indexed job 5 index.formulas.position
-  formulas_indexed = rw whole (placed job 5 formed.few_formulas)
+  formulas_indexed = rw is (placed job 5 formed.few_formulas)
 
   pub nodes_indexed : Indexed job 6 index.nodes.position
-  nodes_indexed = rw whole (placed job 6 formed.few_nodes)
+  nodes_indexed = rw is (placed job 6 formed.few_nodes)
 
   pub formulas_counted : index.formulas.total ≡ formula_count job
   unfolding places_upto
-  formulas_counted = rw whole (positions-count 5 job (length job))
+  formulas_counted = rw is (positions-count 5 job (length job))
 
   pub nodes_counted : index.nodes.total ≡ node_count job
   unfolding places_upto
-  nodes_counted = rw whole (positions-count 6 job (length job))
+  nodes_counted = rw is (positions-count 6 job (length job))

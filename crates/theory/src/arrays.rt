@@ -13,25 +13,18 @@ use words::last_of;
 // Returns the procedure and the trajectory of a plan that passed, as arrays.
 // It is not inlined, so that its tables are on the stack while it runs, and not all the time that its caller does.
 #[inline(never)]
-pub fn arrays_of(job: &[u32], starts: &[u32], plan: Plan) -> Arrays
-    requires { Passed job.now starts.now plan }
+pub fn arrays_of(job: &[u32], starts: &[u32], plan: &Plan) -> Arrays
+    requires { Passed job.now starts.now plan.now }
     ensures { Represents job.now result (procedure_of job.now) (plan_trajectory job.now starts.now) }
 {
-    let index = plan.index;
-    let formulas = index.formulas;
-    let nodes = index.nodes;
-    let sources = formulas.position;
-    let places = nodes.position;
-    let durations = plan.durations;
-    let last = last_of(job[0]);
-    let values = standard_values(job, &sources, formulas.total, &plan.history);
-    let moments = start_moments(starts);
+    let formulas = &plan.index.formulas;
+    let nodes = &plan.index.nodes;
     Arrays {
         count: nodes.total,
-        last,
-        places,
-        starts: moments,
-        durations,
-        values,
+        last: last_of(job[0]),
+        places: nodes.position,
+        starts: start_moments(starts),
+        durations: plan.durations,
+        values: standard_values(job, &formulas.position, formulas.total, &plan.history),
     }
 }

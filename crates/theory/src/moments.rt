@@ -11,10 +11,7 @@ pub fn start_moments(starts: &[u32]) -> [u64; ACTIONS]
     ensures { (a t : ℕ) → has (get_or result a 0) t ≡ any (is_start_of a t) starts.now }
 {
     let mut moments = [0u64; ACTIONS];
-    let mut i = starts.len();
-    while 0 < i {
-        i -= 1;
-        let s = starts[i];
+    for &s in starts.iter().rev() {
         let a = start_action(s);
         let at = bitset::single(start_moment(s) as u32);
         moments[a] = bitset::union(moments[a], at);

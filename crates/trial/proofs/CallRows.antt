@@ -1,46 +1,32 @@
 -- The rows of the four calls, and what they leave in the lent words. Assumes nothing.
 use mathlib.Core.Bool.{Bool, true, false, cond}
 use mathlib.Core.List.{List}
+use mathlib.Core.Logic.{by_cases}
 use mathlib.Core.Path.{◌≡◌, refl, ap, sym, ◌∙◌}
 use Prim.Native.Nat.{ℕ, ◌≤◌, ◌<◌}
+use native.Mathlib.Decide.{dec_lt}
 use native.Mathlib.Omega.{arith}
-use borrow.Author.Tests.{lt-ltb, le-ltb, ne_eqb}
-use lib.Dec.{eqb}
+use borrow.Author.Tests.{lt-ltb, le-ltb}
+use lib.Dec.{eqb, ltb}
 use lib.ListN.{length}
+use Rattle.std.specs.Prelude.{Result, Ok, Err}
+use Rattle.std.specs.Result.{IsErrAnd}
 use Rattle.answers.specs.declared.Refusal.{Refusal}
-use Rattle.answers.specs.declared.Answer.{Answer}
+use Rattle.answers.specs.Packed.{answered}
 use Rattle.answers.specs.Rows.{refusal, passed, first_refusal}
-use Rattle.answers.specs.Packed.{answer_of}
-use Rattle.answers.proofs.Rows.{or_none, or_assoc, answer_refused}
-use Rattle.job.specs.declared.Checked.{Checked}
-use Rattle.job.specs.Code.Index.{checked_of}
+use Rattle.answers.proofs.Rows.{or_none, or_refused, or_passed, or_assoc}
 use Rattle.job.specs.Refusal.{job_refusal}
-use Rattle.theory.specs.Answers.{buffer_refusal, fact_room_refusal, written}
-use Rattle.theory.specs.Code.Judged.{room_checked_of}
-use Rattle.theory.proofs.Passing.{checked_refusal}
+use Rattle.theory.specs.Answers.{buffer_refusal, fact_room_refusal}
+use Rattle.theory.specs.Code.Judged.{room_rows}
 use Rattle.moves.specs.Trials as trials
-use Rattle.moves.specs.Trials.{Move, fresh, move_refusal, after}
-use Rattle.moves.specs.Calls.{trial_in, begin_answer, move_answer, shown_facts, show_answer, handed_back}
-use Rattle.trial.specs.declared.Trial.{Trial}
-use Rattle.trial.specs.declared.Moved.{Moved}
-use Rattle.trial.specs.Stepped.{trial_of, Stepped, show_answer_of}
-
--- a last row that does not fit leaves the answer
-answer_last : (r : Refusal) (l c : ℕ) → answer_of r l c ≡ answer_of (first_refusal r passed) l c
-answer_last r l c = cases (eqb r.number 0) refl
-  where
-    cases : (t : Bool) → eqb r.number 0 ≡ t → answer_of r l c ≡ answer_of (cond t passed r) l c
-    cases true e = rw e
-    cases false e = refl
+use Rattle.moves.specs.Trials.{Move, trial_refusal, move_refusal}
+use Rattle.moves.specs.Calls.{trial_in, handed_back}
+use Rattle.trial.specs.Code.Given.{shown_refusal}
+use Rattle.trial.specs.Code.Called.{short_rows, begin_rows, move_rows, show_rows}
 
 -- words too few for a trial are refused, whatever rows come before
 never_short : (rows : Refusal) → (first_refusal rows (refusal 14 0)).number ≡ 0 → ⊥
 never_short rows z = let p = or_none rows (refusal 14 0) z in let q : ◌≡◌ {A = ℕ} 14 0 = p.1 in omega arith
-
--- those of the job
-pub after-job : (job : List ℕ) (checked : Checked) → checked ≡ checked_of job → {r : Refusal} → r ≡ first_refusal checked.refusal (refusal 14 0)
-    → r ≡ first_refusal (job_refusal job) (refusal 14 0)
-after-job job checked is e = e ∙ ap (λ (r : Refusal). first_refusal r (refusal 14 0)) (checked_refusal job checked is)
 
 -- the job's row a second time says nothing new
 same_first : (a b : Refusal) → first_refusal a b ≡ first_refusal a (first_refusal a b)
@@ -50,58 +36,82 @@ same_first a b = cases (eqb a.number 0)
     cases true = refl
     cases false = refl
 
-module _ (job words : List ℕ) {r : Answer} where
-  -- few words: the job's refusal or 14, and nothing is written
-  module _ (short : length words < 4098) (is : r ≡ answer_of (first_refusal (job_refusal job) (refusal 14 0)) 0 0) where
-    short_left : (T : trials.Trial) → words ≡ handed_back r T words
-    short_left T = rw (is, ne_eqb _ 0 (never_short (job_refusal job)))
+-- a last row that does not fit
+last_none : (r : Refusal) → r.number ≡ 0 → first_refusal r passed ≡ passed
+last_none r z = sym (or_passed r passed z)
 
-    pub short_begin : (r ≡ begin_answer (length words) job) × (words ≡ handed_back r fresh words)
-    unfolding begin_answer
-    short_begin = (is ∙ rw (lt-ltb (length words) 4098 short), short_left fresh)
+module _ (job words : List ℕ) where
+  -- few words: the job's refusal or 14
+  module _ (short : length words < 4098) where
+    pub short_job : ((job_refusal job).number ≡ 0 → ⊥) → job_refusal job ≡ short_rows job words
+    short_job n = or_refused (job_refusal job) (refusal 14 0) n ∙ rw (lt-ltb (length words) 4098 short)
 
-    pub short_move : (m : Move) → (r ≡ move_answer job words m) × (words ≡ handed_back r (after job (trial_in words) m) words)
-    unfolding move_answer
-    short_move m = (is ∙ rw (lt-ltb (length words) 4098 short), short_left (after job (trial_in words) m))
+    pub short_words : (job_refusal job).number ≡ 0 → refusal 14 0 ≡ short_rows job words
+    short_words z = or_passed (job_refusal job) (refusal 14 0) z ∙ rw (lt-ltb (length words) 4098 short)
 
-  -- enough words: what the method handed back
-  module _ (room : 4098 ≤ length words) (M : Moved) (is : r ≡ answer_of M.refusal 0 0) {left : List ℕ} (put : left ≡ handed_back r (trial_of M.trial) words) where
-    pub begun : M.refusal ≡ job_refusal job → trial_of M.trial ≡ fresh → (r ≡ begin_answer (length words) job) × (left ≡ handed_back r fresh words)
-    unfolding begin_answer
-    begun e f = (
-      is ∙ ap (λ (x : Refusal). answer_of x 0 0) e ∙ answer_last (job_refusal job) 0 0 ∙ rw (le-ltb (length words) 4098 room),
-      put ∙ ap (λ (T : trials.Trial). handed_back r T words) f,
-    )
+    pub short_begin : (job_refusal job).number ≡ 0 → refusal 14 0 ≡ begin_rows (length words) job
+    short_begin z = or_passed (job_refusal job) (refusal 14 0) z ∙ rw (lt-ltb (length words) 4098 short)
 
-    pub stepped : {t : Trial} {m : Move} → Stepped job t m M → trial_of t ≡ trial_in words
-        → (r ≡ move_answer job words m) × (left ≡ handed_back r (after job (trial_in words) m) words)
-    unfolding move_answer move_refusal
-    stepped {t} {m} h said = (
-      is ∙ ap (λ (x : Refusal). answer_of x 0 0) h.refusal ∙ ap (λ (T : trials.Trial). answer_of (move_refusal job T m) 0 0) said
-          ∙ ap (λ (x : Refusal). answer_of x 0 0) (same_first (job_refusal job) _) ∙ rw (le-ltb (length words) 4098 room),
-      put ∙ ap (λ (T : trials.Trial). handed_back r T words) h.trial ∙ ap (λ (T : trials.Trial). handed_back r (after job T m) words) said,
-    )
+    pub short_show : (room : ℕ) → (buffer_refusal room).number ≡ 0 → (room_rows room job).number ≡ 0 → refusal 14 0 ≡ show_rows room job words
+    short_show room b z =
+        let e = or_none (job_refusal job) (fact_room_refusal room job) z in
+        or_passed (fact_room_refusal room job) (refusal 14 0) e.1 ∙ or_passed (job_refusal job) _ e.0 ∙ or_passed (buffer_refusal room) _ b ∙ rw (lt-ltb (length words) 4098 short)
 
--- showing
-module _ (job words buffer : List ℕ) {r : Answer} where
-  pub short_show : length words < 4098
-      → r ≡ answer_of (first_refusal (buffer_refusal (length buffer)) (first_refusal (room_checked_of (length buffer) job).refusal (refusal 14 0))) 0 0
-      → (r ≡ show_answer (length buffer) job words) × (buffer ≡ written r (shown_facts job (trial_in words)) buffer)
-  unfolding show_answer
-  short_show short is =
-      let first = buffer_refusal (length buffer) in
-      let rows = (room_checked_of (length buffer) job).refusal in
-      let never : (first_refusal first (first_refusal rows (refusal 14 0))).number ≡ 0 → ⊥ = λ z. never_short rows (or_none first _ z).1 in (
-        is ∙ answer_refused _ 0 0 (length (shown_facts job (trial_in words))) 0 never
-            ∙ ap (λ (x : Refusal). answer_of (first_refusal first x) (length (shown_facts job (trial_in words))) 0) (sym (or_assoc (job_refusal job) (fact_room_refusal (length buffer) job) (refusal 14 0)))
-            ∙ rw (lt-ltb (length words) 4098 short),
-        rw (is, ne_eqb _ 0 never),
-      )
+  pub enough_clear : 4098 ≤ length words → (short_rows job words).number ≡ 0
+  enough_clear l = rw (le-ltb (length words) 4098 l)
 
-  pub shown : 4098 ≤ length words → (t : Trial) → trial_of t ≡ trial_in words → r ≡ show_answer_of (length buffer) job (trial_of t) → {left : List ℕ}
-      → left ≡ written r (shown_facts job (trial_of t)) buffer → (r ≡ show_answer (length buffer) job words) × (left ≡ written r (shown_facts job (trial_in words)) buffer)
-  unfolding show_answer show_answer_of
-  shown room t said is put = (
-    is ∙ ap (λ (T : trials.Trial). show_answer_of (length buffer) job T) said ∙ rw (le-ltb (length words) 4098 room),
-    put ∙ ap (λ (T : trials.Trial). written r (shown_facts job T) buffer) said,
-  )
+  pub enough_words : (short_rows job words).number ≡ 0 → 4098 ≤ length words
+  enough_words z = by_cases (dec_lt (length words) 4098) (λ l. absurd (never_short (job_refusal job) (rw (lt-ltb (length words) 4098 l) at z))) (λ g. omega arith)
+
+  -- the rows of a move: those before it, or its own
+  module _ (m : Move) where
+    pub lent_refused : ((short_rows job words).number ≡ 0 → ⊥) → short_rows job words ≡ move_rows job words m
+    lent_refused = cases (ltb (length words) 4098)
+      where
+        cases : (t : Bool) → ((cond t (first_refusal (job_refusal job) (refusal 14 0)) passed).number ≡ 0 → ⊥)
+            → cond t (first_refusal (job_refusal job) (refusal 14 0)) passed
+            ≡ first_refusal (job_refusal job) (first_refusal (cond t (refusal 14 0) passed) (move_refusal job (trial_in words) m))
+        cases true n = refl
+        cases false n = absurd (n refl)
+
+    pub lent_passed : (short_rows job words).number ≡ 0 → move_refusal job (trial_in words) m ≡ move_rows job words m
+    unfolding move_refusal
+    lent_passed = cases (ltb (length words) 4098)
+      where
+        cases : (t : Bool) → (cond t (first_refusal (job_refusal job) (refusal 14 0)) passed).number ≡ 0
+            → move_refusal job (trial_in words) m
+            ≡ first_refusal (job_refusal job) (first_refusal (cond t (refusal 14 0) passed) (move_refusal job (trial_in words) m))
+        cases true z = absurd (never_short (job_refusal job) z)
+        cases false z = same_first (job_refusal job) _
+
+  pub enough_begin : 4098 ≤ length words → (job_refusal job).number ≡ 0 → (begin_rows (length words) job).number ≡ 0
+  enough_begin l z = rw (le-ltb (length words) 4098 l, last_none (job_refusal job) z)
+
+  pub enough_show : 4098 ≤ length words → (room : ℕ) → shown_refusal room job (trial_in words) ≡ show_rows room job words
+  enough_show l room = rw (le-ltb (length words) 4098 l)
+
+-- the rows on showing a trial: the first that fits
+module _ (room : ℕ) (job : List ℕ) (T : trials.Trial) where
+  pub shown_short : ((buffer_refusal room).number ≡ 0 → ⊥) → buffer_refusal room ≡ shown_refusal room job T
+  shown_short n = or_refused (buffer_refusal room) _ n
+
+  module _ (b : (buffer_refusal room).number ≡ 0) where
+    pub shown_job : ((room_rows room job).number ≡ 0 → ⊥) → room_rows room job ≡ shown_refusal room job T
+    shown_job n = or_refused (room_rows room job) (trial_refusal job T) n ∙ sym (or_assoc (job_refusal job) _ (trial_refusal job T)) ∙ or_passed (buffer_refusal room) _ b
+
+    pub shown_trial : (room_rows room job).number ≡ 0 → trial_refusal job T ≡ shown_refusal room job T
+    shown_trial z =
+        let e = or_none (job_refusal job) (fact_room_refusal room job) z in
+        or_passed (fact_room_refusal room job) (trial_refusal job T) e.1 ∙ or_passed (job_refusal job) _ e.0 ∙ or_passed (buffer_refusal room) _ b
+
+  module _ (words : List ℕ) where
+    pub show_short : ((buffer_refusal room).number ≡ 0 → ⊥) → buffer_refusal room ≡ show_rows room job words
+    show_short n = or_refused (buffer_refusal room) _ n
+
+    pub show_job : (buffer_refusal room).number ≡ 0 → ((room_rows room job).number ≡ 0 → ⊥) → room_rows room job ≡ show_rows room job words
+    show_job b n = or_refused (room_rows room job) _ n ∙ sym (or_assoc (job_refusal job) _ _) ∙ or_passed (buffer_refusal room) _ b
+
+-- a refusal leaves the words
+pub refused_keeps_words : (e : Refusal) (result : Result ℕ Refusal) (T : trials.Trial) (words : List ℕ) → IsErrAnd result (λ f. f ≡ e) → words ≡ handed_back (answered result) T words
+refused_keeps_words e (Ok n) T words a = absurd a
+refused_keeps_words e (Err f) T words a = refl

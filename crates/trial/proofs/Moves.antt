@@ -1,11 +1,10 @@
 -- What a move hands back: the trial with a start more, and the refusal row after row. Assumes nothing.
 use mathlib.Core.List.{List}
 use mathlib.Core.Path.{◌≡◌, refl, ap, sym, ◌∙◌}
-use Prim.Native.Nat.{ℕ, ◌+◌, ◌<◌}
+use Prim.Native.Nat.{ℕ, ◌+◌, ◌<◌, ◌≤◌}
 use native.Mathlib.Numerals.{add-one}
 use native.Mathlib.Omega.{arith}
-use borrow.Author.Tests.{eq-eqb, leb-false}
-use lib.Dec.{leb}
+use borrow.Author.Tests.{eq-eqb, le-leb, lt-leb}
 use lib.ListN.{length, take}
 use lib.Seq.{sets, length-sets, length-take-le}
 use Rattle.words.specs.Fields.{start_word}
@@ -14,23 +13,22 @@ use Rattle.words.proofs.Copies.{sets_first}
 use Rattle.words.proofs.Lists.{first_words-take}
 use Rattle.words.proofs.Insert.{insert-length}
 use Rattle.answers.specs.declared.Refusal.{Refusal}
-use Rattle.answers.specs.Rows.{row, first_refusal}
-use Rattle.answers.proofs.Rows.{or_assoc, or_refused, or_passed, row-none}
-use Rattle.job.specs.declared.Checked.{Checked}
+use Rattle.answers.specs.Rows.{refusal, passed}
+use Rattle.answers.proofs.Rows.{or_refused, or_passed}
 use Rattle.job.specs.Parts.{last_moment}
 use Rattle.job.specs.Refusal.{job_refusal}
-use Rattle.job.specs.Code.Index.{checked_of}
 use Rattle.job.specs.Code.WellFormed.{WellFormed}
 use Rattle.facts.specs.Facts.{facts_upto}
-use Rattle.theory.specs.declared.Plan.{Plan}
+use Rattle.moves.specs.Trials as trials
 use Rattle.moves.specs.Trials.{Move, Start, On, trial_refusal, start_refusal, on_refusal, own_refusal, move_refusal, moved, after}
 use Rattle.moves.specs.Calls.{shown_facts}
 use Rattle.moves.proofs.Played.{named}
 use Rattle.moves.proofs.Shown.{refused-keeps}
 use Rattle.trial.specs.declared.Trial.{Trial}
 use Rattle.trial.specs.Stepped.{trial_of, Stepped, Sized}
-use Rattle.trial.specs.Code.Given.{TrialJudged, WithWord}
-use Rattle.trial.proofs.Judging.{trial_rows, starts_taken}
+use Rattle.trial.specs.Code.Given.{WithWord}
+use Rattle.trial.proofs.Judging.{starts_taken}
+use Rattle.trial.proofs.None.{no_move}
 
 -- a word put into the words in front of an array
 module _ (t : Trial) (w : ℕ) (s : Sized t) (room : t.length < 4096) {next : List ℕ}
@@ -46,33 +44,37 @@ module _ (t : Trial) (w : ℕ) (s : Sized t) (room : t.length < 4096) {next : Li
       first_words-take (t.length + 1) next (omega (arith, put_size))
       ∙ rw (put, ← more) (sets_first t.starts (insert w (take t.length t.starts)) (omega (arith, more, s.size)))
 
--- the rows before the move's own refuse, or leave it to them
-module _ (job : List ℕ) (t : Trial) (m : Move) {checked : Checked} {plan : Plan} (is : checked ≡ checked_of job) (judged : TrialJudged checked.refusal job t plan) where
-  then_own : first_refusal plan.refusal (own_refusal job (trial_of t) m) ≡ move_refusal job (trial_of t) m
+-- the first row on a move that fits: of the job, of the trial, or the move's own
+module _ (job : List ℕ) (T : trials.Trial) (m : Move) where
+  pub by_job : ((job_refusal job).number ≡ 0 → ⊥) → job_refusal job ≡ move_refusal job T m
   unfolding move_refusal
-  then_own = rw (trial_rows job t checked is judged) (sym (or_assoc (job_refusal job) (trial_refusal job (trial_of t)) (own_refusal job (trial_of t) m)))
+  by_job n = or_refused (job_refusal job) _ n
 
-  pub early_refused : (plan.refusal.number ≡ 0 → ⊥) → plan.refusal ≡ move_refusal job (trial_of t) m
-  early_refused never = or_refused plan.refusal (own_refusal job (trial_of t) m) never ∙ then_own
+  module _ (good : (job_refusal job).number ≡ 0) where
+    pub by_trial : ((trial_refusal job T).number ≡ 0 → ⊥) → trial_refusal job T ≡ move_refusal job T m
+    unfolding move_refusal
+    by_trial n = or_refused (trial_refusal job T) (own_refusal job T m) n ∙ or_passed (job_refusal job) _ good
 
-  pub own_next : plan.refusal.number ≡ 0 → own_refusal job (trial_of t) m ≡ move_refusal job (trial_of t) m
-  own_next z = or_passed plan.refusal (own_refusal job (trial_of t) m) z ∙ then_own
+    pub by_own : (trial_refusal job T).number ≡ 0 → own_refusal job T m ≡ move_refusal job T m
+    unfolding move_refusal
+    by_own z = or_passed (trial_refusal job T) (own_refusal job T m) z ∙ or_passed (job_refusal job) _ good
 
 -- a refused move, and an accepted one
-module _ (job : List ℕ) (t : Trial) (m : Move) {r : Refusal} (is : r ≡ move_refusal job (trial_of t) m) where
-  pub stepped_refused : (r.number ≡ 0 → ⊥) → Stepped job t m (record { refusal = r; trial = t })
-  stepped_refused never = record {
-    refusal = is;
-    trial = sym (refused-keeps job (trial_of t) m (λ z. never (ap (λ (r : Refusal). r.number) is ∙ z)));
-    same = λ z. refl;
-  }
+module _ (job : List ℕ) (t : Trial) (m : Move) where
+  pub stepped_refused : {r : Refusal} → r ≡ move_refusal job (trial_of t) m → ((move_refusal job (trial_of t) m).number ≡ 0 → ⊥)
+      → Stepped job t m (record { refusal = r; trial = t })
+  stepped_refused is never = record { refusal = is; trial = sym (refused-keeps job (trial_of t) m never); same = λ z. refl }
 
-  pub stepped_moved : r.number ≡ 0 → {t' : Trial} → trial_of t' ≡ moved (trial_of t) m → Stepped job t m (record { refusal = r; trial = t' })
+  pub after_moved : (move_refusal job (trial_of t) m).number ≡ 0 → (t' : Trial) → trial_of t' ≡ moved (trial_of t) m → trial_of t' ≡ after job (trial_of t) m
   unfolding after
-  stepped_moved z e = record {
-    refusal = is;
-    trial = e ∙ rw (eq-eqb (move_refusal job (trial_of t) m).number 0 (ap (λ (r : Refusal). r.number) (sym is) ∙ z));
-    same = λ never. absurd (never z);
+  after_moved z t' e = e ∙ rw (eq-eqb (move_refusal job (trial_of t) m).number 0 z)
+
+  pub stepped_moved : {r : Refusal} → r ≡ passed → (move_refusal job (trial_of t) m).number ≡ 0 → (t' : Trial) → trial_of t' ≡ moved (trial_of t) m
+      → Stepped job t m (record { refusal = r; trial = t' })
+  stepped_moved {r} is z t' e = record {
+    refusal = is ∙ sym (no_move job (trial_of t) m z);
+    trial = after_moved z t' e;
+    same = λ never. absurd (never (ap (λ (r : Refusal). r.number) is));
   }
 
 -- the two moves, by the words in the array
@@ -81,9 +83,8 @@ module _ (job : List ℕ) (t : Trial) (s : Sized t) where
   taken = starts_taken t s.size s.few
 
   module _ (a : ℕ) where
-    pub own_start : {r : Refusal} → r ≡ start_refusal job (record { moment = t.moment; starts = take t.length t.starts }) a
-        → r ≡ own_refusal job (trial_of t) (Start a)
-    own_start e = e ∙ ap (λ (S : List ℕ). start_refusal job (record { moment = t.moment; starts = S }) a) (sym taken)
+    pub own_start : start_refusal job (record { moment = t.moment; starts = take t.length t.starts }) a ≡ own_refusal job (trial_of t) (Start a)
+    own_start = ap (λ (S : List ℕ). start_refusal job (record { moment = t.moment; starts = S }) a) (sym taken)
 
     pub named_start : WellFormed job → (start_refusal job (record { moment = t.moment; starts = take t.length t.starts }) a).number ≡ 0 → a < 64
     named_start formed z =
@@ -92,12 +93,14 @@ module _ (job : List ℕ) (t : Trial) (s : Sized t) where
     pub moved-start : {w : ℕ} {r : Trial} → w ≡ start_word t.moment a → WithWord t w r → trial_of r ≡ moved (trial_of t) (Start a)
     moved-start e h = h.trial ∙ rw (e, taken)
 
-  pub own_on : {n : ℕ} {r : Refusal} → n ≡ last_moment job → r ≡ row (leb n t.moment) 14 0 → r ≡ own_refusal job (trial_of t) On
+  -- going on: refused at the last moment, or not
+  pub own_late : last_moment job ≤ t.moment → refusal 14 0 ≡ own_refusal job (trial_of t) On
   unfolding on_refusal
-  own_on e is = is ∙ rw e
+  own_late l = rw (le-leb (last_moment job) t.moment l)
 
-  pub before_last : {n : ℕ} {r : Refusal} → r ≡ row (leb n t.moment) 14 0 → r.number ≡ 0 → t.moment < n
-  before_last {n} is z = leb-false _ _ (row-none (leb n t.moment) 14 0 (omega arith) (ap (λ (r : Refusal). r.number) (sym is) ∙ z))
+  pub own_on : t.moment < last_moment job → (own_refusal job (trial_of t) On).number ≡ 0
+  unfolding on_refusal
+  own_on l = rw (lt-leb (last_moment job) t.moment l)
 
   pub facts_shown : facts_upto job (take t.length t.starts) t.moment ≡ shown_facts job (trial_of t)
   facts_shown = rw taken

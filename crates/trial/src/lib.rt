@@ -1,24 +1,24 @@
 // A trial by value: a plan stepped by hand. A move takes the trial and hands it back, with its refusal beside it.
 #![tactic(auto)]
 
-ghost use Rattle.std.specs.Prelude.{◌≡◌, ◌<◌, ltb, length, take};
+ghost use Rattle.std.specs.Prelude.{◌≡◌, ◌<◌, ltb, length};
 ghost use Rattle.words.specs.Fields.{start_moment};
-ghost use Rattle.words.specs.Lists.{Pairs};
 ghost use Rattle.words.specs.Scan.{any};
-ghost use Rattle.answers.specs.Rows.{refusal_at};
+ghost use Rattle.answers.specs.Rows.{ruled};
+ghost use Rattle.answers.specs.Packed.{answered};
 ghost use Rattle.job.specs.Refusal.{job_refusal};
 ghost use Rattle.theory.specs.Answers.{written};
 ghost use Rattle.theory.specs.Code.Judged.{JobChecked};
 ghost use Rattle.moves.specs.Trials.{Start, On, fresh};
 ghost use Rattle.moves.specs.Calls.{shown_facts};
 ghost use Rattle.trial.specs.Stepped.{trial_of, Stepped, Sized, Storable, show_answer_of};
-ghost use Rattle.trial.specs.Code.Given.{Measured, TrialJudged, WithWord};
+ghost use Rattle.trial.specs.Code.Given.{Measured, TrialJudged, Extendable, WithWord, NewStart, NextMoment, shown_refusal};
 
-use answers::{Answer, Refusal, TRIAL_BOUNDS, answer_of, none, refuse, row_of};
+use answers::{Answer, Refusal, TRIAL_BOUNDS, answered, none, refuse};
 use applicable::start_refusal;
 use facts::fill_upto;
-use job::{Checked, check_job};
-use theory::{Plan, buffer_refusal, check_job_and_room, judge_starts, refused};
+use job::{Index, check_job};
+use theory::{Plan, buffer_refusal, check_job_and_room, judge_starts};
 use words::{MOST_STARTS, insert_word, last_of, start_moment, start_word};
 
 pub mod calls;
@@ -31,36 +31,29 @@ pub struct Trial {
     pub starts: [u32; MOST_STARTS],
 }
 
-// What a move hands back.
+// What a move hands back: docs/CONTRACTS.md names both fields, since a refused move hands back its trial too.
 #[derive(Clone, Copy)]
 pub struct Moved {
     pub refusal: Refusal,
     pub trial: Trial,
 }
 
-// Returns a refusal with the same number at position 0.
-fn at_zero(refusal: Refusal) -> Refusal
-    ensures { result ≡ refusal_at 0 refusal.number }
-{
-    if refusal.number == 0 {
-        none()
-    } else {
-        refuse(refusal.number, 0)
-    }
-}
-
 // Returns whether a word of the starts has a moment after `u`.
 fn some_later(starts: &[u32], u: usize) -> bool
     ensures { result ≡ any (λ s. ltb u (start_moment s)) starts.now }
 {
-    let mut i = 0;
-    while i < starts.len() {
-        if u < start_moment(starts[i]) {
-            return true;
-        }
-        i += 1;
+    starts.iter().any(|&s| u < start_moment(s))
+}
+
+// Returns a trial at moment 0, of no starts.
+fn new_trial() -> Trial
+    ensures { (trial_of result ≡ fresh) × Sized result }
+{
+    Trial {
+        moment: 0,
+        length: 0,
+        starts: [0u32; MOST_STARTS],
     }
-    false
 }
 
 impl Trial {
@@ -69,71 +62,79 @@ impl Trial {
         ensures refusal_value { (result.refusal ≡ job_refusal job.now) × (trial_of result.trial ≡ fresh) }
         ensures storable { Storable result }
     {
-        let checked = check_job(job);
-        let refusal = checked.refusal;
-        let starts = [0u32; MOST_STARTS];
-        let trial = Trial {
-            moment: 0,
-            length: 0,
-            starts,
-        };
-        Moved { refusal, trial }
+        let trial = new_trial();
+        match check_job(job) {
+            Ok(_) => Moved {
+                refusal: none(),
+                trial,
+            },
+            Err(refusal) => Moved { refusal, trial },
+        }
     }
 
     // Returns whether the trial has too many starts, is after the last moment, or has a start after its own moment.
-    fn is_outside(self, job: &[u32]) -> bool
+    fn is_outside(&self, job: &[u32]) -> bool
         requires { 0 < length job.now }
-        ensures { Measured job.now self result }
+        ensures { Measured job.now self.now result }
     {
-        let moment = self.moment;
-        let length = self.length;
-        let starts = self.starts;
-        if MOST_STARTS < length {
+        if MOST_STARTS < self.length {
             return true;
         }
-        if last_of(job[0]) < moment {
+        if last_of(job[0]) < self.moment {
             return true;
         }
-        some_later(&starts[..length], moment)
+        some_later(&self.starts[..self.length], self.moment)
     }
 
-    // Runs the rows of the trial itself, after those that gave `checked`.
-    fn judged(self, job: &[u32], checked: Checked) -> Plan
-        requires { JobChecked job.now checked }
-        ensures { TrialJudged checked.refusal job.now self result }
+    // Runs the rows of the trial itself, after those of its job.
+    fn judged(&self, job: &[u32], index: &Index) -> Result<Plan, Refusal>
+        requires { JobChecked job.now index.now }
+        ensures { TrialJudged job.now self.now result }
     {
-        let refusal = checked.refusal;
-        let index = checked.index;
-        if refusal.number != 0 {
-            return refused(refusal, index);
-        }
         if self.is_outside(job) {
-            return refused(refuse(TRIAL_BOUNDS, 0), index);
+            return Err(refuse(TRIAL_BOUNDS, 0));
         }
-        let moment = self.moment;
-        let length = self.length;
-        let starts = self.starts;
-        let mut plan = judge_starts(job, index, &starts[..length], moment);
-        let refusal = at_zero(plan.refusal);
-        plan.refusal = refusal;
-        plan
+        match judge_starts(job, index, &self.starts[..self.length], self.moment) {
+            Ok(plan) => Ok(plan),
+            Err(refusal) => Err(refuse(refusal.number, 0)),
+        }
     }
 
     // Returns the trial with one more start, at its place.
-    fn with_word(self, w: u32) -> Trial
-        requires { Sized self × (self.length < 4096) × Pairs (λ s s'. s < s') (take self.length self.starts) }
-        ensures { WithWord self w result }
+    fn with_word(&self, w: u32) -> Trial
+        requires { Extendable self.now }
+        ensures { WithWord self.now w result }
     {
-        let moment = self.moment;
-        let length = self.length;
-        let starts = self.starts;
-        let mut next = starts;
-        insert_word(&starts[..length], w, &mut next);
+        let mut starts = self.starts;
+        insert_word(&self.starts[..self.length], w, &mut starts);
         Trial {
-            moment,
-            length: length + 1,
-            starts: next,
+            moment: self.moment,
+            length: self.length + 1,
+            starts,
         }
+    }
+
+    // Runs every row on starting an action now, and returns the word of its start.
+    fn new_start(&self, job: &[u32], action: u32) -> Result<u32, Refusal>
+        ensures { NewStart job.now self.now action result }
+    {
+        let index = check_job(job)?;
+        let plan = self.judged(job, &index)?;
+        let a = action as usize;
+        start_refusal(job, &plan, &self.starts[..self.length], self.moment, a)?;
+        Ok(start_word(self.moment, a))
+    }
+
+    // Runs every row on going on, and returns the next moment.
+    fn next_moment(&self, job: &[u32]) -> Result<usize, Refusal>
+        ensures { NextMoment job.now self.now result }
+    {
+        let index = check_job(job)?;
+        self.judged(job, &index)?;
+        if last_of(job[0]) <= self.moment {
+            return Err(refuse(TRIAL_BOUNDS, 0));
+        }
+        Ok(self.moment + 1)
     }
 
     // Starts an action now.
@@ -141,29 +142,15 @@ impl Trial {
         ensures stepped { Stepped job.now self (Start action) result }
         ensures storable { Storable result }
     {
-        let plan = self.judged(job, check_job(job));
-        let early = plan.refusal;
-        if early.number != 0 {
-            return Moved {
-                refusal: early,
+        match self.new_start(job, action) {
+            Ok(w) => Moved {
+                refusal: none(),
+                trial: self.with_word(w),
+            },
+            Err(refusal) => Moved {
+                refusal,
                 trial: self,
-            };
-        }
-        let moment = self.moment;
-        let length = self.length;
-        let starts = self.starts;
-        let a = action as usize;
-        let own = start_refusal(job, plan, &starts[..length], moment, a);
-        if own.number != 0 {
-            return Moved {
-                refusal: own,
-                trial: self,
-            };
-        }
-        let trial = self.with_word(start_word(moment, a));
-        Moved {
-            refusal: own,
-            trial,
+            },
         }
     }
 
@@ -172,30 +159,31 @@ impl Trial {
         ensures stepped { Stepped job.now self On result }
         ensures storable { Storable result }
     {
-        let plan = self.judged(job, check_job(job));
-        let early = plan.refusal;
-        if early.number != 0 {
-            return Moved {
-                refusal: early,
-                trial: self,
-            };
-        }
-        let moment = self.moment;
-        let length = self.length;
-        let starts = self.starts;
-        let refusal = row_of(last_of(job[0]) <= moment, TRIAL_BOUNDS, 0);
-        if refusal.number != 0 {
-            return Moved {
+        match self.next_moment(job) {
+            Ok(moment) => Moved {
+                refusal: none(),
+                trial: Trial {
+                    moment,
+                    length: self.length,
+                    starts: self.starts,
+                },
+            },
+            Err(refusal) => Moved {
                 refusal,
                 trial: self,
-            };
+            },
         }
-        let trial = Trial {
-            moment: moment + 1,
-            length,
-            starts,
-        };
-        Moved { refusal, trial }
+    }
+
+    // Runs every row on showing, and writes the facts of moments 0 to the present one to the front of the buffer.
+    fn shown(&self, job: &[u32], buffer: &mut [u32]) -> Result<usize, Refusal>
+        ensures value { result ≡ ruled (shown_refusal (length buffer.old) job.now (trial_of self.now)) (length (shown_facts job.now (trial_of self.now))) }
+        ensures buffer_after { buffer.new ≡ written (answered result) (shown_facts job.now (trial_of self.now)) buffer.old }
+    {
+        buffer_refusal(buffer.len())?;
+        let index = check_job_and_room(job, buffer.len())?;
+        let plan = self.judged(job, &index)?;
+        Ok(fill_upto(job, &plan.history, self.moment, buffer))
     }
 
     // Writes the facts of moments 0 to the present one to the front of the buffer.
@@ -203,16 +191,6 @@ impl Trial {
         ensures value { result ≡ show_answer_of (length buffer.old) job.now (trial_of self) }
         ensures buffer_after { buffer.new ≡ written result (shown_facts job.now (trial_of self)) buffer.old }
     {
-        let short = buffer_refusal(buffer.len());
-        if short.number != 0 {
-            return answer_of(short, 0, 0);
-        }
-        let plan = self.judged(job, check_job_and_room(job, buffer.len()));
-        let refused = plan.refusal;
-        if refused.number != 0 {
-            return answer_of(refused, 0, 0);
-        }
-        let n = fill_upto(job, &plan.history, self.moment, buffer);
-        answer_of(refused, n, 0)
+        answered(self.shown(job, buffer))
     }
 }

@@ -1,12 +1,19 @@
 -- Between functions: what seeking a reading asks: the job passes, the arrays represent it and the plan, and the buffer has room.
-use Rattle.std.specs.Prelude.{List, ◌≡◌, ℕ, ◌≤◌}
+use Rattle.std.specs.Prelude.{List, ◌≡◌, ℕ, ◌≤◌, Result}
+use Rattle.answers.specs.declared.Refusal.{Refusal}
+use Rattle.answers.specs.Rows.{RuledBy}
 use Rattle.job.specs.Refusal.{job_refusal}
 use Rattle.job.specs.Procedure.{procedure_of}
 use Rattle.theory.specs.Trajectory.{plan_trajectory}
 use Rattle.model.specs.Code.Represents.{Represents}
 use Rattle.model.specs.declared.Arrays.{Arrays}
+use Rattle.finder.specs.Find.{find_refusal}
 
 pub record Seekable (job starts : List ℕ) (arrays : Arrays) (size : ℕ) : Type 0 where
   pub clear : (job_refusal job).number ≡ 0
   pub represented : Represents job arrays (procedure_of job) (plan_trajectory job starts)
   pub room : 4096 ≤ size
+
+-- the row that fits; or such arrays, of a plan that passes
+abbrev pub Readied : ℕ → List ℕ → List ℕ → List ℕ → Result Arrays Refusal → Type 0
+Readied room job starts facts result = RuledBy (find_refusal room job starts facts) (λ arrays. Seekable job starts arrays room) result

@@ -1,12 +1,13 @@
 -- Between functions: where the words of a kind stand, and what a check of a job gives.
-use Rattle.std.specs.Prelude.{cond, List, [], ◌∷◌, ◌++◌, ℕ, zero, suc, ◌≤◌, eqb, get_or, length, replicate}
+use Rattle.std.specs.Prelude.{Result, cond, List, [], ◌∷◌, ◌++◌, ℕ, zero, suc, ◌≤◌, eqb, get_or, length, replicate}
 use Rattle.std.proofs.lemmas.List.Edits.{sets}
 use Rattle.words.specs.Fields.{kind}
 use Rattle.job.specs.Before.{before, count_of_kind}
+use Rattle.answers.specs.declared.Refusal.{Refusal}
+use Rattle.answers.specs.Rows.{ruled}
 use Rattle.job.specs.Refusal.{job_refusal}
 use Rattle.job.specs.declared.Places.{Places}
 use Rattle.job.specs.declared.Index.{Index}
-use Rattle.job.specs.declared.Checked.{Checked}
 
 -- the positions of the words of kind k among the first i words, ascending
 unfoldable pub positions : ℕ → List ℕ → ℕ → List ℕ
@@ -25,11 +26,11 @@ pub record Indexable (job : List ℕ) (i : ℕ) : Type 0 where
   pub formulas : count_of_kind 5 (before job i) ≤ 64
   pub nodes : count_of_kind 6 (before job i) ≤ 64
 
--- the index of the first i words: actions, formulas and nodes
-abbrev pub index_upto : List ℕ → ℕ → Index
-index_upto job i = record { actions = places_upto 3 job i; formulas = places_upto 5 job i; nodes = places_upto 6 job i }
+-- the index of all words: actions, formulas and nodes
+abbrev pub index_of : List ℕ → Index
+index_of job =
+    record { actions = places_upto 3 job (length job); formulas = places_upto 5 job (length job); nodes = places_upto 6 job (length job) }
 
--- the refusal of a job, with the index of all its words; a refused job's index has none
-unfoldable pub checked_of : List ℕ → Checked
-checked_of job =
-    record { refusal = job_refusal job; index = index_upto job (cond (eqb (job_refusal job).number 0) (length job) 0) }
+-- the index of a job's words, or the job's refusal
+unfoldable pub checked_of : List ℕ → Result Index Refusal
+checked_of job = ruled (job_refusal job) (index_of job)

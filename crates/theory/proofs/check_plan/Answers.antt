@@ -1,9 +1,10 @@
--- `theory::check_plan` meets its contract: the answer is that of its rows. Assumes nothing.
-use mathlib.Core.Path.{◌∙◌, ap}
-use Rattle.answers.specs.Packed.{answer_of}
+-- `theory::check_plan` meets its contract: the answer of what `check` gives. Assumes nothing.
+use mathlib.Core.Path.{ap, ◌∙◌}
+use Rattle.answers.specs.Packed.{answered}
 use Rattle.theory.specs.Answers.{check_answer}
+use Rattle.theory.proofs.Laws.{answered_ruled}
 use Rattle.theory.proofs.check_plan.Goals as goal
 
 pub returns : goal.returns
 unfolding check_answer
-returns c = c.answer_of.ensures ∙ ap (λ r. answer_of r 0 0) c.judge_facts-plan.ensures.refusal
+returns c = c.answered.ensures ∙ ap answered c.check.ensures ∙ answered_ruled _ _

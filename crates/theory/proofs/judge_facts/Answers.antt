@@ -1,49 +1,41 @@
--- `theory::judge_facts` meets its contract: a row before refuses, or it is left to the facts. Assumes nothing.
-use mathlib.Core.List.{List}
+-- `theory::judge_facts` meets its contract: a row of the job or the starts refuses, or row 11, or none of them. Assumes nothing.
 use mathlib.Core.Path.{◌≡◌, sym, ◌∙◌, ap}
-use Prim.Native.Nat.{ℕ}
 use Rattle.answers.specs.declared.Refusal.{Refusal}
-use Rattle.answers.specs.Rows.{first_refusal}
+use Rattle.answers.proofs.Rows.{ok-passed, err-refused, or_refused, or_passed}
 use Rattle.job.specs.Code.Index.{checked_of}
-use Rattle.job.specs.declared.Checked.{Checked}
-use Rattle.starts.specs.Rows.{starts_refusal}
-use Rattle.theory.specs.Answers.{plan_refusal}
-use Rattle.theory.specs.Code.Judged.{Passed}
-use Rattle.answers.proofs.Rows.{or_refused, or_passed}
-use Rattle.theory.proofs.Laws.{check_rows_lem}
-use Rattle.theory.proofs.Passing.{checked_refusal, job_checked, plan_formed, passed-still}
+use Rattle.theory.proofs.Laws.{handed_by, check_rows_lem, by_job}
+use Rattle.theory.proofs.Passing.{plan_formed}
 use Rattle.theory.proofs.judge_facts.Goals as goal
-use Rattle.theory.proofs.judge_facts.Goals.{Else-rows-ne0}
 
--- the rows that were run are those of the plan
-rows_are : (job starts : List ℕ) {plan : Refusal} {checked : Checked}
-    → plan ≡ first_refusal checked.refusal (starts_refusal job starts) → checked ≡ checked_of job → plan ≡ plan_refusal job starts
-unfolding plan_refusal
-rows_are job starts p e = p ∙ ap (λ (r : Refusal). first_refusal r (starts_refusal job starts)) (checked_refusal _ _ e)
+pub returns-in_err-index : goal.returns-in_err-index
+unfolding checked_of
+returns-in_err-index c =
+    let a = c.args in
+    let h = err-refused _ _ c.in_err-index.ensures in
+    let plan = by_job a.job.now a.starts.now h.0 in
+    handed_by _ _ c.from_residual.ensures.1 h.1 h.0
+    (plan ∙ or_refused _ _ (λ z. h.0 (ap (λ (r : Refusal). r.number) plan ∙ z)) ∙ sym (check_rows_lem a.job.now a.starts.now a.facts.now))
 
--- of a plan that passes the rows of its job and its starts
-clear : (c : Else-rows-ne0) → (plan_refusal c.args.job.now c.args.starts.now).number ≡ 0
-clear c = sym (ap (λ (r : Refusal). r.number) (rows_are _ _ c.judge-plan.ensures.refusal c.check_job.ensures)) ∙ c.if-rows-ne0.false
+pub judge-requires : goal.judge-requires
+unfolding checked_of
+judge-requires c = let h = ok-passed _ _ c.in_ok-index.ensures in record { good = h.0; index = h.1 }
 
-passing : (c : Else-rows-ne0) → Passed c.args.job.now c.args.starts.now c.judge-plan.result
-passing c = c.judge-plan.ensures.passed (sym (ap (λ (r : Refusal). r.number) c.judge-plan.ensures.refusal) ∙ c.if-rows-ne0.false)
+pub returns-in_err-plan : goal.returns-in_err-plan
+returns-in_err-plan c =
+    let h = c.in_err-plan.ensures in
+    handed_by _ _ c.from_residual-in_err-plan.ensures.1 h.0 h.1 (or_refused _ _ h.1 ∙ sym (check_rows_lem c.args.job.now c.args.starts.now c.args.facts.now))
 
-pub returns-then-rows-ne0 : goal.returns-then-rows-ne0
-returns-then-rows-ne0 c =
-    let never = c.if-rows-ne0.true in
-    let e = rows_are _ _ c.judge-plan.ensures.refusal c.check_job.ensures in
-    let is = e ∙ or_refused _ _ (λ z. never (ap (λ (r : Refusal). r.number) e ∙ z)) ∙ sym (check_rows_lem c.args.job.now c.args.starts.now c.args.facts.now) in
-    record { refusal = is; passed = λ z. absurd (never (ap (λ (r : Refusal). r.number) is ∙ z)) }
+pub compare_facts-requires : goal.compare_facts-requires
+compare_facts-requires c = plan_formed _ _ c.in_ok-plan.ensures.0
+
+pub returns-in_err-compare_facts : goal.returns-in_err-compare_facts
+returns-in_err-compare_facts c =
+    let plan = c.in_ok-plan.ensures in
+    let h = err-refused _ tt (c.in_err-compare_facts.ensures _ plan.1.history) in
+    handed_by _ _ c.from_residual-in_err-compare_facts.ensures.1 h.1 h.0 (or_passed _ _ plan.0 ∙ sym (check_rows_lem c.args.job.now c.args.starts.now c.args.facts.now))
 
 pub returns : goal.returns
 returns c =
-    record {
-      refusal = c.compare_facts-differ.ensures _ (passing (goal.at.returns c).Else-rows-ne0).history ∙ or_passed _ _ (clear (goal.at.returns c).Else-rows-ne0) ∙ sym (check_rows_lem c.args.job.now c.args.starts.now c.args.facts.now);
-      passed = λ z. passed-still c.compare_facts-differ.result (passing (goal.at.returns c).Else-rows-ne0);
-    }
-
-pub judge-plan-requires : goal.judge-plan-requires
-judge-plan-requires c = job_checked _ _ c.check_job.ensures
-
-pub compare_facts-differ-requires : goal.compare_facts-differ-requires
-compare_facts-differ-requires c = plan_formed _ _ (clear (goal.at.compare_facts-differ-requires c).Else-rows-ne0)
+    let plan = c.in_ok-plan.ensures in
+    let same = ok-passed _ tt (c.in_ok-compare_facts.ensures _ plan.1.history) in
+    (ap (λ (r : Refusal). r.number) (check_rows_lem c.args.job.now c.args.starts.now c.args.facts.now ∙ sym (or_passed _ _ plan.0)) ∙ same.0, plan.1)

@@ -1,34 +1,35 @@
 -- Between functions: what the rows on a job and its starts show: their refusal, and of a plan that they pass what the later steps use.
-use Rattle.std.specs.Prelude.{List, [], ◌∷◌, ◌≡◌, ℕ, ◌≤◌, ◌<◌, length, get_or}
+use Rattle.std.specs.Prelude.{Result, List, [], ◌∷◌, ◌≡◌, ℕ, ◌≤◌, ◌<◌, length, get_or}
 use Rattle.words.specs.Fields.{start_moment}
 use Rattle.answers.specs.declared.Refusal.{Refusal}
-use Rattle.answers.specs.Rows.{first_row}
-use Rattle.job.specs.declared.Checked.{Checked}
+use Rattle.answers.specs.Rows.{first_row, ruled, RuledBy}
 use Rattle.job.specs.declared.Index.{Index}
 use Rattle.job.specs.Parts.{last_moment}
 use Rattle.job.specs.Refusal.{job_refusal}
-use Rattle.job.specs.Code.Index.{checked_of}
+use Rattle.job.specs.Code.Index.{index_of}
 use Rattle.history.specs.Code.Tables.{Durations, LawEnds, Effects, HistoryUpto}
 use Rattle.shifts.specs.Code.ShiftSets.{ShiftTable}
 use Rattle.groups.specs.Code.GroupTable.{GroupTable}
 use Rattle.theory.specs.Answers.{fact_room_refusal, plan_refusal}
 use Rattle.theory.specs.declared.Plan.{Plan}
 
--- the rows of a job with row 12 after them, and the index of its words
-abbrev pub room_checked_of : ℕ → List ℕ → Checked
-room_checked_of room job =
-    record { refusal = first_row (job_refusal job ∷ fact_room_refusal room job ∷ []); index = (checked_of job).index }
+-- the rows of a job with row 12 after them: the first that fits; the index of its words, or that row
+abbrev pub room_rows : ℕ → List ℕ → Refusal
+room_rows room job = first_row (job_refusal job ∷ fact_room_refusal room job ∷ [])
 
--- what rows of a job, and perhaps others after them, leave: the index of its words; and where none of them fits, no row of the job does
-pub record JobChecked (job : List ℕ) (r : Checked) : Type 0 where
-  pub good : r.refusal.number ≡ 0 → (job_refusal job).number ≡ 0
-  pub index : r.index ≡ (checked_of job).index
+abbrev pub room_checked_of : ℕ → List ℕ → Result Index Refusal
+room_checked_of room job = ruled (room_rows room job) (index_of job)
+
+-- a job that no row refuses, with the index of its words
+pub record JobChecked (job : List ℕ) (words : Index) : Type 0 where
+  pub good : (job_refusal job).number ≡ 0
+  pub index : words ≡ index_of job
 
 -- of a plan that passes the rows of its job and its starts: the index of its job's words, the durations of its actions, where their laws end,
 -- their effects and shift windows, its groups, its history up to moment k; the same with the whole history
 pub record PassedUpto (job starts : List ℕ) (k : ℕ) (plan : Plan) : Type 0 where
   pub clear : (plan_refusal job starts).number ≡ 0
-  pub index : plan.index ≡ (checked_of job).index
+  pub index : plan.index ≡ index_of job
   pub durations : Durations job plan.durations
   pub laws : LawEnds job plan.index.actions.position plan.ends
   pub effects : Effects job plan.effects
@@ -39,17 +40,16 @@ pub record PassedUpto (job starts : List ℕ) (k : ℕ) (plan : Plan) : Type 0 w
 abbrev pub Passed : List ℕ → List ℕ → Plan → Type 0
 Passed job starts plan = PassedUpto job starts (last_moment job) plan
 
--- the refusal of those rows that were run, and what a plan has that passes them
-pub record JudgedUpto (rows : Refusal) (job starts : List ℕ) (k : ℕ) (plan : Plan) : Type 0 where
-  pub refusal : plan.refusal ≡ rows
-  pub passed : rows.number ≡ 0 → PassedUpto job starts k plan
+-- what the rows that were run leave: their refusal, or what a plan has that passes them
+abbrev pub JudgedUpto : Refusal → List ℕ → List ℕ → ℕ → Result Plan Refusal → Type 0
+JudgedUpto rows job starts k result = RuledBy rows (PassedUpto job starts k) result
 
-abbrev pub Judged : Refusal → List ℕ → List ℕ → Plan → Type 0
-Judged rows job starts plan = JudgedUpto rows job starts (last_moment job) plan
+abbrev pub Judged : Refusal → List ℕ → List ℕ → Result Plan Refusal → Type 0
+Judged rows job starts result = JudgedUpto rows job starts (last_moment job) result
 
 -- a job that passes rows 1 to 5 with its index, and a moment below 64 that no start of the job is after
 pub record Judgeable (job starts : List ℕ) (words : Index) (k : ℕ) : Type 0 where
   pub good : (job_refusal job).number ≡ 0
-  pub index : words ≡ (checked_of job).index
+  pub index : words ≡ index_of job
   pub soon : k < 64
   pub past : (i : ℕ) → i < length starts → start_moment (get_or starts i 0) ≤ last_moment job → start_moment (get_or starts i 0) ≤ k

@@ -1,50 +1,60 @@
--- `job::job_end::end_refusal` meets its contract: its calls are the rows of `end_refusal`, at the facts that the state holds, and the row on
--- names is asked where no other fits. Assumes nothing.
-use mathlib.Core.Path.{◌≡◌, ap, sym, ◌∙◌}
-use Prim.Native.Nat.{ℕ, ◌-◌}
+-- `job::job_end::end_refusal` meets its contract: its tests are those of the rows, at the facts that the state holds. Assumes nothing.
 use native.Mathlib.Omega.{arith}
-use lib.ListN.{length, get_or}
-use Rattle.answers.specs.declared.Refusal.{Refusal}
-use Rattle.answers.specs.Rows.{first_of}
+use lib.ListN.{length}
+use borrow.Author.Tests.{eq-eqb, ne_eqb}
 use Rattle.job.specs.Before.{before}
-use Rattle.job.specs.Refusal.{name_refusal}
-use Rattle.job.proofs.Refusal.{earlier_rows, by_earlier, by_names}
+use Rattle.job.specs.Refusal.{end_refusal}
 use Rattle.job.proofs.job_end.end_refusal.Goals as goal
-use Rattle.job.proofs.job_end.end_refusal.Goals.{After-first_refusal-earlier}
 
--- the first of the rows before the one on names
-earlier : (c : After-first_refusal-earlier) → c.first_refusal-earlier.result
-    ≡ earlier_rows (get_or c.args.job.now 0 0) (length c.args.job.now) (before c.args.job.now (length c.args.job.now))
-earlier c =
-    let s = c.requires.2 in
+pub returns-then-s-actions_of : goal.returns-then-s-actions_of
+unfolding end_refusal
+returns-then-s-actions_of c =
+    rw (c.refuse.ensures, ← c.requires.2.actions, ← c.actions_of.ensures.0, ne_eqb _ _ c.if-s-actions_of.true)
+
+pub returns-then-s-eq0 : goal.returns-then-s-eq0
+unfolding end_refusal
+returns-then-s-eq0 c =
     rw (
-      ← s.actions,
-      ← s.nodes,
-      ← s.members,
-      ← s.node,
-      ← c.form_of.ensures.0,
-      ← c.actions_of-declared.ensures.0,
-      ← c.less_one-root.ensures,
-      ← c.row_of-count.ensures,
-      ← c.row_of-none.ensures,
-      ← c.row_of-empty.ensures,
-      ← c.first_refusal.ensures,
+      c.refuse-then-s-eq0.ensures,
+      ← c.requires.2.actions,
+      ← c.requires.2.nodes,
+      ← c.actions_of.ensures.0,
+      eq-eqb _ _ c.if-s-actions_of.false,
+      c.if-s-eq0.true,
     )
-    c.first_refusal-earlier.ensures
 
-pub returns-then-earlier-ne0 : goal.returns-then-earlier-ne0
-returns-then-earlier-ne0 c =
-    let e = earlier (goal.at.returns-then-earlier-ne0 c).After-first_refusal-earlier in
-    e ∙ by_earlier _ _ _ (λ z. c.if-earlier-ne0.true (ap (λ (r : Refusal). r.number) e ∙ z))
+pub returns-then-form_of-s : goal.returns-then-form_of-s
+unfolding end_refusal
+returns-then-form_of-s c =
+    rw (
+      c.refuse-then-form_of-s.ensures,
+      ← c.requires.2.actions,
+      ← c.requires.2.nodes,
+      ← c.requires.2.node,
+      ← c.requires.2.members,
+      ← c.actions_of.ensures.0,
+      ← c.form_of.ensures.0,
+      eq-eqb _ _ c.if-s-actions_of.false,
+      ne_eqb _ 0 c.if-s-eq0.false,
+      c.if-form_of-s.true,
+    )
 
 pub name_refusal-requires : goal.name_refusal-requires
-name_refusal-requires c = let s = c.requires in omega (arith, s.1, s.2.nodes, c.less_one-root.ensures)
+name_refusal-requires c = omega (arith, c.requires.1, c.requires.2.nodes)
 
 pub returns : goal.returns
+unfolding end_refusal
 returns c =
-    let rows = (goal.at.returns c).After-first_refusal-earlier in
-    let s = c.requires.2 in
     let p = before c.args.job.now (length c.args.job.now) in
-    c.name_refusal.ensures p s.names
-    ∙ ap (first_of (name_refusal p)) (c.less_one-root.ensures ∙ ap (λ (n : ℕ). n - 1) s.nodes)
-    ∙ by_names _ _ _ (sym (ap (λ (r : Refusal). r.number) (earlier rows)) ∙ c.if-earlier-ne0.false)
+    rw (
+      ← c.requires.2.actions,
+      ← c.requires.2.nodes,
+      ← c.requires.2.node,
+      ← c.requires.2.members,
+      ← c.actions_of.ensures.0,
+      ← c.form_of.ensures.0,
+      eq-eqb _ _ c.if-s-actions_of.false,
+      ne_eqb _ 0 c.if-s-eq0.false,
+      c.if-form_of-s.false,
+    )
+    (c.name_refusal.ensures p c.requires.2.names)

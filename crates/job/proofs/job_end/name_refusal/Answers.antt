@@ -10,22 +10,16 @@ five-ne : ◌≡◌ {A = ℕ} 5 0 → ⊥
 five-ne e = omega arith
 
 pub loop-v-init : goal.loop-v-init
-loop-v-init c = (omega arith, λ p h. first_start _)
+loop-v-init c p h = first_start _
 
 pub returns-then-not-has : goal.returns-then-not-has
 returns-then-not-has c p h =
     let once = once_set p _ h c.minus-once.ensures in
     let five = name_told p _ once _ (sym c.has.ensures ∙ c.if-not-has.true) in
-    c.refuse.ensures
-    ∙ sym (rw five at (first_found _ _ _ (c.loop-v.invariant.1 p once) (λ z. five-ne (sym five ∙ z)) c.loop-v-test.true))
+    rw (
+      c.refuse.ensures,
+      rw five at (first_found _ _ c.args.root (c.loop-v.invariant p once) (λ z. five-ne (sym five ∙ z)) c.loop-v-test.true),
+    )
 
 pub loop-v-preserved : goal.loop-v-preserved
-loop-v-preserved c = (
-  omega arith,
-  λ p once. first_more _ _ (c.loop-v.invariant.1 p once) (name_told p _ once _ (sym c.has.ensures ∙ c.if-not-has.false)),
-)
-
-pub returns : goal.returns
-returns c p h =
-    let e : c.loop-v.v ≡ c.args.root = omega arith in
-    rw (← e) (c.none.ensures ∙ sym (c.loop-v.invariant.1 p (once_set p _ h c.minus-once.ensures)))
+loop-v-preserved c p once = first_more _ _ (c.loop-v.invariant p once) (name_told p _ once _ (sym c.has.ensures ∙ c.if-not-has.false))

@@ -9,6 +9,7 @@ use borrow.Author.Tests.{ne_eqb}
 use lib.ListN.{get_or}
 use Rattle.words.specs.Fields.{kind, group_number}
 use Rattle.words.specs.Scan.{any}
+use Rattle.answers.specs.Rows.{if_any}
 use Rattle.job.specs.Before.{before, since}
 use Rattle.job.specs.Follow.{predecessor, may_follow}
 use Rattle.job.specs.Refusal.{refusal_of}
@@ -44,14 +45,16 @@ module _ (c : Else-not-may_follow) (k : ℕ) (h : c.kind_of-k.result ≡ k) wher
 
 pub returns-then-not-may_follow : goal.returns-then-not-may_follow
 returns-then-not-may_follow c =
-    sym
+    ap if_any
+    (sym
     (may_not c.args.job.now c.args.i _ (sym c.kind_of-k.ensures.0)
-    (rw (← c.predecessor.ensures) (sym c.may_follow.ensures ∙ c.if-not-may_follow.true)))
+    (rw (← c.predecessor.ensures) (sym c.may_follow.ensures ∙ c.if-not-may_follow.true))))
 
 pub returns-in_default : goal.returns-in_default
 returns-in_default c =
     let (((((((((((rest, not-1), not-2), not-3), not-4), not-5), not-6), not-7), not-8), not-12), not-13), not-14) = c.in_default.in_default-own.rest in
-    sym
+    ap if_any {x = 2} {y = refusal_of c.args.job.now c.args.i}
+    (sym
     (passed (goal.at.returns-in_default c).Else-not-may_follow _ refl
     ∙ rw (
       ne_eqb _ 1 not-1,
@@ -65,7 +68,7 @@ returns-in_default c =
       ne_eqb _ 12 not-12,
       ne_eqb _ 13 not-13,
       ne_eqb _ 14 not-14,
-    ))
+    )))
 
 pub returns-in-1 : goal.returns-in-1
 returns-in-1 c = rw (passed (goal.at.returns-in-1 c).Else-not-may_follow 1 c.in-1.is) c.head.ensures

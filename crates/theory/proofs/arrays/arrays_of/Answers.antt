@@ -4,8 +4,8 @@ use Rattle.theory.proofs.Passing.{job_clear, plan_formed, formulas_indexed, form
 use Rattle.theory.proofs.Represented.{represents}
 use Rattle.theory.proofs.arrays.arrays_of.Goals as goal
 
-pub standard_values-values-requires : goal.standard_values-values-requires
-standard_values-values-requires c =
+pub standard_values-requires : goal.standard_values-requires
+standard_values-requires c =
     let p = c.requires in
     let clear = job_clear _ _ p.clear in
     grounds (plan_formed _ _ p.clear) (formulas_indexed _ clear p.index) (formulas_counted _ clear p.index) p.history
@@ -16,11 +16,11 @@ returns c =
     let clear = job_clear _ _ p.clear in
     represents _ c.args.starts.now _ (plan_formed _ _ p.clear) (record {
       count = nodes_counted _ clear p.index;
-      last = c.last_of-last.ensures.0;
+      last = c.last_of.ensures.0;
       places = nodes_indexed _ clear p.index;
-      moments = c.start_moments-moments.ensures;
+      moments = c.start_moments.ensures;
       durations = p.durations;
-      values = (c.standard_values-values.ensures _ p.history).entry;
+      values = (c.standard_values.ensures _ p.history).entry;
     })
 
 pub bounds-job-0 : goal.bounds-job-0

@@ -19,4 +19,4 @@ pub shape_of-words : goal.shape_of-words
 shape_of-words c = ap length c.copy_words.ensures ∙ simp (length-sets, length-set)
 
 pub returns : goal.returns
-returns c = stored c.args.trial c.requires.0 c.args.words.now c.requires.1 c.copy_words.ensures
+returns c = stored c.args.trial.now c.requires.0 c.args.words.now c.requires.1 c.copy_words.ensures
