@@ -13,7 +13,7 @@ use Rattle.bitset.specs.Code.Members.{has, Highest, In}
 use Rattle.bitset.proofs.Bools.{not_both, either}
 use Rattle.words.specs.Fields.{condition_i}
 use Rattle.model.specs.Forms.{condition_form}
-use Rattle.covering.specs.Code.Cover.{entry_at, Coverable, CoverReady}
+use Rattle.covering.specs.Code.Cover.{entry_at, Coverable}
 use Rattle.ending.specs.Code.Ends.{EndsReady, asked, partner_of, MetByMask, EndAt}
 use Rattle.keeping.specs.Code.Tables.{pair_at}
 use Rattle.keeping.specs.declared.Tables.{Tables}
@@ -41,14 +41,6 @@ greatest x (suc e) = ⊎_elim
 -- ---- the first n begins and masks of two lists
 
 module _ (l m : List ℕ) (n : ℕ) (few : n ≤ length l) (few' : n ≤ length m) where
-  pub front_ready : n ≤ 4 → ((i : ℕ) → i < n → entry_at l i < 64) → ((i e : ℕ) → i < n → In (entry_at m i) e → e < 64)
-      → CoverReady (length (take n l)) (entry_at (take n l)) (entry_at (take n m))
-  front_ready four begins ends = rw (length-take-le n l few) (record {
-    few = four;
-    begins = λ i k. rw (get_or-take n l i 0 k) (begins i k);
-    ends = λ i e k t. ends i e k (rw (get_or-take n m i 0 k) at t);
-  })
-
   pub front_covers : {b e : ℕ} → Coverable (length (take n l)) (entry_at (take n l)) (entry_at (take n m)) b e ↔ Coverable n (entry_at l) (entry_at m) b e
   front_covers = rw (length-take-le n l few) (
     coverable_as (λ i k. get_or-take n l i 0 k) (λ i k. get_or-take n m i 0 k),

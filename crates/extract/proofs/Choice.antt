@@ -218,6 +218,3 @@ set_placed ms cs vs table n b e placed h pl =
       parts = λ i l. rw (get_or-map member_node ms i 0) (h.1 i (rw (length-map ms member_node) at l));
       placed = pl;
     }
-
-pub few_members : (ms cs vs table : List ℕ) (n b e : ℕ) → Placeable (task_set_of ms cs vs n) table b e → length ms ≤ 4
-few_members ms cs vs table n b e s = rw (length-map ms member_node) at s.formed.few

@@ -1,25 +1,21 @@
 -- The searches for the moments of two parts: a begin that meets, and a cut, taken lowest first. Assumes nothing.
 use Prim.Native.Nat.{ℕ, zero, suc, ◌+◌, ◌≤◌, ◌<◌}
 use mathlib.Core.Path.{◌≡◌, refl, sym, ap, ◌∙◌}
-use mathlib.Core.Bool.{true, false, ◌&&◌}
+use mathlib.Core.Bool.{true}
 use mathlib.Core.Logic.{by_cases}
 use mathlib.Core.List.{List}
 use native.Mathlib.Nat.{pow-suc}
 use native.Mathlib.Decide.{ℕ_discrete}
 use native.Mathlib.Omega.{arith}
-use lib.Dec.{leb, ltb}
 use lib.Pow.{pow_pos}
-use borrow.Author.Tests.{leb-true, le-leb, lt-ltb}
 use Rattle.model.specs.Code.Table.{InTable, row_at}
-use Rattle.bitset.specs.Code.Members.{has, IsSetOf, In, Lowest, Dropped, Max}
-use Rattle.words.proofs.Choices.{both_true}
-use Rattle.bitset.proofs.Bools.{not_both, both}
+use Rattle.bitset.specs.Code.Members.{has, In, Lowest, Dropped, Max}
+use Rattle.bitset.proofs.Bools.{not_both}
 use Rattle.bitset.proofs.Digits.{has-past}
-use Rattle.bitset.proofs.Ends.{lowest_le}
 use Rattle.bitset.proofs.In.{in_zero, in_dropped}
 use Rattle.reading.specs.Code.Quiet.{QuietUpto}
 use Rattle.reading.specs.declared.pauses.Pause.{Pause}
-use Rattle.extract.specs.Code.Search.{Meets, FirstMeets, CutAt, EndPair, StartAt}
+use Rattle.extract.specs.Code.Search.{Meets, FirstMeets, CutAt}
 use Rattle.std.specs.Prelude.{Option, Some, None, min}
 
 -- ---- a begin that meets
@@ -43,32 +39,9 @@ in_alone : {r e : ℕ} → In r e → Max 1 r e
 unfolding has
 in_alone {e = e} h = record { i = 0; j = e; in_a = refl; in_b = h.yes; is_max = omega arith }
 
--- ---- ends with a given greater
-
+-- a set that has a member is not 0
 pub nonempty : (x k : ℕ) → has x k ≡ true → 0 < x
 nonempty x k h = by_cases (ℕ_discrete x 0) (λ z. in_zero {e = k} z (record { yes = h })) (λ z. omega arith)
-
-module _ {xs ys e : ℕ} (m : Max xs ys e) where
-  pub ends_first : {l : ℕ} → has xs e ≡ true → Lowest ys l → EndPair xs ys e e l
-  ends_first h l = let g = lowest_le l m.in_b in record { first = record { yes = h }; second = record { yes = l.member }; greater = omega (arith, m.is_max) }
-
-  pub ends_second : {k : ℕ} → has xs e ≡ false → Lowest xs k → EndPair xs ys e k e
-  ends_second {k} h l =
-      let g = lowest_le l m.in_a in
-      let other : m.i ≡ e → ⊥ = λ q. not_both (ap (has xs) (sym q) ∙ m.in_a) h in
-      let q : m.j ≡ e = omega (arith, m.is_max) in
-      record { first = record { yes = l.member }; second = record { yes = ap (has ys) (sym q) ∙ m.in_b }; greater = omega (arith, m.is_max) }
-
-pub ends_max : {xs ys e k l : ℕ} → EndPair xs ys e k l → Max xs ys e
-ends_max {k = k} {l = l} s = record { i = k; j = l; in_a = s.first.yes; in_b = s.second.yes; is_max = s.greater }
-
-module _ {table : List ℕ} {x y b e least most m : ℕ} where
-  pub start_meets : {k l : ℕ} → StartAt table x y b e least most k m l → Meets (row_at table x b) table y (b + least) (b + most) e m
-  start_meets s = record { from = s.early; upto = s.late; moment = s.begin; max = ends_max s.ends }
-
-  pub start_at : {k l : ℕ} → Meets (row_at table x b) table y (b + least) (b + most) e m → EndPair (row_at table x b) (row_at table y m) e k l
-      → StartAt table x y b e least most k m l
-  start_at f s = record { early = f.from; late = f.upto; begin = f.moment; ends = s }
 
 -- ---- a cut
 
@@ -79,15 +52,6 @@ pub record Left (table : List ℕ) (x y b e : ℕ) (pause : Pause) (from left : 
   pub all : (k m : ℕ) → CutAt table x y b e pause from k m → In left k
 
 module _ {table : List ℕ} {x y b e from : ℕ} {pause : Pause} where
-  pub left_start : (f : ℕ) {left : ℕ} → IsSetOf f (λ k. leb from k && ltb k 64) → IsSetOf left (λ k. has (row_at table x b) k && has f k)
-      → Left table x y b e pause from left
-  left_start f {left} F L =
-      record {
-        end = λ k h. record { yes = (both_true (has (row_at table x b) k) (has f k) (sym (L k) ∙ h.yes)).0 };
-        after = λ k h. leb-true from k (both_true (leb from k) (ltb k 64) (sym (F k) ∙ (both_true (has (row_at table x b) k) (has f k) (sym (L k) ∙ h.yes)).1)).0;
-        all = λ k m c. record { yes = L k ∙ both c.ends.yes (F k ∙ both (le-leb from k c.after) (lt-ltb k 64 c.end)) };
-      }
-
   module _ {left k end : ℕ} (l : Left table x y b e pause from left) (first : Lowest left k) (u : QuietUpto pause k end) where
     pub left_found : {m : ℕ} → Meets 1 table y (k + pause.least) end e m → CutAt table x y b e pause from k m
     left_found {m = m} f =

@@ -8,7 +8,7 @@ ghost use Rattle.extract.specs.Code.Search.{Within, CutAt, CutReady, StartAt, St
 ghost use Rattle.extract.specs.Code.Parts.{triple_of, parts_from, IsPlaced, PlacedParts, ChoosableBy, ChosenBy};
 
 use crate::{Source, search};
-use model::Triple;
+use model::{Node, Triple};
 use reading::pauses::{Pause, at_once, pause_of};
 use sets::placing::Placement;
 use words::forms::{
@@ -23,13 +23,14 @@ const NO_PART: Triple = Triple {
     end: 0,
 };
 
-// The first `count` of the triples, in order.
+// The first `count` of the triples, in order: there is no heap, so the array has room for the members of any task set.
 #[derive(Clone, Copy)]
 pub struct Parts {
     pub count: usize,
     pub triples: [Triple; MEMBERS],
 }
 
+// A node, read from its begin to its end.
 fn part(node: usize, begin: usize, end: usize) -> Triple
     ensures { result ≡ triple_of node begin end }
 {
@@ -58,21 +59,14 @@ fn end_window_parts(table: &[u64], x: usize, y: usize, pause: Pause, b: usize, e
     parts_of(&[part(x, b, k), part(y, m, e)])
 }
 
-// Form 6: x, and `least` to `most` after its begin y.
-fn start_window_parts(
-    table: &[u64],
-    x: usize,
-    y: usize,
-    least: usize,
-    most: usize,
-    b: usize,
-    e: usize,
-) -> Parts
-    requires { StartReady table.now x y b e least most }
-    ensures { (k : ℕ) × (m : ℕ) × (l : ℕ) × StartAt table.now x y b e least most k m l × (result ≡ parts_from (triple_of x b k ∷ triple_of y m l ∷ [])) }
+// Form 6: X, and M to N after its begin Y.
+fn start_window_parts(table: &[u64], node: Node, b: usize, e: usize) -> Parts
+    requires { StartReady table.now node.x node.y b e node.m node.n }
+    ensures { (k : ℕ) × (m : ℕ) × (l : ℕ) × StartAt table.now node.x node.y b e node.m node.n k m l × (result ≡ parts_from (triple_of node.x b k ∷ triple_of node.y m l ∷ [])) }
 {
+    let (x, y) = (node.x, node.y);
     let xs = table[x * MOMENTS + b];
-    let Some(m) = search::meeting(xs, table, y, b + least, b + most, e) else {
+    let Some(m) = search::meeting(xs, table, y, b + node.m, b + node.n, e) else {
         unreachable!();
     };
     let (k, l) = search::ends(xs, table[y * MOMENTS + m], e);
@@ -128,25 +122,22 @@ pub fn choose_parts(source: &Source, triple: Triple) -> Parts
     requires { ChoosableBy source.now triple }
     ensures { ChosenBy source.now triple result }
 {
-    let p = triple.node;
     let b = triple.begin;
     let e = triple.end;
-    let place = source.arrays.places[p];
-    let word = source.words[place];
-    let x = words::node_x(word);
-    let y = words::node_y(word);
-    let m = words::node_m(word);
-    let most = words::node_n(word);
     let table = source.table;
-    match words::form_of(word) {
+    let place = source.arrays.places[triple.node];
+    let word = source.words[place];
+    let node = model::node_of(word);
+    let (x, y) = (node.x, node.y);
+    match node.form {
         ACT => parts_of(&[]),
         TEST => parts_of(&[]),
         SEQUENCE => end_window_parts(table, x, y, at_once(), b, e),
         CHOICE => parts_of(&[part(search::choose(table, x, y, b, e), b, e)]),
-        IF => parts_of(&[part(taken(source.arrays.value(x, b), y, m), b, e)]),
+        IF => parts_of(&[part(taken(source.arrays.value(x, b), y, node.m), b, e)]),
         // The passes of a loop are found one at a time.
         WHILE => parts_of(&[]),
-        START_WINDOW => start_window_parts(table, x, y, m, most, b, e),
+        START_WINDOW => start_window_parts(table, node, b, e),
         END_WINDOW => end_window_parts(table, x, y, pause_of(word, source.started), b, e),
         TASK_SET => set_parts(source, place, b, e),
         // A job with a reserved form is refused, and nothing reads such a node.

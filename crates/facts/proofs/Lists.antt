@@ -1,11 +1,11 @@
 -- The lists of facts: moment by moment, how long they are, and how one is written after another. Assumes nothing.
-use mathlib.Core.List.{List, [], ◌++◌}
+use mathlib.Core.List.{List, [], ◌∷◌, ◌++◌}
 use mathlib.Core.Path.{◌≡◌, refl, ap, ◌∙◌}
 use Prim.Native.Nat.{ℕ, ◌+◌, ◌-◌, ◌*◌, ◌≤◌, ◌<◌}
 use native.Mathlib.Nat.{zero-add, add-zero, add_assoc, mul-le-mul, le_trans}
 use native.Mathlib.Omega.{arith}
 use lib.Dec.{eqb}
-use lib.ListN.{length, get_or, length-append}
+use lib.ListN.{length, get_or, set, length-append}
 use lib.Seq.{length-sets}
 use Rattle.words.specs.Scan.{concat_below}
 use Rattle.words.specs.Lists.{insert}
@@ -25,6 +25,13 @@ use Rattle.facts.specs.Code.Written.{row_facts, rows_facts, Written, Filled}
 module _ {old : List ℕ} {at : ℕ} where
   pub written_none : Written old at [] at old
   written_none = record { next = omega arith; held = refl }
+
+  -- one word, or none
+  pub written_one : {words : List ℕ} (w : ℕ) → words ≡ w ∷ [] → Written old at words (at + 1) (set old at w)
+  written_one w e = rw e (record { next = omega arith; held = refl })
+
+  pub written_no : {words : List ℕ} → words ≡ [] → Written old at words at old
+  written_no e = rw e written_none
 
   pub written-more : {vs ws all mid new : List ℕ} {end end' : ℕ} → all ≡ vs ++ ws → Written old at vs end mid → Written mid end ws end' new → Written old at all end' new
   written-more {vs} {ws} a v w =

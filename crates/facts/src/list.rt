@@ -1,5 +1,5 @@
 // The list of known facts, written to a buffer by the history of a plan.
-ghost use Rattle.std.specs.Prelude.{List, ℕ, ◌+◌, ◌<◌, ◌≤◌, length};
+ghost use Rattle.std.specs.Prelude.{◌≡◌, List, [], ◌∷◌, MatchOption, ℕ, ◌+◌, ◌<◌, ◌≤◌, length};
 ghost use Rattle.words.specs.Fields.{fact_room};
 ghost use Rattle.job.specs.Parts.{head_word, fluents, last_moment};
 ghost use Rattle.job.specs.Code.WellFormed.{WellFormed};
@@ -9,19 +9,18 @@ ghost use Rattle.facts.specs.Code.Written.{row_facts, Written, Filled, Fillable}
 
 use words::{FLUENTS, OPEN, STATES, fact_word, fluents_of, last_of};
 
-// Writes the fact of one value, where it is not open, to the buffer at position `at`, and answers the position after it.
-fn write_fact(head: u32, t: usize, f: usize, value: u8, buffer: &mut [u32], at: usize) -> usize
-    requires { (t < 64) × (f < 256) × (at < length buffer.old) }
-    ensures { Written buffer.old at (fact_of head t f value) result buffer.new }
+// The fact of one value, where it is not open.
+fn known_fact(head: u32, t: usize, f: usize, value: u8) -> Option<u32>
+    requires { (t < 64) × (f < 256) }
+    ensures { MatchOption result (fact_of head t f value ≡ []) (λ w. fact_of head t f value ≡ w ∷ []) }
 {
     if value == OPEN {
-        return at;
+        return None;
     }
-    buffer[at] = fact_word(head, t, f, value);
-    at + 1
+    Some(fact_word(head, t, f, value))
 }
 
-// The same for the facts at moment `t` of the first `n` fluents.
+// Writes the facts at moment `t` of the first `n` fluents to the buffer from position `at` on, and answers the position after them.
 fn write_facts(
     history: &[u8; STATES],
     head: u32,
@@ -35,7 +34,10 @@ fn write_facts(
 {
     let mut end = at;
     for f in 0..n {
-        end = write_fact(head, t, f, history[t * FLUENTS + f], buffer, end);
+        if let Some(w) = known_fact(head, t, f, history[t * FLUENTS + f]) {
+            buffer[end] = w;
+            end += 1;
+        }
     }
     end
 }

@@ -5,7 +5,6 @@ use mathlib.Core.Path.{◌≡◌}
 use Prim.Native.Nat.{ℕ, ◌+◌, ◌*◌, ◌≤◌, ◌<◌}
 use native.Mathlib.Decide.{dec_lt}
 use native.Mathlib.Omega.{arith}
-use borrow.Author.Count.{below_more}
 use lib.ListN.{length, set, replicate, length-set, length-replicate}
 use lib.Seq.{get_or-set_other}
 use Rattle.words.proofs.Entries.{entries_set, entries_more, entries_alike}
@@ -33,18 +32,6 @@ module _ {conj disj job : List ℕ} {fluent : ℕ → ℕ → ℕ} where
   columns_all h l = record { small = h.small; entry = λ k u m n. (h.column u (omega arith)).entry k m }
 
   module _ {t : ℕ} where
-    pub fill_start : {values : List ℕ} → ColumnsBefore conj disj job fluent t values → Filling conj disj job fluent t 0 values
-    fill_start h =
-        record { size = h.size; small = h.small; here = record { entry = λ k l. absurd (omega arith) }; others = h.column }
-
-    pub fill_end : {values : List ℕ} → Filling conj disj job fluent t (formula_count job) values → ColumnsBefore conj disj job fluent (t + 1) values
-    fill_end {values} h =
-        record {
-          size = h.size;
-          small = h.small;
-          column = below_more (λ (u : ℕ). ColumnAt conj disj job fluent u (formula_count job) values) t h.others h.here;
-        }
-
     -- the columns up to t, as far as that of t is filled
     pub filled_columns : {k : ℕ} {values : List ℕ} → Filling conj disj job fluent t k values → k ≤ formula_count job
         → (u : ℕ) → u ≤ t → ColumnAt conj disj job fluent u k values

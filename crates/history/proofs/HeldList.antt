@@ -1,21 +1,20 @@
 -- The starts in hand as the first words of a list: which of a plan's starts join it at a moment, which stay in it. Assumes nothing.
-use mathlib.Core.Bool.{Bool, true, false}
+use mathlib.Core.Bool.{Bool}
 use mathlib.Core.List.{List}
 use mathlib.Core.Logic.{by_cases}
 use mathlib.Core.Path.{◌≡◌, refl, sym, subst, ◌∙◌}
 use Prim.Native.Nat.{ℕ, ◌+◌, ◌-◌, ◌<◌, ◌≤◌}
 use native.Mathlib.Decide.{dec_lt}
 use native.Mathlib.Nat.{zero-add}
-use native.Mathlib.Numerals.{add-one}
 use native.Mathlib.Omega.{arith}
 use borrow.Author.Tests.{eqb-true, eqb-false, eq-eqb, ne_eqb}
-use lib.ListN.{length, get_or, take, drop, set, length-set, length-drop}
-use lib.Seq.{get_or-drop, get_or-set_other, take-suc-set}
+use lib.ListN.{length, get_or, take, drop, length-drop}
+use lib.Seq.{get_or-drop}
 use Rattle.words.specs.Fields.{start_moment}
 use Rattle.words.specs.Scan.{take_while, filter}
 use Rattle.words.proofs.Scan.{take_while-entry, take_while-stop, take_while-take, run_inside}
 use Rattle.words.proofs.Lists.{pairs-at}
-use Rattle.words.proofs.Filter.{filter-hit, filter-miss, filter-slice}
+use Rattle.words.proofs.Filter.{filter-slice}
 use Rattle.history.specs.Held.{begins_at, starting_at, Ascending}
 
 -- of starts in the order of their moments, the first `next` are those before moment t
@@ -76,26 +75,3 @@ pub record Kept (test : ℕ → Bool) (old : List ℕ) (i n : ℕ) (new : List �
   pub size : length new ≡ length old
   pub words : take n new ≡ filter test (take i old)
   pub rest : (k : ℕ) → i ≤ k → get_or new k 0 ≡ get_or old k 0
-
-module _ {test : ℕ → Bool} {old : List ℕ} where
-  pub kept_none : Kept test old 0 0 old
-  kept_none = record { few = omega arith; size = refl; words = refl; rest = λ k l. refl }
-
-  module _ {i n : ℕ} {cur : List ℕ} (inside : i < length old) (h : Kept test old i n cur) where
-    pub kept_hit : test (get_or cur i 0) ≡ true → Kept test old (i + 1) (n + 1) (set cur n (get_or cur i 0))
-    kept_hit e = record {
-      few = omega (arith, h.few);
-      size = length-set cur n (get_or cur i 0) ∙ h.size;
-      words =
-          rw (add-one n, take-suc-set cur n (get_or cur i 0) (omega (arith, h.few, h.size)), h.words, h.rest i (omega arith))
-          (sym (filter-hit test old i inside (rw (h.rest i (omega arith)) at e)));
-      rest = λ k l. get_or-set_other cur n k (get_or cur i 0) 0 (λ z. omega (arith, h.few)) ∙ h.rest k (omega arith);
-    }
-
-    pub kept_miss : test (get_or cur i 0) ≡ false → Kept test old (i + 1) n cur
-    kept_miss e = record {
-      few = omega (arith, h.few);
-      size = h.size;
-      words = h.words ∙ sym (filter-miss test old i inside (rw (h.rest i (omega arith)) at e));
-      rest = λ k l. h.rest k (omega arith);
-    }

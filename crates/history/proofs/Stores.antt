@@ -14,8 +14,7 @@ use lib.ListN.{length, get_or, set, replicate, length-set, length-replicate, get
 use lib.Seq.{get_or-set_same, get_or-set_other, get_or-append_seam}
 use Rattle.words.specs.Fields.{unknown}
 use Rattle.words.specs.Scan.{any, find_or}
-use Rattle.words.proofs.Entries.{entries_more}
-use Rattle.history.specs.Code.Stores.{Overlaid, Reads, Mapped, RowStored}
+use Rattle.history.specs.Code.Stores.{Overlaid, Reads, RowStored}
 
 -- what a list gives, by its first part and the rest
 find_or-append : (test : ℕ → Bool) (gives : ℕ → ℕ) (other : ℕ) (vs ws : List ℕ)
@@ -95,19 +94,6 @@ any-gives test v other (w ∷ ws) = cases (test w) (any-gives test v other ws)
     cases : (b : Bool) → find_or test (λ w. v) other ws ≡ cond (any test ws) v other → cond b v (find_or test (λ w. v) other ws) ≡ cond (b || any test ws) v other
     cases true e = refl
     cases false e = e
-
-module _ {make : ℕ → ℕ → ℕ} {old : List ℕ} where
-  pub mapped_none : Mapped 0 make old old
-  mapped_none = record { size = refl; value = λ f l. absurd (omega arith); rest = λ f l. refl }
-
-  pub mapped_more : {n v : ℕ} (cur : List ℕ) → n < length cur → Mapped n make old cur → v ≡ make n (get_or cur n 0) → Mapped (n + 1) make old (set cur n v)
-  mapped_more {n} {v} cur r h e =
-      record {
-        size = length-set cur n v ∙ h.size;
-        value =
-            entries_more (λ f. f) (λ f x. x ≡ make f (get_or old f 0)) cur n v r (λ f l q. omega arith) h.value (rw (← h.rest n (omega arith)) e);
-        rest = λ f l. rw (get_or-set_other cur n f v 0 (λ q. omega arith)) (h.rest f (omega arith));
-      }
 
 -- a table of rows of 256 on the way: the first n entries of each row before row a
 pub record Rows (value : ℕ → ℕ → ℕ) (n a : ℕ) (table : List ℕ) : Type 0 where

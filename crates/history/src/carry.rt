@@ -24,6 +24,7 @@ pub(crate) fn starting_at<'a>(starts: &'a [u32], from: usize, t: usize) -> &'a [
 }
 
 // Keeps of the first `count` starts those that finish after moment `t`, in their order. Returns their number.
+// Memory is fixed, so that a list stands in a buffer for the longest one, with its number of words beside.
 pub fn keep_unfinished(
     durations: &[usize; ACTIONS],
     t: usize,

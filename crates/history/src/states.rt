@@ -26,11 +26,7 @@ fn initial_state(job: &[u32]) -> [u8; FLUENTS]
 {
     let head = job[0];
     row_of(job, |w| {
-        if kind_of(w) == KNOWN {
-            Some((fluent_of(head, w), known_value(head, w)))
-        } else {
-            None
-        }
+        (kind_of(w) == KNOWN).then(|| (fluent_of(head, w), known_value(head, w)))
     })
 }
 
@@ -83,6 +79,7 @@ impl Actions<'_> {
     }
 
     // Applies all starts that act in a pass to moment `t`: from the last to the first, so that the first prevails.
+    // Which pass it is stays a bool, as in `acts` and `leaves`, the definitions of a pass.
     fn apply_starts(&self, starts: &[u32], hiding: bool, t: usize, state: &mut [u8; FLUENTS])
         requires { WalkableBy self.now starts.now × (fluents self.now.job.now ≤ length state.old) }
         ensures { AfterPass self.now.job.now hiding t starts.now state.old state.new }

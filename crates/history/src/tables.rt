@@ -88,11 +88,7 @@ fn effects_row(head: u32, laws: &[u32]) -> [u8; FLUENTS]
 {
     row_of(laws, |w| {
         let role = role_of(head, w);
-        if makes_value(role) {
-            Some((fluent_of(head, w), made_value(role)))
-        } else {
-            None
-        }
+        makes_value(role).then(|| (fluent_of(head, w), made_value(role)))
     })
 }
 

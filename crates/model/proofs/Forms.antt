@@ -43,20 +43,6 @@ form-number k h l = sym (number_back k (rw h l)) ∙ ap number_of h
 pub reserved : (k : ℕ) → 9 ≤ k → form_number k ≡ Reserved
 reserved k h = let e : k ≡ suc (suc (suc (suc (suc (suc (suc (suc (suc (k - 9))))))))) = omega arith in ap form_number e
 
-from_four : (k : ℕ) → (k ≡ 0 → ⊥) → (k ≡ 1 → ⊥) → (k ≡ 2 → ⊥) → (k ≡ 3 → ⊥) → 4 ≤ k
-from_four k a b c d = omega arith
-
-from_nine : (k : ℕ) → 4 ≤ k → (k ≡ 4 → ⊥) → (k ≡ 5 → ⊥) → (k ≡ 6 → ⊥) → (k ≡ 7 → ⊥) → (k ≡ 8 → ⊥) → 9 ≤ k
-from_nine k l a b c d e = omega arith
-
--- so is one that a match has found to be none of 0 to 8
-pub no_form : {A : Type 0} (k : ℕ)
-    → (((((((((A × (k ≡ 0 → ⊥)) × (k ≡ 1 → ⊥)) × (k ≡ 2 → ⊥)) × (k ≡ 3 → ⊥)) × (k ≡ 4 → ⊥)) × (k ≡ 5 → ⊥)) × (k ≡ 6 → ⊥)) × (k ≡ 7 → ⊥)) × (k ≡ 8 → ⊥))
-    → form_number k ≡ Reserved
-no_form k r =
-    let (((((((((rest, not-0), not-1), not-2), not-3), not-4), not-5), not-6), not-7), not-8) = r in
-    reserved k (from_nine k (from_four k not-0 not-1 not-2 not-3) not-4 not-5 not-6 not-7 not-8)
-
 -- a condition of a number that no form has is reserved
 pub no_condition : (k : ℕ) → (k ≡ 0 → ⊥) → (k ≡ 1 → ⊥) → (k ≡ 2 → ⊥) → (k ≡ 3 → ⊥) → (k ≡ 4 → ⊥) → condition_number k ≡ ReservedCondition
 no_condition zero a b c d e = absurd (a refl)

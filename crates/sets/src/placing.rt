@@ -8,6 +8,7 @@ ghost use Rattle.model.specs.Code.Table.{InTable};
 use crate::{firsts, tables};
 use words::{FORMULA_VALUES, MEMBERS};
 
+// The members' begins and ends. They are two lists and no list of pairs, since the search keeps the begins alone and the ends are chosen for them.
 #[derive(Clone, Copy)]
 pub struct Placement {
     pub begins: [u32; MEMBERS],

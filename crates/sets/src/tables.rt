@@ -173,10 +173,11 @@ fn constrained(conds: &[u32]) -> u64 {
 }
 
 // Cuts each of these pairs of different members.
-fn cut_pairs(pairs: u64, count: usize, span: Span, tables: &mut Tables)
-    requires { count ≤ 4 }
-    ensures { SameElse tables.old tables.new × LeftOut count span.a span.z tables.old.ends tables.old.goes tables.new.ends tables.new.goes }
+fn cut_pairs(pairs: u64, span: Span, tables: &mut Tables)
+    requires { tables.old.count ≤ 4 }
+    ensures { SameElse tables.old tables.new × LeftOut tables.old.count span.a span.z tables.old.ends tables.old.goes tables.new.ends tables.new.goes }
 {
+    let count = tables.count;
     for p in bitset::members(pairs) {
         if let Some((i, j)) = members_of(p, count) {
             cut_pair(i, j, span, tables);
@@ -185,14 +186,14 @@ fn cut_pairs(pairs: u64, count: usize, span: Span, tables: &mut Tables)
 }
 
 // Cuts each pair that some condition is on, but none where the span is short.
-fn cut_constrained(count: usize, span: Span, tables: &mut Tables)
-    requires { count ≤ 4 }
-    ensures { SameElse tables.old tables.new × LeftOut count span.a span.z tables.old.ends tables.old.goes tables.new.ends tables.new.goes }
+fn cut_constrained(span: Span, tables: &mut Tables)
+    requires { tables.old.count ≤ 4 }
+    ensures { SameElse tables.old tables.new × LeftOut tables.old.count span.a span.z tables.old.ends tables.old.goes tables.new.ends tables.new.goes }
 {
     if span.is_short() {
         return;
     }
-    cut_pairs(constrained(tables.conditions), count, span, tables);
+    cut_pairs(constrained(tables.conditions), span, tables);
 }
 
 // The ends of member i begun at x or later, for each x of the span from the last down.
@@ -251,7 +252,7 @@ pub fn fill(
     conditions::fill_allowed(values, conds, span, n, &mut tables.allow);
     cut_all(span, tables);
     fill_own(members, table, span, tables);
-    cut_constrained(count, span, tables);
+    cut_constrained(span, tables);
     fill_later(&tables.ends, count, span, &mut tables.later);
     bounds::fill(conds, &tables.ends, count, span, &mut tables.bounds);
 }

@@ -11,9 +11,6 @@ returns-then-not-begins_at c = in_none (λ e h. not_both (c.begins_at.ensures.1 
 pub loop-i-init : goal.loop-i-init
 loop-i-init c = record { moment = omega arith; needs = λ e l. (λ h j k. absurd (omega arith), λ h. omega arith) }
 
-pub need-requires : goal.need-requires
-need-requires c = omega (arith, c.requires.1, c.requires.0.begins c.loop-i.i c.loop-i-test.true)
-
 pub returns-in_default : goal.returns-in_default
 returns-in_default c = in_none (λ e h. let k = h.last in (c.in_default.ensures.least e (c.requires.0.ends k.at e k.below k.is)).1 (h.needs c.loop-i.i c.loop-i-test.true))
 

@@ -58,9 +58,6 @@ masked h k x = (
 pub loop-i-init : goal.loop-i-init
 loop-i-init c = none _ _ _ c.requires.1
 
-pub bounds-r-i : goal.bounds-r-i
-bounds-r-i c = omega (arith, c.loop-i.invariant.four)
-
 pub loop-i-preserved : goal.loop-i-preserved
 loop-i-preserved c =
     let n = c.inter-mask in

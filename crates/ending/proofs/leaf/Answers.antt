@@ -6,14 +6,13 @@ use mathlib.Core.List.{List}
 use native.Mathlib.Omega.{arith}
 use lib.ListN.{length}
 use borrow.Author.Rules.{rules}
-use Rattle.std.proofs.lemmas.List.{length-take-le}
 use Rattle.bitset.specs.Code.Members.{In}
 use Rattle.bitset.proofs.Bools.{not_both}
 use Rattle.bitset.proofs.In.{in_union, in_zero}
 use Rattle.covering.specs.Code.Cover.{entry_at, Coverable}
 use Rattle.ending.specs.Code.Search.{SoughtPlacement, ReadsWith, BeginsKept, Grown}
 use Rattle.ending.specs.declared.Found.{Found}
-use Rattle.ending.proofs.Leaves.{front_ready, front_covers, ends_ready, onward, reads_with, covers_all}
+use Rattle.ending.proofs.Leaves.{front_covers, onward, reads_with, covers_all}
 use Rattle.ending.proofs.leaf.Goals as goal
 use Rattle.ending.proofs.leaf.Goals.{After-covered-got}
 
@@ -65,29 +64,6 @@ grown c ends all kept begins moments = record {
   within = λ h e t. ⊎_elim (h e) (within c e) ((all e).0 t);
   moments = moments;
 }
-
-pub first_begins-begins-requires : goal.first_begins-begins-requires
-first_begins-begins-requires c = let r = c.requires.state.ready in (r.few, r.forward, r.moments)
-
-pub ends_at-masks-requires : goal.ends_at-masks-requires
-ends_at-masks-requires c = ends_ready c.requires.state.ready c.first_begins-begins.ensures.1
-
-pub covered-got-requires : goal.covered-got-requires
-covered-got-requires c =
-    let r = c.requires.state.ready in
-    let few = r.few in
-    let four : length c.first_begins-begins.result ≡ 4 = search rules in
-    let four' : length c.ends_at-masks.result ≡ 4 = search rules in
-    let u : c.args.tables.now.count ≤ length c.first_begins-begins.result = omega arith in
-    let v : c.args.tables.now.count ≤ length c.ends_at-masks.result = omega arith in (
-      front_ready _ _ _ u v r.few
-          (λ i l. c.first_begins-begins.ensures.1 i)
-          (λ i e l t. omega (arith, onward r c.ends_at-masks.ensures c.first_begins-begins.ensures.0 i e l t, r.moments)),
-      length-take-le _ _ v ∙ sym (length-take-le _ _ u),
-    )
-
-pub has-requires : goal.has-requires
-has-requires c = let r = c.requires.state.ready in r.moments
 
 pub returns-then-has : goal.returns-then-has
 returns-then-has c = let g = (goal.at.returns-then-has c).After-covered-got in let all = in_union c.union-ends.ensures in (

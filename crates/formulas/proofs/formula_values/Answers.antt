@@ -7,12 +7,6 @@ use Rattle.formulas.proofs.formula_values.Goals as goal
 pub loop-t-init : goal.loop-t-init
 loop-t-init c = columns_none
 
-pub returns : goal.returns
-returns c starts h =
-    let f = c.args.formulas.now in
-    table_same f.and.now f.or.now c.requires.1.well h
-    (columns_all c.loop-t.invariant (omega (arith, c.last_of-t-end.ensures.0)))
-
 pub returns-2 : goal.returns-2
 returns-2 c starts h =
     let f = c.args.formulas.now in

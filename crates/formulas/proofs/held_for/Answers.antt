@@ -17,11 +17,6 @@ loop-k-init c =
       so_far = rw none c.ago-r.ensures;
     }
 
-pub by_table-r-requires : goal.by_table-r-requires
-by_table-r-requires c =
-    let a = c.args in
-    (c.loop-k.invariant.most, rw c.ago.ensures (ago-most (tabulated a.values.now a.x) a.t (λ u. c.requires.form.so_far.most _) _))
-
 pub loop-k-preserved : goal.loop-k-preserved
 loop-k-preserved c =
     let a = c.args in
@@ -32,10 +27,3 @@ loop-k-preserved c =
           throughout-more a.and.now (tabulated a.values.now a.x) a.t a.y turn.k (omega arith) (omega arith) turn.invariant.so_far c.ago.ensures
           c.by_table-r.ensures;
     }
-
-pub returns : goal.returns
-returns c =
-    let turn = c.loop-k in
-    let none : turn.k ≡ 0 = omega arith in
-    let all : c.args.y - turn.k ≡ c.args.y = omega arith in
-    rw (all, none) at turn.invariant.so_far

@@ -13,15 +13,6 @@ use Rattle.ending.proofs.ends.own_ends.Goals as goal
 pub loop-i-init : goal.loop-i-init
 loop-i-init c = record { four = refl; rows = λ j l. absurd (omega arith); small = λ j e t. in_zero (empty_entry 4 j) t }
 
-pub bounds-begins-i : goal.bounds-begins-i
-bounds-begins-i c = omega arith
-
-pub pair_at-requires : goal.pair_at-requires
-pair_at-requires c = (omega arith, omega arith, c.requires.1 c.loop-i.i)
-
-pub bounds-r-i : goal.bounds-r-i
-bounds-r-i c = omega arith
-
 pub loop-i-preserved : goal.loop-i-preserved
 loop-i-preserved c = let l = c.loop-i in
     record {

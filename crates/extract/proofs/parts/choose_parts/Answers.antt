@@ -1,8 +1,8 @@
 -- `extract::parts::choose_parts` meets its contract: in each arm the rule of the form gives what the search asks, and what it finds is a
 -- choice of parts. Assumes nothing.
-use mathlib.Core.Path.{◌≡◌, sym, ap, ◌∙◌}
+use mathlib.Core.Path.{sym, ap, ◌∙◌}
 use mathlib.Core.List.{List}
-use Prim.Native.Nat.{ℕ, ◌+◌, ◌*◌, ◌<◌, ◌≤◌}
+use Prim.Native.Nat.{ℕ, ◌+◌, ◌*◌, ◌<◌}
 use native.Mathlib.Omega.{arith}
 use lib.ListN.{get_or}
 use Rattle.std.proofs.Common.{rules}
@@ -10,7 +10,7 @@ use Rattle.model.specs.Procedure.{Procedure}
 use Rattle.model.specs.Trajectory.{Trajectory}
 use Rattle.model.specs.Forms.{form_number}
 use Rattle.model.specs.declared.Triple.{Triple}
-use Rattle.model.proofs.Forms.{no_form}
+use Rattle.model.proofs.Forms.{reserved}
 use Rattle.extract.specs.Code.Search.{Within}
 use Rattle.extract.specs.Code.Parts.{Choosable}
 use Rattle.extract.proofs.Choice.{end_last, act_chosen, test_chosen, reserved_chosen, choice_some, choice_chosen, if_chosen, sequence_some, sequence_chosen, end_some, end_chosen, start_some, start_chosen, set-some, set-chosen}
@@ -31,84 +31,82 @@ pub end_window_parts-requires : goal.end_window_parts-requires
 end_window_parts-requires c =
     let h = c.requires in
     rw c.at_once.ensures (record {
-      within = pair h c.node_x-x.ensures.1 c.node_y-y.ensures.1;
+      within = pair h c.node_of-node.ensures.x.1 c.node_of-node.ensures.y.1;
       early = omega arith;
       late = omega arith;
-      some = sequence_some h.prepared h.known h.within h.found (ap form_number (sym c.form_of.ensures.0 ∙ c.in-2.is)) c.node_x-x.ensures.0 c.node_y-y.ensures.0;
+      some = sequence_some h.prepared h.known h.within h.found (ap form_number (sym c.node_of-node.ensures.form.0 ∙ c.in-2.is)) c.node_of-node.ensures.x.0 c.node_of-node.ensures.y.0;
     })
 
 pub choose-requires-clause-in_table : goal.choose-requires-clause-in_table
-choose-requires-clause-in_table c = let h = c.requires in choice_some h.prepared h.known h.within h.found (ap form_number (sym c.form_of.ensures.0 ∙ c.in-3.is)) c.node_x-x.ensures.0 c.node_y-y.ensures.0
+choose-requires-clause-in_table c = let h = c.requires in choice_some h.prepared h.known h.within h.found (ap form_number (sym c.node_of-node.ensures.form.0 ∙ c.in-3.is)) c.node_of-node.ensures.x.0 c.node_of-node.ensures.y.0
 
 pub start_window_parts-requires : goal.start_window_parts-requires
 start_window_parts-requires c =
     let h = c.requires in
     record {
-      within = pair h c.node_x-x.ensures.1 c.node_y-y.ensures.1;
-      early = c.node_m-m.ensures.1;
-      late = c.node_n-most.ensures.1;
-      some = start_some h.prepared h.known h.within h.found (ap form_number (sym c.form_of.ensures.0 ∙ c.in-6.is)) c.node_x-x.ensures.0 c.node_y-y.ensures.0 c.node_m-m.ensures.0 c.node_n-most.ensures.0;
+      within = pair h c.node_of-node.ensures.x.1 c.node_of-node.ensures.y.1;
+      early = c.node_of-node.ensures.m.1;
+      late = c.node_of-node.ensures.n.1;
+      some = start_some h.prepared h.known h.within h.found (ap form_number (sym c.node_of-node.ensures.form.0 ∙ c.in-6.is)) c.node_of-node.ensures.x.0 c.node_of-node.ensures.y.0 c.node_of-node.ensures.m.0 c.node_of-node.ensures.n.0;
     }
 
 pub end_window_parts-requires-in-7 : goal.end_window_parts-requires-in-7
 end_window_parts-requires-in-7 c =
     let h = c.requires in
     rw c.pause_of.ensures (record {
-      within = pair h c.node_x-x.ensures.1 c.node_y-y.ensures.1;
-      early = rw (← c.node_m-m.ensures.0) c.node_m-m.ensures.1;
-      late = rw (← c.node_n-most.ensures.0) c.node_n-most.ensures.1;
-      some = end_some h.prepared h.known h.within h.found (ap form_number (sym c.form_of.ensures.0 ∙ c.in-7.is)) c.node_x-x.ensures.0 c.node_y-y.ensures.0;
+      within = pair h c.node_of-node.ensures.x.1 c.node_of-node.ensures.y.1;
+      early = rw (← c.node_of-node.ensures.m.0) c.node_of-node.ensures.m.1;
+      late = rw (← c.node_of-node.ensures.n.0) c.node_of-node.ensures.n.1;
+      some = end_some h.prepared h.known h.within h.found (ap form_number (sym c.node_of-node.ensures.form.0 ∙ c.in-7.is)) c.node_of-node.ensures.x.0 c.node_of-node.ensures.y.0;
     })
 
 pub set_parts-requires : goal.set_parts-requires
-set_parts-requires c = let h = c.requires in (h.prepared.ready.inside c.args.triple.node h.known, set-some h.prepared h.known h.within h.found (ap form_number (sym c.form_of.ensures.0 ∙ c.in-8.is)))
+set_parts-requires c = let h = c.requires in (h.prepared.ready.inside c.args.triple.node h.known, set-some h.prepared h.known h.within h.found (ap form_number (sym c.node_of-node.ensures.form.0 ∙ c.in-8.is)))
 
 pub returns-in-0 : goal.returns-in-0
-returns-in-0 c = let h = c.requires in rw c.parts_of.ensures (omega arith, act_chosen h.prepared h.known h.within h.found (ap form_number (sym c.form_of.ensures.0 ∙ c.in-0.is)))
+returns-in-0 c = let h = c.requires in rw c.parts_of.ensures (omega arith, act_chosen h.prepared h.known h.within h.found (ap form_number (sym c.node_of-node.ensures.form.0 ∙ c.in-0.is)))
 
 pub returns-in-1 : goal.returns-in-1
-returns-in-1 c = let h = c.requires in rw c.parts_of-in-1.ensures (omega arith, test_chosen h.prepared h.known h.within h.found (ap form_number (sym c.form_of.ensures.0 ∙ c.in-1.is)))
+returns-in-1 c = let h = c.requires in rw c.parts_of-in-1.ensures (omega arith, test_chosen h.prepared h.known h.within h.found (ap form_number (sym c.node_of-node.ensures.form.0 ∙ c.in-1.is)))
 
 pub returns-in-2 : goal.returns-in-2
 returns-in-2 c =
     let h = c.requires in
     let (k, l, found, is) = c.end_window_parts.ensures in
-    rw is (omega arith, sequence_chosen h.prepared h.known h.within h.found (ap form_number (sym c.form_of.ensures.0 ∙ c.in-2.is)) c.node_x-x.ensures.0 c.node_y-y.ensures.0 (rw c.at_once.ensures at found))
+    rw is (omega arith, sequence_chosen h.prepared h.known h.within h.found (ap form_number (sym c.node_of-node.ensures.form.0 ∙ c.in-2.is)) c.node_of-node.ensures.x.0 c.node_of-node.ensures.y.0 (rw c.at_once.ensures at found))
 
 pub returns-in-3 : goal.returns-in-3
 returns-in-3 c =
     let h = c.requires in
     let (which, found) = c.choose.ensures in
-    rw (c.parts_of-in-3.ensures, c.part.ensures) (omega arith, choice_chosen h.prepared h.known h.within h.found (ap form_number (sym c.form_of.ensures.0 ∙ c.in-3.is)) c.node_x-x.ensures.0 c.node_y-y.ensures.0 which found)
+    rw (c.parts_of-in-3.ensures, c.part.ensures) (omega arith, choice_chosen h.prepared h.known h.within h.found (ap form_number (sym c.node_of-node.ensures.form.0 ∙ c.in-3.is)) c.node_of-node.ensures.x.0 c.node_of-node.ensures.y.0 which found)
 
 pub returns-in-4 : goal.returns-in-4
 returns-in-4 c =
     let h = c.requires in
     rw (c.parts_of-in-4.ensures, c.part-in-4.ensures) (
       omega arith,
-      if_chosen h.prepared h.known h.within h.found (ap form_number (sym c.form_of.ensures.0 ∙ c.in-4.is))
-          (c.value.ensures ∙ ap (λ (i : ℕ). get_or c.args.source.now.arrays.now.values (i * 64 + c.args.triple.begin) 0) c.node_x-x.ensures.0) c.node_y-y.ensures.0 c.node_m-m.ensures.0 c.taken.ensures,
+      if_chosen h.prepared h.known h.within h.found (ap form_number (sym c.node_of-node.ensures.form.0 ∙ c.in-4.is))
+          (c.value.ensures ∙ ap (λ (i : ℕ). get_or c.args.source.now.arrays.now.values (i * 64 + c.args.triple.begin) 0) c.node_of-node.ensures.x.0) c.node_of-node.ensures.y.0 c.node_of-node.ensures.m.0 c.taken.ensures,
     )
 
 pub returns-in-6 : goal.returns-in-6
 returns-in-6 c =
     let h = c.requires in
     let (k, m, l, found, is) = c.start_window_parts.ensures in
-    rw is (omega arith, start_chosen h.prepared h.known h.within h.found (ap form_number (sym c.form_of.ensures.0 ∙ c.in-6.is)) c.node_x-x.ensures.0 c.node_y-y.ensures.0 c.node_m-m.ensures.0 c.node_n-most.ensures.0 found)
+    rw is (omega arith, start_chosen h.prepared h.known h.within h.found (ap form_number (sym c.node_of-node.ensures.form.0 ∙ c.in-6.is)) c.node_of-node.ensures.x.0 c.node_of-node.ensures.y.0 c.node_of-node.ensures.m.0 c.node_of-node.ensures.n.0 found)
 
 pub returns-in-7 : goal.returns-in-7
 returns-in-7 c =
     let h = c.requires in
     let (k, l, found, is) = c.end_window_parts-in-7.ensures in
-    rw is (omega arith, end_chosen h.prepared h.known h.within h.found (ap form_number (sym c.form_of.ensures.0 ∙ c.in-7.is)) c.node_x-x.ensures.0 c.node_y-y.ensures.0 (rw c.pause_of.ensures at found))
+    rw is (omega arith, end_chosen h.prepared h.known h.within h.found (ap form_number (sym c.node_of-node.ensures.form.0 ∙ c.in-7.is)) c.node_of-node.ensures.x.0 c.node_of-node.ensures.y.0 (rw c.pause_of.ensures at found))
 
 pub returns-in-8 : goal.returns-in-8
-returns-in-8 c = let h = c.requires in set-chosen h.prepared h.known h.within h.found (ap form_number (sym c.form_of.ensures.0 ∙ c.in-8.is)) (search rules) c.set_parts.ensures
+returns-in-8 c = let h = c.requires in set-chosen h.prepared h.known h.within h.found (ap form_number (sym c.node_of-node.ensures.form.0 ∙ c.in-8.is)) (search rules) c.set_parts.ensures
 
 pub returns-in-9-to-4294967295 : goal.returns-in-9-to-4294967295
 returns-in-9-to-4294967295 c =
     let h = c.requires in
-    let late : 9 ≤ c.form_of.result = omega arith in
-    let none : ((((((((((((((((((9 ≤ c.form_of.result) × (c.form_of.result ≡ 0 → ⊥))) × (c.form_of.result ≡ 1 → ⊥))) × (c.form_of.result ≡ 2 → ⊥))) × (c.form_of.result ≡ 3 → ⊥))) × (c.form_of.result ≡ 4 → ⊥))) × (c.form_of.result ≡ 5 → ⊥))) × (c.form_of.result ≡ 6 → ⊥))) × (c.form_of.result ≡ 7 → ⊥))) × (c.form_of.result ≡ 8 → ⊥))
-    = (((((((((late, λ q. omega arith), λ q. omega arith), λ q. omega arith), λ q. omega arith), λ q. omega arith), λ q. omega arith), λ q. omega arith), λ q. omega arith), λ q. omega arith) in
-    rw c.parts_of-in-9-to-4294967295.ensures (omega arith, reserved_chosen h.prepared h.known h.within h.found (ap form_number (sym c.form_of.ensures.0) ∙ no_form c.form_of.result none))
+    let node = c.node_of-node in
+    rw c.parts_of-in-9-to-4294967295.ensures (omega arith, reserved_chosen h.prepared h.known h.within h.found (ap form_number (sym node.ensures.form.0) ∙ reserved node.result.form (omega arith)))

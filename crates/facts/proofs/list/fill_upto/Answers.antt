@@ -27,13 +27,7 @@ write_facts-at-requires c =
 pub loop-t-preserved : goal.loop-t-preserved
 loop-t-preserved c = let turn = c.loop-t in written-more (rows_more c.args.history.now _ _ turn.t) turn.invariant c.write_facts-at.ensures
 
-pub returns : goal.returns
-returns c starts h = rows_filled h c.fluents_of-n.ensures.0 (omega arith) c.loop-t.invariant
-
 pub returns-2 : goal.returns-2
 returns-2 c starts h =
     let turn = c.loop-t in
     rows_filled h c.fluents_of-n.ensures.0 (omega arith) (written-more (rows_more c.args.history.now _ _ turn.t) turn.invariant c.write_facts-at.ensures)
-
-pub shape_of-buffer : goal.shape_of-buffer
-shape_of-buffer c = written-size c.loop-t.invariant

@@ -1,17 +1,13 @@
 -- `formulas::Formulas::fill_moment` meets its contract. The invariant: the entries of the formulas below `k` are written. Assumes nothing.
-use mathlib.Core.Path.{◌≡◌}
 use Prim.Native.Nat.{◌<◌, ◌≤◌}
 use Rattle.job.specs.Parts.{head_word, formula_word}
 use Rattle.job.specs.Code.Parts.{formula_count}
 use Rattle.job.proofs.ByPlace.{formula_place}
 use Rattle.formulas.specs.Code.Table.{tabled}
 use Rattle.formulas.proofs.Laws.{formula_found, form-most}
-use Rattle.formulas.proofs.Columns.{fill_start, filled_columns, fill_entry, fill_end}
+use Rattle.formulas.proofs.Columns.{filled_columns, fill_entry}
 use native.Mathlib.Omega.{arith}
 use Rattle.formulas.proofs.Formulas.fill_moment.Goals as goal
-
-pub loop-k-init : goal.loop-k-init
-loop-k-init c = fill_start c.requires.earlier
 
 pub loop-k-preserved : goal.loop-k-preserved
 loop-k-preserved c =
@@ -27,8 +23,3 @@ loop-k-preserved c =
     (λ f. p.grounds.valued.most a.t _ p.moment ((p.grounds.well.formula turn.k l).fluent f)) (λ x u. turn.invariant.small.most _)) in
     fill_entry soon turn.k (omega (arith, p.grounds.well.few_formulas)) turn.values c.form_value-value.result most turn.invariant
     (rw given (formula_found f.and.now f.or.now p.grounds.well (tabled f.history.now) turn.k a.t l turn.values (filled_columns turn.invariant (omega arith))))
-
-pub returns : goal.returns
-returns c =
-    let e : c.loop-k.k ≡ formula_count c.args.self.now.job.now = omega (arith, c.requires.grounds.counted) in
-    fill_end (rw e at c.loop-k.invariant)

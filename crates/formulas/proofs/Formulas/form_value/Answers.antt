@@ -31,15 +31,3 @@ returns-in_default c =
     let (((((rest, not-0), not-1), not-2), not-3), not-4) = c.in_default.in_default-own.rest in
     rw (← c.form_of-form.ensures.0, ne_eqb _ 0 not-0, ne_eqb _ 1 not-1, ne_eqb _ 2 not-2, ne_eqb _ 3 not-3, ne_eqb _ 4 not-4, ← c.formula_x-x.ensures.0, ← c.formula_y-y.ensures.0)
     c.held_for.ensures
-
-pub overflow_sub-result : goal.overflow_sub-result
-overflow_sub-result c = c.requires.ready.so_far.most _
-
-pub by_table-requires : goal.by_table-requires
-by_table-requires c = let small = c.requires.ready.so_far in (small.most _, small.most _)
-
-pub by_table-requires-in-4 : goal.by_table-requires-in-4
-by_table-requires-in-4 c = let small = c.requires.ready.so_far in (small.most _, small.most _)
-
-pub held_for-requires : goal.held_for-requires
-held_for-requires c = record { form = c.requires.ready; formula = c.formula_x-x.ensures.1 }

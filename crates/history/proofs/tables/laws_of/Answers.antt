@@ -22,18 +22,6 @@ module _ {job places ends : List ℕ} {a : ℕ} (given : Ruled job places ends �
         rules.laws.entry a given.1,
       )
 
-pub overflow_add-from : goal.overflow_add-from
-overflow_add-from c = omega (arith, low c.requires)
-
-pub offset_bounds-job-from : goal.offset_bounds-job-from
-offset_bounds-job-from c = omega (arith, low c.requires)
-
-pub slice_bounds-result-count : goal.slice_bounds-result-count
-slice_bounds-result-count c = omega (arith, low c.requires)
-
-pub slice_bounds-result-start : goal.slice_bounds-result-start
-slice_bounds-result-start c = omega (arith, low c.requires)
-
 pub slice_bounds-result-end : goal.slice_bounds-result-end
 slice_bounds-result-end c = omega (arith, low c.requires)
 

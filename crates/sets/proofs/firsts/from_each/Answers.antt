@@ -1,17 +1,14 @@
 -- `sets::firsts::from_each` meets its contract. The invariant: the placements are found in which a member before `last` ends last. Assumes nothing.
-use Prim.Native.Nat.{ℕ, ◌<◌}
-use mathlib.Core.Path.{◌≡◌, refl, sym, ◌∙◌, subst}
+use Prim.Native.Nat.{ℕ}
+use mathlib.Core.Path.{◌≡◌, sym, ◌∙◌, subst}
 use mathlib.Core.Logic.{by_cases}
 use native.Mathlib.Decide.{dec_lt}
 use native.Mathlib.Omega.{arith}
 use Rattle.bitset.specs.Code.Members.{In}
 use Rattle.bitset.proofs.In.{in_zero}
 use Rattle.keeping.specs.Code.Tables.{pair_at}
-use Rattle.searching.proofs.Growth.{grown_none, grown_more, ready_as}
+use Rattle.searching.proofs.Growth.{grown_none, grown_more}
 use Rattle.sets.proofs.firsts.from_each.Goals as goal
-
-pub pair_at-requires : goal.pair_at-requires
-pair_at-requires c = let p = c.requires in let few : c.args.first < 4 = omega (arith, p.1, p.0.few) in (few, few, omega (arith, p.0.forward, p.0.moments))
 
 -- where the first member has no end, nothing begins with it
 pub returns-then-pair_at-eq0 : goal.returns-then-pair_at-eq0
@@ -20,13 +17,6 @@ returns-then-pair_at-eq0 c = let a = c.args in (
   λ e bs es m t d l q g. in_zero (sym c.pair_at.ensures ∙ c.if-pair_at-eq0.true)
       (subst (λ (x : ℕ). In (pair_at a.tables.now.ends a.first a.first x) (es a.first)) q (m.lawful a.first c.requires.1).reads),
 )
-
-pub loop-last-init : goal.loop-last-init
-loop-last-init c = (grown_none, λ m l. absurd (omega arith))
-
-pub from_first-r-requires : goal.from_first-r-requires
-from_first-r-requires c = let p = c.requires in
-    (ready_as refl (sym c.loop-last.invariant.0.upto) p.0, p.1, c.loop-last-test.true)
 
 pub loop-last-preserved : goal.loop-last-preserved
 loop-last-preserved c =

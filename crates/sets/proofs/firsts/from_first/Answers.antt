@@ -1,22 +1,18 @@
 -- `sets::firsts::from_first` meets its contract. Assumes nothing.
-use Prim.Native.Nat.{ℕ, ◌+◌, ◌*◌, ◌≤◌, ◌<◌}
-use mathlib.Core.Path.{◌≡◌, refl, sym, ◌∙◌, subst}
+use Prim.Native.Nat.{ℕ, ◌+◌, ◌*◌, ◌≤◌}
+use mathlib.Core.Path.{◌≡◌, sym, ◌∙◌, subst}
 use mathlib.Core.Logic.{◌⊎◌, inl, inr, ⊎_elim}
 use native.Mathlib.Omega.{arith}
 use lib.ListN.{get_or}
 use Rattle.bitset.specs.Code.Members.{has, In}
 use Rattle.bitset.proofs.Bools.{not_both, either}
-use Rattle.bitset.proofs.In.{in_both, in_minus, in_without, in_zero}
+use Rattle.bitset.proofs.In.{in_both, in_minus, in_zero}
 use Rattle.narrowing.specs.Code.Open.{choice_at}
 use Rattle.ending.specs.Code.Search.{Masked, SoughtPlacement}
 use Rattle.narrowing.specs.Code.Tables.{InTables, BoundsHave}
-use Rattle.searching.proofs.Growth.{grown_none, grown_as, ready_as}
+use Rattle.searching.proofs.Growth.{grown_none, grown_as}
 use Rattle.sets.proofs.firsts.from_first.Goals as goal
 use Rattle.sets.proofs.firsts.from_first.Goals.{After-placed-next, Start}
-
--- the index of the ends of the last member
-index : (s : Start) → (s.args.last < 4) × (s.args.a < 64)
-index s = let p = s.requires in (omega (arith, p.2, p.0.few), omega (arith, p.0.forward, p.0.moments))
 
 -- the set that is searched is from the same moment, with the same last member
 same : (c : After-placed-next) → let a = c.args in (c.placed-next.result.from ≡ a.a) × (c.placed-next.result.last ≡ a.last)
@@ -45,18 +41,6 @@ sought c e bs es m t d l q r g =
     }))
     (c.placed-next.ensures.3 bs es t' d f q)
 
-pub overflow_mul-last : goal.overflow_mul-last
-overflow_mul-last c = omega (arith, index (goal.at.overflow_mul-last c).Start)
-
-pub overflow_add-last : goal.overflow_add-last
-overflow_add-last c = omega (arith, index (goal.at.overflow_add-last c).Start)
-
-pub offset_bounds-tables-last : goal.offset_bounds-tables-last
-offset_bounds-tables-last c = omega (arith, index (goal.at.offset_bounds-tables-last c).Start)
-
-pub bounds-tables-last : goal.bounds-tables-last
-bounds-tables-last c = omega (arith, index (goal.at.bounds-tables-last c).Start)
-
 -- all ends that the last member may have are found
 pub returns-then-inter-eq0 : goal.returns-then-inter-eq0
 returns-then-inter-eq0 c = let a = c.args in let m = c.minus-sought.ensures in (
@@ -71,26 +55,6 @@ returns-then-inter-eq0 c = let a = c.args in let m = c.minus-sought.ensures in (
       (either (has a.found.ends e)),
 )
 
-pub unplaced-state-requires : goal.unplaced-state-requires
-unplaced-state-requires c = let p = c.requires in let r = p.0 in
-    record { some = r.some; few = r.few; member = p.2; forward = r.forward; moments = r.moments }
-
-pub placed-next-requires : goal.placed-next-requires
-placed-next-requires c = let p = c.requires in let r = p.0 in let u = c.unplaced-state.ensures in
-    record {
-      few = r.few;
-      member = p.1;
-      moment = omega (arith, r.forward, r.moments);
-      last = omega (arith, u.1, p.2);
-      from = omega (arith, u.0, r.forward, r.moments);
-    }
-
-pub offset_bounds-next-last : goal.offset_bounds-next-last
-offset_bounds-next-last c = let p = c.requires in omega (arith, p.2, p.0.few)
-
-pub bounds-next-last : goal.bounds-next-last
-bounds-next-last c = let p = c.requires in omega (arith, p.2, p.0.few)
-
 pub returns-then-next-last-eq0 : goal.returns-then-next-last-eq0
 returns-then-next-last-eq0 c = (
   grown_none,
@@ -98,13 +62,6 @@ returns-then-next-last-eq0 c = (
       (λ h. in_zero (subst (λ (x : ℕ). (choice_at c.placed-next.result.members x).ends ≡ 0) (sym (same (goal.at.returns-then-next-last-eq0 c).After-placed-next).1) (omega (arith, c.if-next-last-eq0.true))) (h.fits.ends _ (omega (arith, (same (goal.at.returns-then-next-last-eq0 c).After-placed-next).1, c.requires.2))))
       (sought (goal.at.returns-then-next-last-eq0 c).After-placed-next e bs es m t d l q r g),
 )
-
-pub search-requires : goal.search-requires
-search-requires c = let p = c.requires in let z = same (goal.at.search-requires c).After-placed-next in record {
-  ready = ready_as (sym z.0) refl p.0;
-  last = omega (arith, z.1, p.2);
-  left = λ i t. (c.unplaced-state.ensures.2 i).0 ((in_without c.placed-next.ensures.2 i).0 t).0;
-}
 
 pub returns : goal.returns
 returns c = let n = c.search.ensures in (

@@ -5,4 +5,4 @@ use Rattle.sets.proofs.tables.cut_pairs.Given as goal
 
 abbrev pub invariant-loop-p : goal.invariant-loop-p
 invariant-loop-p l =
-    SameElse l.initial.tables l.tables × LeftOut l.count l.span.a l.span.z l.initial.tables.ends l.initial.tables.goes l.tables.ends l.tables.goes
+    SameElse l.initial.tables l.tables × LeftOut l.initial.tables.count l.span.a l.span.z l.initial.tables.ends l.initial.tables.goes l.tables.ends l.tables.goes

@@ -14,9 +14,6 @@ use Rattle.history.proofs.carry.Held.hold_first.Goals as goal
 fits : {S first : List ℕ} {room : ℕ} → Ascending S → first ≡ take_while (begins_at 0) (drop 0 S) → length S ≤ room → length first ≤ room
 fits ascends e few = omega (arith, ap length e, (begun_first ascends).inside, few)
 
-pub copy_words-requires : goal.copy_words-requires
-copy_words-requires c = omega (arith, fits c.requires.0 c.starting_at-first.ensures c.requires.1)
-
 pub returns : goal.returns
 returns c job lasting =
     rw c.copy_words.ensures

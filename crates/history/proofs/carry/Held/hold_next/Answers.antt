@@ -15,17 +15,6 @@ room-left : {test : ℕ → Bool} {count : ℕ} {held : List ℕ} {n : ℕ} {kep
     → count + more ≤ length held → n + more ≤ length kept
 room-left more f same room = omega (arith, f.few, same, room)
 
-pub keep_unfinished-kept-requires : goal.keep_unfinished-kept-requires
-keep_unfinished-kept-requires c = (c.requires.0, omega (arith, c.requires.2))
-
-pub copy_words-requires : goal.copy_words-requires
-copy_words-requires c = room-left _ c.keep_unfinished-kept.ensures c.keep_unfinished-kept.auto.held c.requires.2
-
-pub overflow_add-self : goal.overflow_add-self
-overflow_add-self c =
-    let room = room-left _ c.keep_unfinished-kept.ensures c.keep_unfinished-kept.auto.held c.requires.2 in
-    omega (arith, room, c.well_formed)
-
 pub returns-clause-list : goal.returns-clause-list
 returns-clause-list c =
     let room = room-left _ c.keep_unfinished-kept.ensures c.keep_unfinished-kept.auto.held c.requires.2 in

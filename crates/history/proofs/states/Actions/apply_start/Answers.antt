@@ -11,9 +11,6 @@ use Rattle.history.proofs.Moments.{finish-tabled, start_applied}
 use native.Mathlib.Omega.{arith}
 use Rattle.history.proofs.states.Actions.apply_start.Goals as goal
 
-pub finish_of-requires : goal.finish_of-requires
-finish_of-requires c = c.requires.0.tables.durations.small _
-
 pub returns-then-hiding-finish_of : goal.returns-then-hiding-finish_of
 returns-then-hiding-finish_of c =
     let acts-here : let a = c.args in acts a.self.now.job.now a.hiding a.t a.s ≡ (a.hiding || eqb c.finish_of.result a.t) = let a = c.args in

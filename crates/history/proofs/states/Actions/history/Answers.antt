@@ -10,9 +10,6 @@ use Rattle.history.proofs.Carried.{each_lasts, list_count}
 use native.Mathlib.Omega.{arith}
 use Rattle.history.proofs.states.Actions.history.Goals as goal
 
-pub hold_first-requires : goal.hold_first-requires
-hold_first-requires c = (c.requires.1, c.requires.2)
-
 pub loop-t-init : goal.loop-t-init
 loop-t-init c =
     let first : HeldList c.args.self.now.job.now c.args.starts.now 0 c.hold_first.new.self.words c.hold_first.new.self.count = let p = c.requires in c.hold_first.ensures c.args.self.now.job.now (each_lasts p.0.well p.0.named) in
@@ -49,8 +46,3 @@ loop-t-preserved c =
       begun = rw c.starting_at-starting.ensures (begun_more ascends inv.begun);
       stored = rows_more c.requires.0.well.few_fluents inv.stored c.store_row-in-loop-t.ensures new.state.value;
     }
-
-pub returns : goal.returns
-returns c =
-    let rows = c.loop-t.invariant.stored in
-    record { size = rows.size; entry = λ t f l m. rows.entry t f (omega arith) m }
