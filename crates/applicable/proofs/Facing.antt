@@ -9,6 +9,7 @@ use borrow.Author.Tests.{le-leb, lt-ltb}
 use lib.Dec.{eqb, ltb}
 use lib.ListN.{length, get_or, take}
 use lib.Seq.{sets}
+use Rattle.std.specs.List.{list_any}
 use Rattle.std.proofs.lemmas.Grind.{get_or_default_zero}
 use Rattle.words.specs.Fields.{start_moment, start_action, start_word}
 use Rattle.words.specs.Scan.{any, filter}
@@ -29,7 +30,7 @@ use Rattle.starts.specs.Code.Given.{Paired}
 use Rattle.starts.proofs.GroupLimits.{one_in_front}
 use Rattle.starts.proofs.Opposed.{together-later}
 use Rattle.starts.proofs.StartsFormed.{word_moment, word_action}
-use Rattle.groups.specs.Code.GroupTable.{GroupTable, some_full}
+use Rattle.groups.specs.Code.GroupTable.{GroupTable, is_full}
 use Rattle.groups.specs.declared.Groups.{Groups}
 use Rattle.groups.proofs.GroupTable.{some_read}
 use Rattle.moves.specs.Trials.{busy}
@@ -125,8 +126,8 @@ module _ {job durations effects starts : List ℕ} {u a : ℕ} (given : FacingAl
       same : (s : ℕ) → start_action s < actions job → start_moment s ≤ u → unfinished_by durations u s ≡ in_hand job u s
       same s k l = rw (tabled s k, le-leb (start_moment s) u l)
 
-  -- row 16 over them: the code has read `limits`, `members` and r
-  pub held_full : {groups : Groups} → GroupTable job groups → {r : Bool} → r ≡ some_full groups.limits groups.members (filter (unfinished_by durations u) starts) a
+  -- row 16 over them: the code has read r
+  pub held_full : {groups : Groups} → GroupTable job groups → {r : Bool} → r ≡ list_any (is_full (filter (unfinished_by durations u) starts) a) groups.all
       → r ≡ over_limit job (start_word u a ∷ starts) (start_word u a)
   held_full table er =
       let formed = given.tables.formed in

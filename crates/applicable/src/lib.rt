@@ -47,7 +47,8 @@ fn some_clash(
     })
 }
 
-// Runs rows 8, 9, 15 and 16 of action `a` started at moment `u`, in this order. Of the starts only those in hand then count.
+// Runs rows 8, 9, 15 and 16 of action `a` started at moment `u`, in this order. Of the starts only those in hand then count: they are the
+// first `count` words of `held`, since without a heap a list is an array and a count.
 fn held_refusal(job: &[u32], plan: &Plan, starts: &[u32], u: usize, a: usize) -> Result<(), Refusal>
     requires { Present job.now starts.now u plan.now × (a < actions job.now) × (length starts.now ≤ 4096) }
     ensures { result ≡ ruled (held_refusal job.now starts.now u a) tt }

@@ -8,6 +8,7 @@ use native.Mathlib.Omega.{arith}
 use borrow.Author.Tests.{lt-ltb}
 use lib.ListN.{length, get_or, take, set, replicate, length-set}
 use lib.Seq.{get_or-take, length-take-le, take-suc, take-suc-set}
+use Rattle.std.specs.List.{list_any}
 use Rattle.words.specs.Fields.{start_moment, start_action}
 use Rattle.words.specs.Lists.{Each, each_none}
 use Rattle.words.proofs.Lists.{each_of, each_map, each_with, each_last, pairs-at}
@@ -22,7 +23,7 @@ use Rattle.starts.specs.Rows.{group_exceeded}
 use Rattle.starts.proofs.Rows.{Tried, tried_start, tried_more}
 use Rattle.starts.proofs.StartsFormed.{right_word}
 use Rattle.starts.proofs.GroupLimits.{one_taken}
-use Rattle.groups.specs.Code.GroupTable.{some_full, Grouped}
+use Rattle.groups.specs.Code.GroupTable.{is_full, Grouped}
 use Rattle.groups.specs.declared.Groups.{Groups}
 use Rattle.groups.proofs.GroupTable.{some_read}
 
@@ -82,7 +83,7 @@ module _ {job durations starts : List ℕ} {groups : Groups} (given : Grouped jo
       lasts = given.timed.formed.lasting (start_action (get_or starts i 0)) (right_word given.timed.words i inside).action
 
       -- row 16 on word i, counted over them
-      pub full_at : {a : ℕ} → a ≡ start_action (get_or starts i 0) → {r : Bool} → r ≡ some_full groups.limits groups.members (take n kept) a
+      pub full_at : {a : ℕ} → a ≡ start_action (get_or starts i 0) → {r : Bool} → r ≡ list_any (is_full (take n kept) a) groups.all
           → group_exceeded job starts i ≡ r
       unfolding group_exceeded
       full_at ea er = sym (er ∙ some_read given.table s lasts (λ group. one_taken job group starts i inside) kept_in_hand ea)

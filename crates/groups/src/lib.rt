@@ -3,13 +3,13 @@
 
 ghost use Rattle.std.specs.Prelude.{true, ◌≡◌, ℕ, ◌<◌, ◌≤◌, eqb, length, get_or, take};
 ghost use Rattle.words.specs.Fields.{kind, group_number};
-ghost use Rattle.words.specs.Scan.{every};
+ghost use Rattle.std.specs.List.{list_any, list_all};
 ghost use Rattle.words.specs.Lists.{Each};
 ghost use Rattle.answers.specs.Rows.{first_of};
 ghost use Rattle.job.specs.Code.WellFormed.{WellFormed};
 ghost use Rattle.history.specs.Code.Held.{unfinished_by, Filtered};
 ghost use Rattle.starts.specs.Rows.{group_exceeded, numbered};
-ghost use Rattle.groups.specs.Code.GroupTable.{GroupTable, LimitStored, MemberStored, held_of, is_full, some_full, Grouped};
+ghost use Rattle.groups.specs.Code.GroupTable.{GroupTable, WordStored, held_of, is_full, Grouped};
 ghost use Rattle.answers.specs.Code.Ruled.{ruled};
 
 use answers::{GROUP_OVER_LIMIT, Refusal, refuse};
@@ -17,31 +17,29 @@ use bitset::{has, single, union};
 use history::keep_unfinished;
 use words::*;
 
-// The limit of each group, and the set of its actions.
+// A group: its limit, and the set of its actions.
+#[derive(Clone, Copy)]
+pub struct Group {
+    pub limit: usize,
+    pub members: u64,
+}
+
+// The groups of a job, by their numbers.
 #[derive(Clone, Copy)]
 pub struct Groups {
-    pub limits: [usize; GROUPS],
-    pub members: [u64; GROUPS],
+    pub all: [Group; GROUPS],
 }
 
-// Stores the limit of the group that the word `w` declares, if it declares one.
-fn store_limit(w: u32, limits: &mut [usize; GROUPS])
-    requires { (kind w ≡ 13 → group_number w < 8) × (length limits.old ≡ 8) }
-    ensures { LimitStored w limits.old limits.new }
+// Stores what the word `w` says of a group: its limit, if it declares one, or one of its actions, if it lists one.
+fn store_word(w: u32, all: &mut [Group; GROUPS])
+    requires { (kind w ≡ 13 → group_number w < 8) × (kind w ≡ 14 → group_number w < 8) × (length all.old ≡ 8) }
+    ensures { WordStored w all.old all.new }
 {
     if kind_of(w) == GROUP {
-        limits[group_number(w)] = group_limit(w);
-    }
-}
-
-// Stores the action that the word `w` lists in a group, if it lists one.
-fn store_member(w: u32, members: &mut [u64; GROUPS])
-    requires { (kind w ≡ 14 → group_number w < 8) × (length members.old ≡ 8) }
-    ensures { MemberStored w members.old members.new }
-{
-    if kind_of(w) == GROUP_MEMBER {
+        all[group_number(w)].limit = group_limit(w);
+    } else if kind_of(w) == GROUP_MEMBER {
         let g = group_number(w);
-        members[g] = union(members[g], single(group_action(w) as u32));
+        all[g].members = union(all[g].members, single(group_action(w) as u32));
     }
 }
 
@@ -50,46 +48,53 @@ pub fn groups_of(job: &[u32]) -> Groups
     requires { WellFormed job.now }
     ensures { GroupTable job.now result }
 {
-    let mut limits = [0usize; GROUPS];
-    let mut members = [0u64; GROUPS];
+    let mut all = [Group {
+        limit: 0,
+        members: 0,
+    }; GROUPS];
     for &w in job.iter().rev() {
-        store_limit(w, &mut limits);
-        store_member(w, &mut members);
+        store_word(w, &mut all);
     }
-    Groups { limits, members }
+    Groups { all }
 }
 
-// Returns how many of the starts have an action in the set.
+// Returns how many of the starts have an action in the set. It is a loop, since `filter` and `count` take half as many instructions again.
 fn held_of(members: u64, held: &[u32]) -> usize
     ensures { result ≡ held_of members held.now }
 {
-    held.iter()
-        .filter(|&&s| has(members, start_action(s) as u32))
-        .count()
+    let mut n = 0;
+    for &s in held {
+        if has(members, start_action(s) as u32) {
+            n += 1;
+        }
+    }
+    n
 }
 
-// Returns whether a group, by its limit and the set of its actions, has no room for a start of action `a` beside those in hand.
-fn is_full(limit: usize, members: u64, held: &[u32], a: usize) -> bool
-    requires { a < 64 }
-    ensures { result ≡ is_full limit members held.now a }
-{
-    has(members, a as u32) && limit <= held_of(members, held)
+impl Group {
+    // Returns whether the group has no room for a start of action `a` beside those in hand.
+    fn is_full(&self, held: &[u32], a: usize) -> bool
+        requires { a < 64 }
+        ensures { result ≡ is_full held.now a self.now }
+    {
+        has(self.members, a as u32) && self.limit <= held_of(self.members, held)
+    }
 }
 
 impl Groups {
     // Returns whether some group has no room for a start of action `a` beside those in hand.
     pub fn some_full(&self, held: &[u32], a: usize) -> bool
         requires { a < 64 }
-        ensures { result ≡ some_full self.now.limits self.now.members held.now a }
+        ensures { result ≡ list_any (is_full held.now a) self.now.all }
     {
-        (0..GROUPS).any(|g| is_full(self.limits[g], self.members[g], held, a))
+        self.all.iter().any(|group| group.is_full(held, a))
     }
 
     // Returns whether no group has an action.
     fn all_empty(&self) -> bool
-        ensures { result ≡ every (λ m. eqb m 0) self.now.members }
+        ensures { result ≡ list_all (λ g. eqb g.members 0) self.now.all }
     {
-        self.members.iter().all(|&m| m == 0)
+        self.all.iter().all(|group| group.members == 0)
     }
 }
 
@@ -111,8 +116,8 @@ fn keep_from(
     keep_unfinished(durations, u, held, count)
 }
 
-// Row 16: refuses the first start with which a group exceeds its limit. The list `held` has the starts before it that are in hand at the
-// moment `t` of the last one.
+// Row 16: refuses the first start with which a group exceeds its limit. The first `count` words of `held` are the starts before it that are
+// in hand at the moment `t` of the last one: without a heap a list that shrinks and grows is an array and a count.
 pub fn over_limit(
     job: &[u32],
     durations: &[usize; ACTIONS],

@@ -7,19 +7,13 @@ use Rattle.groups.proofs.groups_of.Goals as goal
 pub loop-w-init : goal.loop-w-init
 loop-w-init c =
     let e = ap (λ r. r.iter.rest.now) c.into_iter-w-iterator.ensures.into_iter_gives ∙ ap (λ i. i.rest.now) c.rev-w-items.ensures.source ∙ c.iter.ensures.rest in
-    record { walk = rw e (back_start _); tables = rw e (groups_none c.args.job.now) }
+    record { walk = rw e (back_start _); table = rw e (groups_none c.args.job.now) }
 
-pub store_limit-requires : goal.store_limit-requires
-store_limit-requires c =
+pub store_word-requires : goal.store_word-requires
+store_word-requires c =
     let turn = c.loop-w.invariant in
     let taken = back_taken _ turn.walk c.in-Some.ensures.steps in
-    (rw taken.word at (c.requires.group _ taken.inside), turn.tables.limit_size)
-
-pub store_member-requires : goal.store_member-requires
-store_member-requires c =
-    let turn = c.loop-w.invariant in
-    let taken = back_taken _ turn.walk c.in-Some.ensures.steps in
-    (rw taken.word at (c.requires.group_member _ taken.inside), turn.tables.member-size)
+    (rw taken.word at (c.requires.group _ taken.inside), rw taken.word at (c.requires.group_member _ taken.inside), turn.table.size)
 
 pub loop-w-preserved : goal.loop-w-preserved
 loop-w-preserved c =
@@ -27,8 +21,8 @@ loop-w-preserved c =
     let taken = back_taken _ turn.walk c.in-Some.ensures.steps in
     record {
       walk = taken.walk;
-      tables = groups_more _ _ _ turn.tables taken.next taken.inside (rw taken.word c.store_limit.ensures) (rw taken.word c.store_member.ensures);
+      table = groups_more _ _ _ turn.table taken.next taken.inside (rw taken.word c.store_word.ensures);
     }
 
 pub returns : goal.returns
-returns c = groups_all (rw c.in-None.ensures.steps.0 at c.loop-w.invariant.tables)
+returns c = groups_all (rw c.in-None.ensures.steps.0 at c.loop-w.invariant.table)
