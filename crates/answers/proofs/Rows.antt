@@ -15,8 +15,9 @@ use Rattle.std.specs.List.{position_or_len}
 use Rattle.std.proofs.lemmas.List.Sums.{fails_before_first, passes_at_first}
 use borrow.Author.Tests.{lt-ltb, le-ltb, eq-eqb, ne_eqb, eqb-true, eqb-false}
 use Rattle.answers.specs.Packed.{answer_of}
-use Rattle.answers.specs.Rows.{refusal, passed, row, first_refusal, refusal_at, first_of, ruled, refused_at, if_any}
+use Rattle.answers.specs.Rows.{refusal, passed, row, first_refusal, refusal_at, first_of}
 use Rattle.answers.specs.declared.Refusal.{Refusal}
+use Rattle.answers.specs.Code.Ruled.{if_any, refused_at, ruled}
 
 -- a number at a position
 pub at-number : (i n : ℕ) → (refusal_at i n).number ≡ n

@@ -1,5 +1,5 @@
 -- What the 64-bit number of an answer is.
-use Rattle.std.specs.Prelude.{Result, Ok, Err, cond, ℕ, ◌+◌, ◌*◌, ◌/◌, ◌%◌, ◌^◌, ◌<◌, ◌≡◌, eqb}
+use Rattle.std.specs.Prelude.{cond, ℕ, ◌+◌, ◌*◌, ◌/◌, ◌%◌, ◌^◌, ◌<◌, ◌≡◌, eqb}
 use Rattle.answers.specs.declared.Refusal.{Refusal}
 use Rattle.answers.specs.declared.Answer.{Answer}
 use Rattle.answers.specs.declared.Answer.TheVariants.{Accepted, Refused}
@@ -7,11 +7,6 @@ use Rattle.answers.specs.declared.Answer.TheVariants.{Accepted, Refused}
 -- the answer of a call whose rows give r: r, with a count of 0; or, where no row fits, success with a length and a count
 abbrev pub answer_of : Refusal → ℕ → ℕ → Answer
 answer_of r length count = cond (eqb r.number 0) (Accepted length count) (Refused r.number r.position 0)
-
--- the answer of a call that gives a number of words, or a refusal
-abbrev pub answered : Result ℕ Refusal → Answer
-answered (Ok length) = Accepted length 0
-answered (Err r) = Refused r.number r.position 0
 
 -- the four fields of an answer: 0 where its case has none
 abbrev pub number_of : Answer → ℕ

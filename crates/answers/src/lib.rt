@@ -2,9 +2,10 @@
 #![tactic(auto)]
 
 ghost use Rattle.std.specs.Prelude.{◌≡◌};
-ghost use Rattle.answers.specs.Rows.{refused_at, refusal, passed, row, first_refusal};
-ghost use Rattle.answers.specs.Packed.{answered, answer_of, packed, fields};
+ghost use Rattle.answers.specs.Rows.{refusal, passed};
+ghost use Rattle.answers.specs.Packed.{packed, fields};
 ghost use Rattle.answers.specs.Code.Packed.{Fits, InRange};
+ghost use Rattle.answers.specs.Code.Ruled.{answered, refused_at};
 
 // The numbers of the refusals, by the names of the C header. They are no enum: the definitions of the rows give a refusal by its number, which the
 // host in C gets.
@@ -83,36 +84,6 @@ pub fn refuse(number: u32, position: usize) -> Refusal
     ensures { result ≡ refusal number position }
 {
     Refusal { number, position }
-}
-
-pub fn row_of(fits: bool, number: u32, position: usize) -> Refusal
-    ensures { result ≡ row fits number position }
-{
-    if fits {
-        Refusal { number, position }
-    } else {
-        none()
-    }
-}
-
-pub fn first_refusal(a: Refusal, b: Refusal) -> Refusal
-    ensures { result ≡ first_refusal a b }
-{
-    if a.number == 0 { b } else { a }
-}
-
-pub fn answer_of(r: Refusal, length: usize, count: u64) -> Answer
-    ensures { result ≡ answer_of r length count }
-{
-    if r.number == 0 {
-        Answer::Accepted { length, count }
-    } else {
-        Answer::Refused {
-            number: r.number as u64,
-            position: r.position,
-            count: 0,
-        }
-    }
 }
 
 // Refuses with a number the place that was found, if one was.

@@ -13,7 +13,7 @@ use Rattle.words.specs.Lists.{Each, Pairs}
 use Rattle.words.proofs.Lists.{each_of, each_at, small_at, pairs_of}
 use Rattle.words.proofs.Insert.{insert-length}
 use Rattle.answers.specs.declared.Refusal.{Refusal}
-use Rattle.answers.specs.Rows.{refusal, passed, row, first_refusal, first_row, ruled}
+use Rattle.answers.specs.Rows.{refusal, passed, row, first_refusal, first_row}
 use Rattle.job.specs.Parts.{head_word, actions, last_moment, duration, laws_of}
 use Rattle.job.specs.Refusal.{job_refusal}
 use Rattle.job.specs.Code.WellFormed.{WellFormed, Indexed}
@@ -32,6 +32,7 @@ use Rattle.moves.specs.Trials.{Trial, Start, new_start_rows, start_refusal}
 use Rattle.moves.proofs.Passing.{Passing, lawful_few}
 use Rattle.moves.proofs.Played.{move_passes}
 use Rattle.applicable.specs.Code.Given.{FacingAll, Present, held_refusal, StartTested}
+use Rattle.answers.specs.Code.Ruled.{ruled}
 
 -- a plan that passes has lawful starts
 plan_lawful : {job starts : List ℕ} → Each (λ s. s < 2 ^ 32) starts → (plan_refusal job starts).number ≡ 0 → Lawful job starts

@@ -4,12 +4,12 @@
 ghost use Rattle.std.specs.Prelude.{◌≡◌, ◌<◌, ◌≤◌, length};
 ghost use Rattle.words.specs.Fields.{start_word};
 ghost use Rattle.words.specs.Scan.{any};
-ghost use Rattle.answers.specs.Rows.{ruled};
 ghost use Rattle.history.specs.Code.Tables.{Durations, Named};
 ghost use Rattle.starts.specs.Rows.{clashing};
 ghost use Rattle.job.specs.Parts.{actions};
 ghost use Rattle.moves.specs.Trials.{busy};
 ghost use Rattle.applicable.specs.Code.Given.{FacingAll, Present, held_refusal, StartTested};
+ghost use Rattle.answers.specs.Code.Ruled.{ruled};
 
 use answers::{
     GROUP_OVER_LIMIT, Refusal, START_CLASHES, START_ENDS_LATE, START_IN_HAND, START_NEEDS,

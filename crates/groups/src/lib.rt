@@ -5,11 +5,12 @@ ghost use Rattle.std.specs.Prelude.{true, ◌≡◌, ℕ, ◌<◌, ◌≤◌, eq
 ghost use Rattle.words.specs.Fields.{kind, group_number};
 ghost use Rattle.std.specs.List.{list_any, list_all};
 ghost use Rattle.words.specs.Lists.{Each};
-ghost use Rattle.answers.specs.Rows.{first_of, ruled};
+ghost use Rattle.answers.specs.Rows.{first_of};
 ghost use Rattle.job.specs.Code.WellFormed.{WellFormed};
 ghost use Rattle.history.specs.Code.Held.{unfinished_by, Filtered};
 ghost use Rattle.starts.specs.Rows.{group_exceeded, numbered};
 ghost use Rattle.groups.specs.Code.GroupTable.{GroupTable, WordStored, held_of, is_full, Grouped};
+ghost use Rattle.answers.specs.Code.Ruled.{ruled};
 
 use answers::{GROUP_OVER_LIMIT, Refusal, refuse};
 use bitset::{has, single, union};

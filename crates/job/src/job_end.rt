@@ -1,10 +1,11 @@
 // The rows of the job end.
 ghost use Rattle.std.specs.Prelude.{List, ◌≡◌, ℕ, ◌-◌, ◌<◌, ◌≤◌, length, get_or};
-ghost use Rattle.answers.specs.Rows.{first_of, ruled};
+ghost use Rattle.answers.specs.Rows.{first_of};
 ghost use Rattle.job.specs.Before.{before, count_of_kind, named};
 ghost use Rattle.job.specs.Refusal.{name_refusal, end_refusal};
 ghost use Rattle.job.specs.Code.Names.{NamedTimes};
 ghost use Rattle.job.specs.Code.State.{Tied};
+ghost use Rattle.answers.specs.Code.Ruled.{ruled};
 
 use crate::State;
 use crate::names::Names;

@@ -2,9 +2,9 @@
 #![tactic(auto)]
 
 ghost use Rattle.std.specs.Prelude.{◌≡◌};
-ghost use Rattle.answers.specs.Rows.{ruled};
 ghost use Rattle.job.specs.Refusal.{job_refusal};
 ghost use Rattle.job.specs.Code.Index.{checked_of};
+ghost use Rattle.answers.specs.Code.Ruled.{ruled};
 
 use answers::Refusal;
 use job_end::end_refusal;

@@ -2,10 +2,10 @@
 // most prove themselves.
 ghost use Rattle.std.specs.Prelude.{cond, ◌≡◌, ◌≤◌};
 ghost use Rattle.words.specs.Fields.{group_number};
-ghost use Rattle.answers.specs.Rows.{if_any};
 ghost use Rattle.bitset.specs.Code.Members.{has};
 ghost use Rattle.job.specs.Follow.{may_follow};
 ghost use Rattle.job.specs.Rules.{word_refusal_of, limited, head_refusal, known_refusal, action_refusal, law_refusal, formula_shape, formula_range, formula_refusal, node_shape, node_range, node_refusal, member_refusal, condition_shape, condition_range, condition_refusal, shift_window_refusal, group_refusal, group_member_refusal};
+ghost use Rattle.answers.specs.Code.Ruled.{if_any};
 
 use crate::{LAST_MOMENT, NOTHING, SET_NODE};
 use answers::{JOB_FLUENT_TWICE, JOB_SHAPE, JOB_VALUE};

@@ -1,6 +1,6 @@
 // The words in turn: the refusal of each by the rule of its kind, at what the scan keeps of the words before.
 ghost use Rattle.std.specs.Prelude.{◌||◌, ◌≡◌, ◌+◌, ◌<◌, ◌≤◌, length, get_or};
-ghost use Rattle.answers.specs.Rows.{first_of, if_any, RuledBy};
+ghost use Rattle.answers.specs.Rows.{first_of};
 ghost use Rattle.bitset.specs.Code.Members.{has, IsSetOf};
 ghost use Rattle.job.specs.Parts.{is_group};
 ghost use Rattle.job.specs.Before.{before};
@@ -8,6 +8,7 @@ ghost use Rattle.job.specs.Follow.{predecessor};
 ghost use Rattle.job.specs.Refusal.{refusal_of};
 ghost use Rattle.job.specs.Code.Entries.{Listed};
 ghost use Rattle.job.specs.Code.State.{Tied};
+ghost use Rattle.answers.specs.Code.Ruled.{RuledBy, if_any};
 
 use crate::entries::ENTRY_ROWS;
 use crate::names::Names;

@@ -2,12 +2,13 @@
 #![tactic(auto)]
 
 ghost use Rattle.std.specs.Prelude.{not, ◌||◌, ◌≡◌, ◌<◌, length, get_or};
-ghost use Rattle.answers.specs.Rows.{first_of, ruled};
+ghost use Rattle.answers.specs.Rows.{first_of};
 ghost use Rattle.bitset.specs.Code.Members.{has, IsSetOf};
 ghost use Rattle.history.specs.Code.Tables.{Durations};
 ghost use Rattle.starts.specs.Rows.{inside_window, outside_windows, numbered};
 ghost use Rattle.starts.specs.Code.Given.{StartsFormed};
 ghost use Rattle.shifts.specs.Code.ShiftSets.{ShiftTable};
+ghost use Rattle.answers.specs.Code.Ruled.{ruled};
 
 use answers::{Refusal, START_OUTSIDE_WINDOWS, refused_at};
 use bitset::{between, has, single, union};

@@ -10,10 +10,11 @@ use lib.Dec.{eqb, ltb}
 use lib.ListN.{length, get_or, take, drop}
 use Rattle.words.proofs.Choices.{both_true}
 use Rattle.answers.specs.declared.Refusal.{Refusal}
-use Rattle.answers.specs.Rows.{refusal, passed, first_refusal, refusal_at, first_of, ruled, refused_at}
+use Rattle.answers.specs.Rows.{refusal, passed, first_refusal, refusal_at, first_of}
 use Rattle.answers.proofs.Rows.{or_none, or_refused, or_passed, or_assoc, first_start, first_more, first_found, first_none, ruled-refused, ok-passed, err-refused, position-first}
 use Rattle.starts.specs.Rows.{outside_windows, group_exceeded, needs_unmet, start_rows, numbered, rows_refusal, starts_refusal}
 use Rattle.starts.specs.Code.Given.{time_rows}
+use Rattle.answers.specs.Code.Ruled.{refused_at, ruled}
 
 -- a row's loop at word i of n: it fits none of the words before
 pub record Tried (number : ℕ) (test : ℕ → Bool) (n i : ℕ) : Type 0 where

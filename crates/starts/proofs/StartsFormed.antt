@@ -19,11 +19,12 @@ use Rattle.history.specs.Code.Tables.{Durations, tabled_finish, Named}
 use Rattle.history.specs.Held.{Ascending}
 use Rattle.history.proofs.Moments.{finish-tabled}
 use Rattle.answers.specs.declared.Refusal.{Refusal}
-use Rattle.answers.specs.Rows.{first_of, ruled}
+use Rattle.answers.specs.Rows.{first_of}
 use Rattle.answers.proofs.Rows.{or_none, ok-passed}
 use Rattle.starts.specs.Rows.{is_start, ascends, wrong_word, start_rows, numbered, rows_refusal, starts_refusal}
 use Rattle.starts.specs.Code.Given.{time_rows, StartsFormed, Tabled, Timed}
 use Rattle.starts.proofs.Rows.{row-clear}
+use Rattle.answers.specs.Code.Ruled.{ruled}
 
 -- what a right word says
 pub record Right (job : List ℕ) (s : ℕ) : Type 0 where

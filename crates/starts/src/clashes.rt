@@ -1,12 +1,13 @@
 // Row 9: starts that clash.
 ghost use Rattle.std.specs.Prelude.{◌≡◌, length};
 ghost use Rattle.words.specs.Scan.{any_below};
-ghost use Rattle.answers.specs.Rows.{first_of, ruled};
+ghost use Rattle.answers.specs.Rows.{first_of};
 ghost use Rattle.job.specs.Parts.{actions};
 ghost use Rattle.history.specs.Code.Tables.{Effects};
 ghost use Rattle.starts.specs.Rows.{clash, clashes, numbered};
 ghost use Rattle.starts.specs.Code.Latest.{PairStored, ClashesWith, clashes_after};
 ghost use Rattle.starts.specs.Code.Given.{Timed, Paired, PairStorable, Comparable, Compared};
+ghost use Rattle.answers.specs.Code.Ruled.{ruled};
 
 use answers::{Refusal, START_CLASHES, refuse};
 use history::finish_of;

@@ -3,9 +3,9 @@
 #![tactic(auto)]
 
 ghost use Rattle.std.specs.Prelude.{◌≡◌, length};
-ghost use Rattle.answers.specs.Rows.{ruled};
 ghost use Rattle.starts.specs.Rows.{rows_refusal};
 ghost use Rattle.starts.specs.Code.Given.{time_rows, Tabled};
+ghost use Rattle.answers.specs.Code.Ruled.{ruled};
 
 mod clashes;
 mod order;

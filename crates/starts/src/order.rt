@@ -1,8 +1,9 @@
 // Row 6: the words of a plan's starts, and their order.
 ghost use Rattle.std.specs.Prelude.{◌≡◌, ◌<◌, length};
-ghost use Rattle.answers.specs.Rows.{first_of, ruled};
+ghost use Rattle.answers.specs.Rows.{first_of};
 ghost use Rattle.job.specs.Code.WellFormed.{WellFormed};
 ghost use Rattle.starts.specs.Rows.{is_start, ascends, wrong_word, numbered};
+ghost use Rattle.answers.specs.Code.Ruled.{ruled};
 
 use answers::{Refusal, START_WORD, refuse};
 use words::*;

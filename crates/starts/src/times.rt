@@ -1,8 +1,9 @@
 // Rows 7 and 8: when starts finish.
 ghost use Rattle.std.specs.Prelude.{◌≡◌, length};
-ghost use Rattle.answers.specs.Rows.{first_of, ruled};
+ghost use Rattle.answers.specs.Rows.{first_of};
 ghost use Rattle.starts.specs.Rows.{ends_late, in_hand_already, numbered};
 ghost use Rattle.starts.specs.Code.Given.{Timed};
+ghost use Rattle.answers.specs.Code.Ruled.{ruled};
 
 use answers::{Refusal, START_ENDS_LATE, START_IN_HAND, refuse, refused_at};
 use history::finish_of;

@@ -1,9 +1,10 @@
 // Row 10: needs that are not met, by the history of the plan.
 ghost use Rattle.std.specs.Prelude.{◌≡◌, ◌+◌, ◌*◌, ◌<◌, length, get_or};
 ghost use Rattle.words.specs.Scan.{any};
-ghost use Rattle.answers.specs.Rows.{first_of, ruled};
+ghost use Rattle.answers.specs.Rows.{first_of};
 ghost use Rattle.starts.specs.Rows.{unmet, needs_unmet, numbered};
 ghost use Rattle.starts.specs.Code.Given.{Recorded};
+ghost use Rattle.answers.specs.Code.Ruled.{ruled};
 
 use answers::{Refusal, START_NEEDS, refuse};
 use history::laws_of;

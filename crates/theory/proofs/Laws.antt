@@ -19,8 +19,8 @@ use Rattle.answers.specs.declared.Refusal.{Refusal}
 use Rattle.std.specs.Prelude.{Result, Ok, Err}
 use Rattle.std.specs.Result.{IsErrAnd}
 use Rattle.answers.specs.declared.Answer.TheVariants.{Accepted, Refused}
-use Rattle.answers.specs.Packed.{answer_of, answered}
-use Rattle.answers.specs.Rows.{refusal, passed, first_refusal, ruled, RuledBy}
+use Rattle.answers.specs.Packed.{answer_of}
+use Rattle.answers.specs.Rows.{refusal, passed, first_refusal}
 use Rattle.words.specs.Fields.{fact_room}
 use Rattle.job.specs.Parts.{head_word}
 use Rattle.job.specs.Refusal.{job_refusal}
@@ -30,6 +30,7 @@ use Rattle.facts.specs.Code.Written.{Filled}
 use Rattle.theory.specs.Answers.{buffer_refusal, fact_room_refusal, plan_refusal, facts_refusal, check_refusal, fill_refusal, written}
 use Rattle.theory.specs.Code.Judged.{room_rows}
 use Rattle.theory.specs.Code.Compared.{part_refusal}
+use Rattle.answers.specs.Code.Ruled.{RuledBy, answered, ruled}
 
 -- row 12: where it does not fit, the buffer is long enough; where it fits, it is too short
 module _ (room : ℕ) where

@@ -14,10 +14,10 @@ use Rattle.facts.specs.Facts.{facts_of}
 use Rattle.facts.specs.Code.Written.{row_facts, rows_facts, Filled}
 use Rattle.facts.proofs.Lists.{row-most, rows_none, rows_first, rows_facts_lem}
 use Rattle.answers.specs.declared.Refusal.{Refusal}
-use Rattle.answers.specs.Rows.{ruled}
 use Rattle.theory.specs.Answers.{facts_refusal}
 use Rattle.theory.specs.Code.Compared.{part_refusal}
 use Rattle.theory.proofs.Laws.{part_refuses, part_passes, part_inside, filled_front}
+use Rattle.answers.specs.Code.Ruled.{ruled}
 
 -- by a history, the facts of the moments from t to `last`
 abbrev pub rest : List ℕ → List ℕ → ℕ → ℕ → List ℕ

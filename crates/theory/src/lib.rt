@@ -2,14 +2,13 @@
 #![tactic(auto)]
 
 ghost use Rattle.std.specs.Prelude.{List, ◌≡◌, ℕ, ◌≤◌, length, drop};
-ghost use Rattle.answers.specs.Rows.{ruled};
-ghost use Rattle.answers.specs.Packed.{answered};
 ghost use Rattle.job.specs.Code.WellFormed.{WellFormed};
 ghost use Rattle.history.specs.Code.Tables.{History};
 ghost use Rattle.facts.specs.Facts.{facts_of};
 ghost use Rattle.theory.specs.Answers.{buffer_refusal, plan_refusal, facts_refusal, check_refusal, check_answer, fill_refusal, fill_answer, written};
 ghost use Rattle.theory.specs.Code.Judged.{room_checked_of, JobChecked, Judgeable, JudgedUpto, Judged};
 ghost use Rattle.theory.specs.Code.Compared.{part_refusal};
+ghost use Rattle.answers.specs.Code.Ruled.{answered, ruled};
 
 use answers::{Answer, BUFFER_SHORT, FACTS_DIFFER, Refusal, answered, refuse};
 use facts::{fill_facts, row_facts};

@@ -6,13 +6,12 @@ use mathlib.Core.Path.{◌≡◌, refl, ap, sym, ◌∙◌}
 use Prim.Native.Nat.{ℕ, ◌≤◌, ◌<◌}
 use native.Mathlib.Decide.{dec_lt}
 use native.Mathlib.Omega.{arith}
-use borrow.Author.Tests.{lt-ltb, le-ltb}
+use borrow.Author.Tests.{lt-ltb, le-ltb, ne_eqb}
 use lib.Dec.{eqb, ltb}
 use lib.ListN.{length}
 use Rattle.std.specs.Prelude.{Result, Ok, Err}
 use Rattle.std.specs.Result.{IsErrAnd}
 use Rattle.answers.specs.declared.Refusal.{Refusal}
-use Rattle.answers.specs.Packed.{answered}
 use Rattle.answers.specs.Rows.{refusal, passed, first_refusal}
 use Rattle.answers.proofs.Rows.{or_none, or_refused, or_passed, or_assoc}
 use Rattle.job.specs.Refusal.{job_refusal}
@@ -22,7 +21,17 @@ use Rattle.moves.specs.Trials as trials
 use Rattle.moves.specs.Trials.{Move, trial_refusal, move_refusal}
 use Rattle.moves.specs.Calls.{trial_in, handed_back}
 use Rattle.trial.specs.Code.Given.{shown_refusal}
-use Rattle.trial.specs.Code.Called.{short_rows, begin_rows, move_rows, show_rows}
+use Rattle.trial.specs.Code.Called.{short_rows, begin_rows, move_rows, few_rows}
+use Rattle.answers.specs.declared.Answer.{Answer}
+use Rattle.answers.specs.Code.Ruled.{answered, ruled}
+use Rattle.answers.proofs.Rows.{answer_refused}
+use Rattle.theory.specs.Answers.{written}
+use Rattle.theory.proofs.Laws.{answered_ruled}
+use Rattle.moves.specs.Trials.{after}
+use Rattle.moves.specs.Calls.{show_answer, shown_facts}
+use Rattle.trial.specs.declared.Trial.{Trial}
+use Rattle.trial.specs.declared.Moved.{Moved}
+use Rattle.trial.specs.Stepped.{trial_of, Stepped, show_answer_of}
 
 -- words too few for a trial are refused, whatever rows come before
 never_short : (rows : Refusal) → (first_refusal rows (refusal 14 0)).number ≡ 0 → ⊥
@@ -52,11 +61,6 @@ module _ (job words : List ℕ) where
     pub short_begin : (job_refusal job).number ≡ 0 → refusal 14 0 ≡ begin_rows (length words) job
     short_begin z = or_passed (job_refusal job) (refusal 14 0) z ∙ rw (lt-ltb (length words) 4098 short)
 
-    pub short_show : (room : ℕ) → (buffer_refusal room).number ≡ 0 → (room_rows room job).number ≡ 0 → refusal 14 0 ≡ show_rows room job words
-    short_show room b z =
-        let e = or_none (job_refusal job) (fact_room_refusal room job) z in
-        or_passed (fact_room_refusal room job) (refusal 14 0) e.1 ∙ or_passed (job_refusal job) _ e.0 ∙ or_passed (buffer_refusal room) _ b ∙ rw (lt-ltb (length words) 4098 short)
-
   pub enough_clear : 4098 ≤ length words → (short_rows job words).number ≡ 0
   enough_clear l = rw (le-ltb (length words) 4098 l)
 
@@ -84,11 +88,48 @@ module _ (job words : List ℕ) where
         cases true z = absurd (never_short (job_refusal job) z)
         cases false z = same_first (job_refusal job) _
 
-  pub enough_begin : 4098 ≤ length words → (job_refusal job).number ≡ 0 → (begin_rows (length words) job).number ≡ 0
-  enough_begin l z = rw (le-ltb (length words) 4098 l, last_none (job_refusal job) z)
+  -- enough words: beginning has the rows of the job
+  pub enough_begin : 4098 ≤ length words → ruled {T = ℕ} (job_refusal job) 0 ≡ ruled (begin_rows (length words) job) 0
+  enough_begin l = cases (eqb (job_refusal job).number 0) refl ∙ rw (le-ltb (length words) 4098 l)
+    where
+      cases : (t : Bool) → eqb (job_refusal job).number 0 ≡ t → ruled {T = ℕ} (job_refusal job) 0 ≡ ruled (first_refusal (job_refusal job) passed) 0
+      cases true e = rw e
+      cases false e = rw (e, e)
 
-  pub enough_show : 4098 ≤ length words → (room : ℕ) → shown_refusal room job (trial_in words) ≡ show_rows room job words
-  enough_show l room = rw (le-ltb (length words) 4098 l)
+  -- what a method handed back
+  module _ (m : Move) {t : Trial} {M : Moved} (h : Stepped job t m M) (clear : (short_rows job words).number ≡ 0) (said : trial_of t ≡ trial_in words) where
+    pub stepped_rows : M.refusal ≡ move_rows job words m
+    stepped_rows = h.refusal ∙ ap (λ (T : trials.Trial). move_refusal job T m) said ∙ lent_passed m clear
+
+    pub stepped_trial : trial_of M.trial ≡ after job (trial_in words) m
+    stepped_trial = h.trial ∙ ap (λ (T : trials.Trial). after job T m) said
+
+-- showing: too few words are refused by one of the rows that were run, and enough are shown as the method does
+module _ (job words buffer : List ℕ) where
+  never_few : (few_rows (length buffer) job).number ≡ 0 → ⊥
+  never_few z =
+      let p = or_none (buffer_refusal (length buffer)) _ z in
+      let q = or_none (job_refusal job) _ p.1 in
+      never_short (fact_room_refusal (length buffer) job) q.1
+
+  pub short_shown : {r : Answer} → length words < 4098 → r ≡ answered (ruled (few_rows (length buffer) job) 0)
+      → (r ≡ show_answer (length buffer) job words) × (buffer ≡ written r (shown_facts job (trial_in words)) buffer)
+  unfolding show_answer
+  short_shown {r} short is =
+      let rows = few_rows (length buffer) job in
+      let said = is ∙ answered_ruled rows 0 in (
+        said ∙ answer_refused rows 0 0 (length (shown_facts job (trial_in words))) 0 never_few ∙ rw (lt-ltb (length words) 4098 short),
+        rw (said, ne_eqb rows.number 0 never_few),
+      )
+
+  pub enough_shown : {r : Answer} → 4098 ≤ length words → (t : Trial) → trial_of t ≡ trial_in words → r ≡ show_answer_of (length buffer) job (trial_of t)
+      → {left : List ℕ} → left ≡ written r (shown_facts job (trial_of t)) buffer
+      → (r ≡ show_answer (length buffer) job words) × (left ≡ written r (shown_facts job (trial_in words)) buffer)
+  unfolding show_answer show_answer_of
+  enough_shown {r} room t said is put = (
+    is ∙ ap (λ (T : trials.Trial). show_answer_of (length buffer) job T) said ∙ rw (le-ltb (length words) 4098 room),
+    put ∙ ap (λ (T : trials.Trial). written r (shown_facts job T) buffer) said,
+  )
 
 -- the rows on showing a trial: the first that fits
 module _ (room : ℕ) (job : List ℕ) (T : trials.Trial) where
@@ -103,13 +144,6 @@ module _ (room : ℕ) (job : List ℕ) (T : trials.Trial) where
     shown_trial z =
         let e = or_none (job_refusal job) (fact_room_refusal room job) z in
         or_passed (fact_room_refusal room job) (trial_refusal job T) e.1 ∙ or_passed (job_refusal job) _ e.0 ∙ or_passed (buffer_refusal room) _ b
-
-  module _ (words : List ℕ) where
-    pub show_short : ((buffer_refusal room).number ≡ 0 → ⊥) → buffer_refusal room ≡ show_rows room job words
-    show_short n = or_refused (buffer_refusal room) _ n
-
-    pub show_job : (buffer_refusal room).number ≡ 0 → ((room_rows room job).number ≡ 0 → ⊥) → room_rows room job ≡ show_rows room job words
-    show_job b n = or_refused (room_rows room job) _ n ∙ sym (or_assoc (job_refusal job) _ _) ∙ or_passed (buffer_refusal room) _ b
 
 -- a refusal leaves the words
 pub refused_keeps_words : (e : Refusal) (result : Result ℕ Refusal) (T : trials.Trial) (words : List ℕ) → IsErrAnd result (λ f. f ≡ e) → words ≡ handed_back (answered result) T words

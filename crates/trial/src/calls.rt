@@ -1,15 +1,14 @@
 // The four calls on the words of a trial, as the host in C lends them: the moment, the number of starts, the starts. The words are taken
 // apart into a trial, the rows of the move are run, and the trial's words are put back if none refuses.
 ghost use Rattle.std.specs.Prelude.{◌≡◌, ◌++◌, ◌≤◌, length, drop};
-ghost use Rattle.answers.specs.Rows.{ruled};
-ghost use Rattle.answers.specs.Packed.{answered};
 ghost use Rattle.theory.specs.Answers.{written};
 ghost use Rattle.moves.specs.Trials.{Start, On, fresh, after};
 ghost use Rattle.moves.specs.Calls.{trial_words, trial_in, begin_answer, move_answer, shown_facts, show_answer, handed_back};
-ghost use Rattle.trial.specs.Stepped.{trial_of, Sized};
-ghost use Rattle.trial.specs.Code.Called.{Lent, begin_rows, move_rows, show_rows};
+ghost use Rattle.trial.specs.Stepped.{trial_of, Sized, Storable};
+ghost use Rattle.trial.specs.Code.Called.{Lent, begin_rows, move_rows, few_rows};
+ghost use Rattle.answers.specs.Code.Ruled.{answered, ruled};
 
-use crate::{Trial, new_trial};
+use crate::{Moved, Trial};
 use answers::{Answer, Refusal, TRIAL_BOUNDS, answered, refuse};
 use job::check_job;
 use theory::{buffer_refusal, check_job_and_room};
@@ -55,49 +54,52 @@ fn lent(job: &[u32], words: &[u32]) -> Result<Trial, Refusal>
     Ok(taken(words))
 }
 
-// Runs every row on beginning, and writes a fresh trial.
-fn begun(job: &[u32], words: &mut [u32]) -> Result<usize, Refusal>
-    ensures { (result ≡ ruled (begin_rows (length words.old) job.now) 0) × (words.new ≡ handed_back (answered result) fresh words.old) }
+// Writes the trial that a move hands back, or gives the refusal of the move.
+fn put_back(moved: &Moved, words: &mut [u32]) -> Result<usize, Refusal>
+    requires { Storable moved.now × (4098 ≤ length words.old) }
+    ensures { (result ≡ ruled moved.now.refusal 0) × (words.new ≡ handed_back (answered result) (trial_of moved.now.trial) words.old) }
 {
-    check_job(job)?;
-    if words.len() < TRIAL_WORDS {
-        return Err(refuse(TRIAL_BOUNDS, 0));
+    if moved.refusal.number != 0 {
+        return Err(moved.refusal);
     }
-    store(&new_trial(), words);
+    store(&moved.trial, words);
     Ok(0)
 }
 
-// Runs every row on starting an action now, and writes the trial after it.
+// Begins a trial, and writes it.
+fn begun(job: &[u32], words: &mut [u32]) -> Result<usize, Refusal>
+    ensures { (result ≡ ruled (begin_rows (length words.old) job.now) 0) × (words.new ≡ handed_back (answered result) fresh words.old) }
+{
+    if words.len() < TRIAL_WORDS {
+        check_job(job)?;
+        return Err(refuse(TRIAL_BOUNDS, 0));
+    }
+    put_back(&Trial::begin(job), words)
+}
+
+// Starts an action now, and writes the trial after it.
 fn started(job: &[u32], words: &mut [u32], action: u32) -> Result<usize, Refusal>
     ensures { (result ≡ ruled (move_rows job.now words.old (Start action)) 0) × (words.new ≡ handed_back (answered result) (after job.now (trial_in words.old) (Start action)) words.old) }
 {
     let trial = lent(job, words)?;
-    let w = trial.new_start(job, action)?;
-    store(&trial.with_word(w), words);
-    Ok(0)
+    put_back(&trial.start(job, action), words)
 }
 
-// Runs every row on going on, and writes the trial after it.
+// Goes on one moment, and writes the trial after it.
 fn gone_on(job: &[u32], words: &mut [u32]) -> Result<usize, Refusal>
     ensures { (result ≡ ruled (move_rows job.now words.old On) 0) × (words.new ≡ handed_back (answered result) (after job.now (trial_in words.old) On) words.old) }
 {
-    let mut trial = lent(job, words)?;
-    let moment = trial.next_moment(job)?;
-    trial.moment = moment;
-    store(&trial, words);
-    Ok(0)
+    let trial = lent(job, words)?;
+    put_back(&trial.on(job), words)
 }
 
-// Runs every row on showing, and writes the facts of moments 0 to the present one to the front of the buffer.
-fn shown(job: &[u32], words: &[u32], buffer: &mut [u32]) -> Result<usize, Refusal>
-    ensures { (result ≡ ruled (show_rows (length buffer.old) job.now words.now) (length (shown_facts job.now (trial_in words.now)))) × (buffer.new ≡ written (answered result) (shown_facts job.now (trial_in words.now)) buffer.old) }
+// Runs the rows before the one on words that are too few to be shown, and then that one, which fits.
+fn too_few(job: &[u32], room: usize) -> Result<usize, Refusal>
+    ensures { result ≡ ruled (few_rows room job.now) 0 }
 {
-    if words.len() < TRIAL_WORDS {
-        buffer_refusal(buffer.len())?;
-        check_job_and_room(job, buffer.len())?;
-        return Err(refuse(TRIAL_BOUNDS, 0));
-    }
-    taken(words).shown(job, buffer)
+    buffer_refusal(room)?;
+    check_job_and_room(job, room)?;
+    Err(refuse(TRIAL_BOUNDS, 0))
 }
 
 // Begins a trial.
@@ -125,5 +127,8 @@ pub fn on_words(job: &[u32], words: &mut [u32]) -> Answer
 pub fn show_words(job: &[u32], words: &[u32], buffer: &mut [u32]) -> Answer
     ensures { (result ≡ show_answer (length buffer.old) job.now words.now) × (buffer.new ≡ written result (shown_facts job.now (trial_in words.now)) buffer.old) }
 {
-    answered(shown(job, words, buffer))
+    if words.len() < TRIAL_WORDS {
+        return answered(too_few(job, buffer.len()));
+    }
+    taken(words).show(job, buffer)
 }

@@ -4,8 +4,6 @@
 ghost use Rattle.std.specs.Prelude.{◌≡◌, ◌<◌, ltb, length};
 ghost use Rattle.words.specs.Fields.{start_moment};
 ghost use Rattle.words.specs.Scan.{any};
-ghost use Rattle.answers.specs.Rows.{ruled};
-ghost use Rattle.answers.specs.Packed.{answered};
 ghost use Rattle.job.specs.Refusal.{job_refusal};
 ghost use Rattle.theory.specs.Answers.{written};
 ghost use Rattle.theory.specs.Code.Judged.{JobChecked};
@@ -13,6 +11,7 @@ ghost use Rattle.moves.specs.Trials.{Start, On, fresh};
 ghost use Rattle.moves.specs.Calls.{shown_facts};
 ghost use Rattle.trial.specs.Stepped.{trial_of, Stepped, Sized, Storable, show_answer_of};
 ghost use Rattle.trial.specs.Code.Given.{Measured, TrialJudged, Extendable, WithWord, NewStart, NextMoment, shown_refusal};
+ghost use Rattle.answers.specs.Code.Ruled.{answered, ruled};
 
 use answers::{Answer, Refusal, TRIAL_BOUNDS, answered, none, refuse};
 use applicable::start_refusal;

@@ -4,11 +4,12 @@ use Rattle.words.specs.Fields.{start_moment, start_action}
 use Rattle.words.specs.Lists.{Each}
 use Rattle.job.specs.Parts.{actions, last_moment}
 use Rattle.answers.specs.declared.Refusal.{Refusal}
-use Rattle.answers.specs.Rows.{first_row, RuledBy}
+use Rattle.answers.specs.Rows.{first_row}
 use Rattle.starts.specs.Code.Given.{Tabled}
 use Rattle.theory.specs.declared.Plan.{Plan}
 use Rattle.theory.specs.Code.Judged.{PassedUpto}
 use Rattle.moves.specs.Trials.{new_start_rows, start_refusal}
+use Rattle.answers.specs.Code.Ruled.{RuledBy}
 
 -- a start of the job, not later than moment u, and an action of the job
 pub record Facing (job durations effects : List ℕ) (s u a : ℕ) : Type 0 where

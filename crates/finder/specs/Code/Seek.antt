@@ -1,13 +1,13 @@
 -- Between functions: what seeking a reading asks: the job passes, the arrays represent it and the plan, and the buffer has room.
 use Rattle.std.specs.Prelude.{List, ◌≡◌, ℕ, ◌≤◌, Result}
 use Rattle.answers.specs.declared.Refusal.{Refusal}
-use Rattle.answers.specs.Rows.{RuledBy}
 use Rattle.job.specs.Refusal.{job_refusal}
 use Rattle.job.specs.Procedure.{procedure_of}
 use Rattle.theory.specs.Trajectory.{plan_trajectory}
 use Rattle.model.specs.Code.Represents.{Represents}
 use Rattle.model.specs.declared.Arrays.{Arrays}
 use Rattle.finder.specs.Find.{find_refusal}
+use Rattle.answers.specs.Code.Ruled.{RuledBy}
 
 pub record Seekable (job starts : List ℕ) (arrays : Arrays) (size : ℕ) : Type 0 where
   pub clear : (job_refusal job).number ≡ 0

@@ -4,10 +4,10 @@ use Rattle.std.proofs.lemmas.List.Edits.{sets}
 use Rattle.words.specs.Fields.{kind}
 use Rattle.job.specs.Before.{before, count_of_kind}
 use Rattle.answers.specs.declared.Refusal.{Refusal}
-use Rattle.answers.specs.Rows.{ruled}
 use Rattle.job.specs.Refusal.{job_refusal}
 use Rattle.job.specs.declared.Places.{Places}
 use Rattle.job.specs.declared.Index.{Index}
+use Rattle.answers.specs.Code.Ruled.{ruled}
 
 -- the positions of the words of kind k among the first i words, ascending
 unfoldable pub positions : ℕ → List ℕ → ℕ → List ℕ

@@ -8,13 +8,13 @@ use Rattle.std.proofs.Common.{rules, tests}
 use Rattle.std.proofs.lemmas.Iterator.{YieldsList-from_slice}
 use Rattle.std.proofs.lemmas.Iterator.Search.{position_from_yields_List}
 use Rattle.words.specs.Fields.{start_moment, start_action}
-use Rattle.answers.specs.Rows.{refused_at}
 use Rattle.bitset.specs.Code.Members.{has}
 use Rattle.starts.specs.Rows.{outside_windows}
 use Rattle.starts.proofs.Rows.{row-sought}
 use Rattle.starts.proofs.StartsFormed.{right_word}
 use Rattle.shifts.proofs.ShiftSets.{may_start-read}
 use Rattle.shifts.proofs.outside_windows.Goals as goal
+use Rattle.answers.specs.Code.Ruled.{refused_at}
 
 pub returns : goal.returns
 unfolding outside_windows

@@ -1,11 +1,11 @@
 -- `starts::check_times` meets its contract: at each `?` the rows before fit no word. Assumes nothing.
 use mathlib.Core.Path.{ap, ◌∙◌}
 use Rattle.std.proofs.lemmas.Result.{err_from_is_err_and}
-use Rattle.answers.specs.Rows.{ruled}
 use Rattle.answers.specs.declared.Refusal.{Refusal}
 use Rattle.starts.proofs.Rows.{rows_found, rows_next, rows_last}
 use Rattle.starts.proofs.StartsFormed.{timed}
 use Rattle.starts.proofs.check_times.Goals as goal
+use Rattle.answers.specs.Code.Ruled.{ruled}
 
 pub returns-in_err-wrong_word : goal.returns-in_err-wrong_word
 returns-in_err-wrong_word c =

@@ -1,9 +1,9 @@
 -- `theory::fill_plan` meets its contract: the answer of what `fill` gives. Assumes nothing.
 use mathlib.Core.Path.{ap, ◌∙◌}
-use Rattle.answers.specs.Packed.{answered}
 use Rattle.theory.specs.Answers.{fill_answer}
 use Rattle.theory.proofs.Laws.{answered_ruled}
 use Rattle.theory.proofs.fill_plan.Goals as goal
+use Rattle.answers.specs.Code.Ruled.{answered}
 
 pub returns-clause-value : goal.returns-clause-value
 unfolding fill_answer

@@ -2,7 +2,7 @@
 use Rattle.std.specs.Prelude.{Result, List, [], ◌∷◌, ◌≡◌, ℕ, ◌≤◌, ◌<◌, length, get_or}
 use Rattle.words.specs.Fields.{start_moment}
 use Rattle.answers.specs.declared.Refusal.{Refusal}
-use Rattle.answers.specs.Rows.{first_row, ruled, RuledBy}
+use Rattle.answers.specs.Rows.{first_row}
 use Rattle.job.specs.declared.Index.{Index}
 use Rattle.job.specs.Parts.{last_moment}
 use Rattle.job.specs.Refusal.{job_refusal}
@@ -12,6 +12,7 @@ use Rattle.shifts.specs.Code.ShiftSets.{ShiftTable}
 use Rattle.groups.specs.Code.GroupTable.{GroupTable}
 use Rattle.theory.specs.Answers.{fact_room_refusal, plan_refusal}
 use Rattle.theory.specs.declared.Plan.{Plan}
+use Rattle.answers.specs.Code.Ruled.{RuledBy, ruled}
 
 -- the rows of a job with row 12 after them: the first that fits; the index of its words, or that row
 abbrev pub room_rows : ℕ → List ℕ → Refusal

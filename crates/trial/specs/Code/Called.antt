@@ -1,13 +1,14 @@
 -- Between functions: the rows of the four calls on a trial's words.
 use Rattle.std.specs.Prelude.{cond, List, [], ◌∷◌, ◌≡◌, ℕ, ltb, length, Result}
 use Rattle.answers.specs.declared.Refusal.{Refusal}
-use Rattle.answers.specs.Rows.{refusal, passed, first_row, first_refusal, RuledBy}
+use Rattle.answers.specs.Rows.{refusal, passed, first_row, first_refusal}
 use Rattle.job.specs.Refusal.{job_refusal}
 use Rattle.theory.specs.Answers.{buffer_refusal, fact_room_refusal}
-use Rattle.moves.specs.Trials.{Move, trial_refusal, move_refusal}
+use Rattle.moves.specs.Trials.{Move, move_refusal}
 use Rattle.moves.specs.Calls.{trial_in, trial_room_refusal}
 use Rattle.trial.specs.declared.Trial.{Trial}
 use Rattle.trial.specs.Stepped.{trial_of}
+use Rattle.answers.specs.Code.Ruled.{RuledBy}
 
 -- words too few for a trial: a row of the job, or 14
 abbrev pub short_rows : List ℕ → List ℕ → Refusal
@@ -17,13 +18,13 @@ short_rows job words = cond (ltb (length words) 4098) (first_refusal (job_refusa
 abbrev pub Lent : List ℕ → List ℕ → Result Trial Refusal → Type 0
 Lent job words result = RuledBy (short_rows job words) (λ t. trial_of t ≡ trial_in words) result
 
--- beginning, a move, showing
+-- beginning, a move
 abbrev pub begin_rows : ℕ → List ℕ → Refusal
 begin_rows room job = first_row (job_refusal job ∷ trial_room_refusal room ∷ [])
 
 abbrev pub move_rows : List ℕ → List ℕ → Move → Refusal
 move_rows job words m = first_row (job_refusal job ∷ trial_room_refusal (length words) ∷ move_refusal job (trial_in words) m ∷ [])
 
-abbrev pub show_rows : ℕ → List ℕ → List ℕ → Refusal
-show_rows room job words =
-    first_row (buffer_refusal room ∷ job_refusal job ∷ fact_room_refusal room job ∷ trial_room_refusal (length words) ∷ trial_refusal job (trial_in words) ∷ [])
+-- showing words too few for a trial
+abbrev pub few_rows : ℕ → List ℕ → Refusal
+few_rows room job = first_row (buffer_refusal room ∷ job_refusal job ∷ fact_room_refusal room job ∷ refusal 14 0 ∷ [])

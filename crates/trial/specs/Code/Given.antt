@@ -3,7 +3,7 @@ use Rattle.std.specs.Prelude.{Bool, List, [], ◌∷◌, ◌≡◌, ℕ, ◌+◌
 use Rattle.words.specs.Fields.{start_word}
 use Rattle.words.specs.Lists.{Pairs, insert}
 use Rattle.answers.specs.declared.Refusal.{Refusal}
-use Rattle.answers.specs.Rows.{first_row, RuledBy}
+use Rattle.answers.specs.Rows.{first_row}
 use Rattle.job.specs.Refusal.{job_refusal}
 use Rattle.theory.specs.declared.Plan.{Plan}
 use Rattle.theory.specs.Answers.{buffer_refusal, fact_room_refusal}
@@ -12,6 +12,7 @@ use Rattle.moves.specs.Trials.{Start, On, outside, trial_refusal, move_refusal}
 use Rattle.applicable.specs.Code.Given.{Present}
 use Rattle.trial.specs.declared.Trial.{Trial}
 use Rattle.trial.specs.Stepped.{trial_of, Sized}
+use Rattle.answers.specs.Code.Ruled.{RuledBy}
 
 -- whether a trial is outside its bounds; the array has its length in any case
 pub record Measured (job : List ℕ) (t : Trial) (r : Bool) : Type 0 where

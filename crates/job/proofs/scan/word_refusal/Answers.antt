@@ -9,7 +9,6 @@ use borrow.Author.Tests.{ne_eqb}
 use lib.ListN.{get_or}
 use Rattle.words.specs.Fields.{kind, group_number}
 use Rattle.words.specs.Scan.{any}
-use Rattle.answers.specs.Rows.{if_any}
 use Rattle.job.specs.Before.{before, since}
 use Rattle.job.specs.Follow.{predecessor, may_follow}
 use Rattle.job.specs.Refusal.{refusal_of}
@@ -18,6 +17,7 @@ use Rattle.job.proofs.Listing.{fluent_entry, pair_entry}
 use Rattle.job.proofs.Refusal.{ruled, may, may_not}
 use Rattle.job.proofs.scan.word_refusal.Goals as goal
 use Rattle.job.proofs.scan.word_refusal.Goals.{Else-not-may_follow}
+use Rattle.answers.specs.Code.Ruled.{if_any}
 
 -- past the test of the word before, a word of kind k may follow it, and its refusal is its rule's
 module _ (c : Else-not-may_follow) (k : ℕ) (h : c.kind_of-k.result ≡ k) where

@@ -6,12 +6,12 @@ use Rattle.std.specs.Prelude.{position}
 use Rattle.std.proofs.Common.{rules, tests}
 use Rattle.std.proofs.lemmas.Iterator.{YieldsList-from_slice}
 use Rattle.std.proofs.lemmas.Iterator.Search.{position_from_yields_List}
-use Rattle.answers.specs.Rows.{refused_at}
 use Rattle.history.specs.Code.Tables.{tabled_finish}
 use Rattle.starts.specs.Rows.{ends_late}
 use Rattle.starts.proofs.Rows.{row-sought}
 use Rattle.starts.proofs.StartsFormed.{finish-is}
 use Rattle.starts.proofs.times.late_end.Goals as goal
+use Rattle.answers.specs.Code.Ruled.{refused_at}
 
 pub returns : goal.returns
 unfolding ends_late

@@ -1,9 +1,9 @@
 -- `trial::Trial::show` meets its contract: the answer of what `shown` gives. Assumes nothing.
 use mathlib.Core.Path.{ap, ◌∙◌}
-use Rattle.answers.specs.Packed.{answered}
 use Rattle.theory.proofs.Laws.{answered_ruled}
 use Rattle.trial.specs.Stepped.{show_answer_of}
 use Rattle.trial.proofs.Trial.show.Goals as goal
+use Rattle.answers.specs.Code.Ruled.{answered}
 
 pub returns-clause-value : goal.returns-clause-value
 unfolding show_answer_of

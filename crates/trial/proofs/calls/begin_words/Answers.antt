@@ -1,9 +1,9 @@
 -- `trial::calls::begin_words` meets its contract: the answer of what `begun` gives. Assumes nothing.
 use mathlib.Core.Path.{ap, ◌∙◌}
-use Rattle.answers.specs.Packed.{answered}
 use Rattle.theory.proofs.Laws.{answered_ruled}
 use Rattle.moves.specs.Calls.{begin_answer}
 use Rattle.trial.proofs.calls.begin_words.Goals as goal
+use Rattle.answers.specs.Code.Ruled.{answered}
 
 pub returns : goal.returns
 unfolding begin_answer

@@ -1,17 +1,16 @@
--- `trial::calls::begun` meets its contract: a row of the job refuses, the words are too few, or a fresh trial is put into them. Assumes nothing.
-use mathlib.Core.Path.{◌≡◌, refl, sym, ap, ◌∙◌}
-use native.Mathlib.Omega.{arith}
-use mathlib.Core.List.{◌++◌}
-use lib.ListN.{length, drop}
+-- `trial::calls::begun` meets its contract: the words are too few, or a trial is begun. Assumes nothing.
+use mathlib.Core.Path.{refl, ap, ◌∙◌}
+use Prim.Native.Nat.{ℕ}
 use Rattle.moves.specs.Trials as trials
-use Rattle.moves.specs.Calls.{trial_words}
-use Rattle.answers.proofs.Rows.{ok-passed, err-refused, or_refused, ruled-passed}
+use Rattle.moves.specs.Calls.{handed_back}
+use Rattle.answers.specs.declared.Refusal.{Refusal}
+use Rattle.answers.proofs.Rows.{ok-passed, err-refused, or_refused}
 use Rattle.job.specs.Code.Index.{checked_of}
 use Rattle.job.specs.Refusal.{job_refusal}
 use Rattle.theory.proofs.Laws.{handed_same}
 use Rattle.trial.proofs.CallRows.{short_begin, enough_begin, refused_keeps_words}
-use Rattle.trial.proofs.Handed.{handed_size}
 use Rattle.trial.proofs.calls.begun.Goals as goal
+use Rattle.answers.specs.Code.Ruled.{answered, ruled}
 
 pub returns-in_err-check_job : goal.returns-in_err-check_job
 unfolding checked_of
@@ -25,14 +24,8 @@ returns-then-words-lt-TRIAL_WORDS c =
     let is = short_begin c.args.job.now c.args.words.now c.if-words-lt-TRIAL_WORDS.true (ok-passed _ _ c.in_ok-check_job.ensures).0 in
     (rw (c.refuse.ensures, ← is), refl)
 
-pub store-requires : goal.store-requires
-store-requires c = (c.new_trial.ensures.1, c.if-words-lt-TRIAL_WORDS.false)
-
-pub shape_of-words : goal.shape_of-words
-shape_of-words c = ap length c.store.ensures ∙ handed_size _ c.new_trial.ensures.1 c.args.words.now c.if-words-lt-TRIAL_WORDS.false
-
 pub returns : goal.returns
-unfolding checked_of
-returns c =
-    let z = enough_begin c.args.job.now c.args.words.now c.if-words-lt-TRIAL_WORDS.false (ok-passed _ _ c.in_ok-check_job.ensures).0 in
-    (sym (ruled-passed _ 0 z), c.store.ensures ∙ ap (λ (T : trials.Trial). trial_words T ++ drop (length (trial_words T)) c.args.words.now) c.new_trial.ensures.0)
+returns c = (
+  c.put_back.ensures.0 ∙ ap (λ (r : Refusal). ruled {T = ℕ} r 0) c.begin.ensures.refusal_value.0 ∙ enough_begin c.args.job.now c.args.words.now c.if-words-lt-TRIAL_WORDS.false,
+  c.put_back.ensures.1 ∙ ap (λ (T : trials.Trial). handed_back (answered c.put_back.result) T c.args.words.now) c.begin.ensures.refusal_value.1,
+)

@@ -1,21 +1,14 @@
--- `trial::calls::gone_on` meets its contract: a row refuses and leaves the words, or the trial after the move is put into them. Assumes nothing.
-use mathlib.Core.Path.{◌≡◌, sym, ap, ◌∙◌}
-use mathlib.Core.List.{◌++◌}
+-- `trial::calls::gone_on` meets its contract: the words are too few, or the move of the trial that they say is handed back. Assumes nothing.
+use mathlib.Core.Path.{ap, ◌∙◌}
 use Prim.Native.Nat.{ℕ}
-use lib.ListN.{length, drop}
 use Rattle.answers.specs.declared.Refusal.{Refusal}
-use Rattle.answers.proofs.Rows.{ruled-passed}
-use Rattle.theory.proofs.Laws.{handed_same}
 use Rattle.moves.specs.Trials as trials
-use Rattle.moves.specs.Trials.{On, after}
-use Rattle.moves.specs.Calls.{trial_words}
-use Rattle.trial.specs.declared.Trial.{Trial}
-use Rattle.trial.specs.Stepped.{Sized}
-use Rattle.trial.specs.Code.Given.{Next}
-use Rattle.trial.proofs.CallRows.{lent_refused, lent_passed, refused_keeps_words, enough_words}
-use Rattle.trial.proofs.Handed.{handed_size}
-use Rattle.trial.proofs.Moves.{after_moved}
+use Rattle.moves.specs.Trials.{On}
+use Rattle.moves.specs.Calls.{handed_back}
+use Rattle.theory.proofs.Laws.{handed_same}
+use Rattle.trial.proofs.CallRows.{lent_refused, enough_words, refused_keeps_words, stepped_rows, stepped_trial}
 use Rattle.trial.proofs.calls.gone_on.Goals as goal
+use Rattle.answers.specs.Code.Ruled.{answered, ruled}
 
 pub returns-in_err-trial : goal.returns-in_err-trial
 returns-in_err-trial c =
@@ -24,31 +17,14 @@ returns-in_err-trial c =
       refused_keeps_words _ _ _ _ c.from_residual.ensures.1,
     )
 
-pub returns-in_err-moment : goal.returns-in_err-moment
-returns-in_err-moment c =
-    let h = c.in_err-moment.ensures in
-    let lent = c.in_ok-trial.ensures in (
-      handed_same _ _ c.from_residual-in_err-moment.ensures.1 (rw lent.1 at h.0) (rw lent.1 at h.1) (lent_passed c.args.job.now c.args.words.now On lent.0),
-      refused_keeps_words _ _ _ _ c.from_residual-in_err-moment.ensures.1,
-    )
-
--- the trial after the move
-sized : {t : Trial} {u : ℕ} → Next t u → Sized (record { moment = u; length = t.length; starts = t.starts })
-sized h = record { size = h.sized.size; few = h.sized.few; soon = h.soon }
-
-pub store-requires : goal.store-requires
-store-requires c = (sized c.in_ok-moment.ensures.1, enough_words _ _ c.in_ok-trial.ensures.0)
-
-pub shape_of-words : goal.shape_of-words
-shape_of-words c = ap length c.store.ensures ∙ handed_size _ (sized c.in_ok-moment.ensures.1) c.args.words.now (enough_words _ _ c.in_ok-trial.ensures.0)
+pub put_back-requires : goal.put_back-requires
+put_back-requires c = (c.on.ensures.storable, enough_words _ _ c.in_ok-trial.ensures.0)
 
 pub returns : goal.returns
 returns c =
-    let a = c.args in
     let lent = c.in_ok-trial.ensures in
-    let h = c.in_ok-moment.ensures in
-    let is = lent_passed a.job.now a.words.now On lent.0 in
-    let next = after_moved a.job.now _ On h.0 _ (rw h.1.moment) in (
-      sym (ruled-passed _ 0 (ap (λ (r : Refusal). r.number) (sym is) ∙ rw lent.1 at h.0)),
-      c.store.ensures ∙ ap (λ (T : trials.Trial). trial_words T ++ drop (length (trial_words T)) c.args.words.now) (next ∙ ap (λ (T : trials.Trial). after a.job.now T On) lent.1),
+    let job = c.args.job.now in
+    let words = c.args.words.now in (
+      c.put_back.ensures.0 ∙ ap (λ (r : Refusal). ruled {T = ℕ} r 0) (stepped_rows job words On c.on.ensures.stepped lent.0 lent.1),
+      c.put_back.ensures.1 ∙ ap (λ (T : trials.Trial). handed_back (answered c.put_back.result) T words) (stepped_trial job words On c.on.ensures.stepped lent.0 lent.1),
     )

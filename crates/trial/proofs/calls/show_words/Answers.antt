@@ -1,10 +1,16 @@
--- `trial::calls::show_words` meets its contract: the answer of what `shown` gives. Assumes nothing.
+-- `trial::calls::show_words` meets its contract: the words are too few, or the trial that they say is shown. Assumes nothing.
 use mathlib.Core.Path.{ap, ◌∙◌}
-use Rattle.answers.specs.Packed.{answered}
-use Rattle.theory.proofs.Laws.{answered_ruled}
-use Rattle.moves.specs.Calls.{show_answer}
+use Rattle.trial.proofs.CallRows.{short_shown, enough_shown}
 use Rattle.trial.proofs.calls.show_words.Goals as goal
+use Rattle.answers.specs.Code.Ruled.{answered}
+
+pub returns-then-words-lt-TRIAL_WORDS : goal.returns-then-words-lt-TRIAL_WORDS
+returns-then-words-lt-TRIAL_WORDS c =
+    short_shown c.args.job.now c.args.words.now c.args.buffer.now c.if-words-lt-TRIAL_WORDS.true (c.answered.ensures ∙ ap answered c.too_few.ensures)
+
+pub taken-requires : goal.taken-requires
+taken-requires c = c.if-words-lt-TRIAL_WORDS.false
 
 pub returns : goal.returns
-unfolding show_answer
-returns c = (c.answered.ensures ∙ ap answered c.shown.ensures.0 ∙ answered_ruled _ _, rw c.answered.ensures c.shown.ensures.1)
+returns c =
+    enough_shown c.args.job.now c.args.words.now c.args.buffer.now c.if-words-lt-TRIAL_WORDS.false c.taken.result c.taken.ensures c.show.ensures.value c.show.ensures.buffer_after
