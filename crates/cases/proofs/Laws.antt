@@ -9,7 +9,7 @@ use mathlib.Core.List.{List, [], ◌∷◌, ◌++◌, Memᴰ}
 use native.Mathlib.Omega.{arith}
 use lib.Dec.{eqb, leb}
 use lib.ListN.{length, drop}
-use borrow.Author.Tests.{ne_eqb, not-true}
+use borrow.Author.Tests.{ne_eqb, le-ltb, not-true}
 use Rattle.words.specs.Fields.{start_action}
 use Rattle.words.specs.Scan.{any}
 use Rattle.words.proofs.Choices.{both_true}
@@ -32,7 +32,7 @@ use Rattle.words.proofs.AllBelow.{all_below, all_law}
 use Rattle.cases.proofs.Decides.{Tells, and_law, or_law, eq_law, le_law, FewActions, decides}
 use Rattle.finder.specs.Find.{find_refusal, RootReading, Triples, Outcome, refused, sought, unread as without-reading, read as with-reading}
 use Rattle.finder.proofs.Job.{formed_job}
-use Rattle.finder.proofs.Refusals.{same_row}
+use Rattle.finder.proofs.Refusals.{by_check}
 use Rattle.cases.specs.Cases.{Expected, refuses, unread, reads, Case, triple, table, buffer_after, EachOwed}
 use Rattle.cases.proofs.Test.{decided, same, listed, distinct, sound, complete, exactly, fits, rooted, same_words, only, answers, passed, all_passed}
 use Rattle.reading.proofs.Counts.{counted_once}
@@ -125,9 +125,13 @@ module _ (job starts facts before : List ℕ) (room : 4096 ≤ length before) wh
   unfolding check_refusal
   formed h = (or_none (job_refusal job) _ h).0
 
+  -- with room in the buffer the row is check's
+  same_row : find_refusal (length before) job starts facts ≡ row
+  same_row = sym (by_check (length before) job starts facts (rw (le-ltb (length before) 4096 room)))
+
   -- a plan that passes is not refused
   not_refused : {n p : ℕ} → row.number ≡ 0 → find_refusal (length before) job starts facts ≡ refusal n p → n ≡ 0
-  not_refused z e = sym (ap (λ (r : Refusal). r.number) (sym (same_row job starts facts before room) ∙ e)) ∙ z
+  not_refused z e = sym (ap (λ (r : Refusal). r.number) (sym same_row ∙ e)) ∙ z
 
   -- a plan that passes, whose root reads: a reading is found, with the count of the listed triples, and left in front
   found : (rs : List Triple) → (eqb row.number 0 && (rooted job starts && exactly job starts rs)) ≡ true
@@ -155,7 +159,7 @@ module _ (job starts facts before : List ℕ) (room : 4096 ≤ length before) wh
       let (f, g) = both_true (fits row n p && not (eqb n 0)) _ h in
       let (a, b) = both_true (fits row n p) (not (eqb n 0)) f in
       let (c, d) = (and_law _ _ (eq_law row.number n) (eq_law row.position p)).0 a in
-      let same = sym (same_row job starts facts before room) ∙ e in
+      let same = sym same_row ∙ e in
       let i : m ≡ n = sym (ap (λ (r : Refusal). r.number) same) ∙ c in
       let j : q ≡ p = sym (ap (λ (r : Refusal). r.position) same) ∙ d in
       (rw (i, j) (sym ((eq_law k (packed (Refused n p 0))).0 g)), refl)
@@ -163,7 +167,7 @@ module _ (job starts facts before : List ℕ) (room : 4096 ≤ length before) wh
       let (f, g) = both_true (fits row n p && not (eqb n 0)) _ h in
       let (a, b) = both_true (fits row n p) (not (eqb n 0)) f in
       let (c, d) = (and_law _ _ (eq_law row.number n) (eq_law row.position p)).0 a in
-      let zero : row.number ≡ 0 = rw (same_row job starts facts before room) at e in
+      let zero : row.number ≡ 0 = rw same_row at e in
       absurd (no (eqb n 0) b ((eq_law n 0).1 (sym c ∙ zero)))
   owed (unread rs) k h (refused e z) =
       let (f, g) = both_true _ (eqb k (packed (Refused 13 0 (length rs)))) h in
