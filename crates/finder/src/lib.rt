@@ -52,8 +52,10 @@ fn readied(job: &[u32], starts: &[u32], facts: &[u32], room: usize) -> Result<Ar
     ensures { Readied room job.now starts.now facts.now result }
 {
     buffer_refusal(room)?;
-    let plan = judge_facts(job, starts, facts)?;
-    Ok(arrays_of(job, starts, &plan))
+    match &judge_facts(job, starts, facts) {
+        Ok(plan) => Ok(arrays_of(job, starts, plan)),
+        Err(refusal) => Err(*refusal),
+    }
 }
 
 // The find call on any lists: runs every row, then seeks a reading.

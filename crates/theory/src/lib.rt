@@ -131,14 +131,17 @@ fn compare_facts(job: &[u32], history: &[u8; STATES], given: &[u32]) -> Result<(
     Ok(())
 }
 
-// Runs the rows of the job and of the starts, then row 11.
+// Runs the rows of the job and of the starts, then row 11. The plan is read where it stands: `?` would put a second one on the stack.
 pub fn judge_facts(job: &[u32], starts: &[u32], facts: &[u32]) -> Result<Plan, Refusal>
     ensures { Judged (check_refusal job.now starts.now facts.now) job.now starts.now result }
 {
     let index = check_job(job)?;
-    let plan = judge(job, &index, starts)?;
-    compare_facts(job, &plan.history, facts)?;
-    Ok(plan)
+    let judged = judge(job, &index, starts);
+    match &judged {
+        Ok(plan) => compare_facts(job, &plan.history, facts)?,
+        Err(refusal) => return Err(*refusal),
+    }
+    judged
 }
 
 // Runs every row on the job, the starts and the facts; where they pass, no word is written.

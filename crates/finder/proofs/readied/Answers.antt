@@ -13,21 +13,21 @@ returns-in_err-buffer_refusal c =
     let h = err-refused _ tt c.in_err-buffer_refusal.ensures in
     handed_by _ _ c.from_residual.ensures.1 h.1 h.0 (by_buffer a.room a.job.now a.starts.now a.facts.now h.0)
 
-pub returns-in_err-plan : goal.returns-in_err-plan
-returns-in_err-plan c =
+pub returns-in-Err : goal.returns-in-Err
+returns-in-Err c =
     let a = c.args in
-    let h = c.in_err-plan.ensures in
-    handed_by _ _ c.from_residual-in_err-plan.ensures.1 h.0 h.1
-    (by_check a.room a.job.now a.starts.now a.facts.now (ok-passed _ tt c.in_ok-buffer_refusal.ensures).0)
+    let h = rw c.in-Err.is at c.judge_facts.ensures in
+    let is = by_check a.room a.job.now a.starts.now a.facts.now (ok-passed _ tt c.in_ok-buffer_refusal.ensures).0 in
+    (h.0 ∙ is, λ z. h.1 (ap (λ (r : Refusal). r.number) is ∙ z))
 
 pub arrays_of-requires : goal.arrays_of-requires
-arrays_of-requires c = c.in_ok-plan.ensures.1
+arrays_of-requires c = (rw c.in-Ok.is at c.judge_facts.ensures).1
 
-pub returns : goal.returns
-returns c =
+pub returns-in-Ok : goal.returns-in-Ok
+returns-in-Ok c =
     let a = c.args in
     let z = (ok-passed _ tt c.in_ok-buffer_refusal.ensures).0 in
-    let plan = c.in_ok-plan.ensures in (
+    let plan = rw c.in-Ok.is at c.judge_facts.ensures in (
       ap (λ (r : Refusal). r.number) (sym (by_check a.room a.job.now a.starts.now a.facts.now z)) ∙ plan.0,
       record { clear = job_clear _ _ plan.1.clear; represented = c.arrays_of.ensures; room = has_room _ z },
     )

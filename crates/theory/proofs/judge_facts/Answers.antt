@@ -16,26 +16,28 @@ returns-in_err-index c =
     handed_by _ _ c.from_residual.ensures.1 h.1 h.0
     (plan ∙ or_refused _ _ (λ z. h.0 (ap (λ (r : Refusal). r.number) plan ∙ z)) ∙ sym (check_rows_lem a.job.now a.starts.now a.facts.now))
 
-pub judge-requires : goal.judge-requires
+pub judge-judged-requires : goal.judge-judged-requires
 unfolding checked_of
-judge-requires c = let h = ok-passed _ _ c.in_ok-index.ensures in record { good = h.0; index = h.1 }
+judge-judged-requires c = let h = ok-passed _ _ c.in_ok-index.ensures in record { good = h.0; index = h.1 }
 
-pub returns-in_err-plan : goal.returns-in_err-plan
-returns-in_err-plan c =
-    let h = c.in_err-plan.ensures in
-    handed_by _ _ c.from_residual-in_err-plan.ensures.1 h.0 h.1 (or_refused _ _ h.1 ∙ sym (check_rows_lem c.args.job.now c.args.starts.now c.args.facts.now))
+pub returns-in-Err : goal.returns-in-Err
+returns-in-Err c =
+    let h = rw c.in-Err.is at c.judge-judged.ensures in
+    let is = or_refused _ _ h.1 ∙ sym (check_rows_lem c.args.job.now c.args.starts.now c.args.facts.now) in
+    (h.0 ∙ is, λ z. h.1 (ap (λ (r : Refusal). r.number) is ∙ z))
 
 pub compare_facts-requires : goal.compare_facts-requires
-compare_facts-requires c = plan_formed _ _ c.in_ok-plan.ensures.0
+compare_facts-requires c = plan_formed _ _ (rw c.in-Ok.is at c.judge-judged.ensures).0
 
-pub returns-in_err-compare_facts : goal.returns-in_err-compare_facts
-returns-in_err-compare_facts c =
-    let plan = c.in_ok-plan.ensures in
-    let h = err-refused _ tt (c.in_err-compare_facts.ensures _ plan.1.history) in
-    handed_by _ _ c.from_residual-in_err-compare_facts.ensures.1 h.1 h.0 (or_passed _ _ plan.0 ∙ sym (check_rows_lem c.args.job.now c.args.starts.now c.args.facts.now))
+pub returns-in_err-compare_facts-in-Ok : goal.returns-in_err-compare_facts-in-Ok
+returns-in_err-compare_facts-in-Ok c =
+    let plan = rw c.in-Ok.is at c.judge-judged.ensures in
+    let h = err-refused _ tt (c.in_err-compare_facts-in-Ok.ensures _ plan.1.history) in
+    handed_by _ _ c.from_residual-in_err-compare_facts-in-Ok.ensures.1 h.1 h.0 (or_passed _ _ plan.0 ∙ sym (check_rows_lem c.args.job.now c.args.starts.now c.args.facts.now))
 
 pub returns : goal.returns
 returns c =
-    let plan = c.in_ok-plan.ensures in
-    let same = ok-passed _ tt (c.in_ok-compare_facts.ensures _ plan.1.history) in
+    let plan = rw c.in-Ok.is at c.judge-judged.ensures in
+    let same = ok-passed _ tt (c.in_ok-compare_facts-in-Ok.ensures _ plan.1.history) in
+    rw c.in-Ok.is
     (ap (λ (r : Refusal). r.number) (check_rows_lem c.args.job.now c.args.starts.now c.args.facts.now ∙ sym (or_passed _ _ plan.0)) ∙ same.0, plan.1)
