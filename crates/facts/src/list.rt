@@ -9,17 +9,6 @@ ghost use Rattle.facts.specs.Code.Written.{row_facts, Written, Filled, Fillable}
 
 use words::{FLUENTS, OPEN, STATES, fact_word, fluents_of, last_of};
 
-// The fact of one value, where it is not open.
-fn known_fact(head: u32, t: usize, f: usize, value: u8) -> Option<u32>
-    requires { (t < 64) × (f < 256) }
-    ensures { MatchOption result (fact_of head t f value ≡ []) (λ w. fact_of head t f value ≡ w ∷ []) }
-{
-    if value == OPEN {
-        return None;
-    }
-    Some(fact_word(head, t, f, value))
-}
-
 // Writes the facts at moment `t` of the first `n` fluents to the buffer from position `at` on, and answers the position after them.
 fn write_facts(
     history: &[u8; STATES],
@@ -34,8 +23,9 @@ fn write_facts(
 {
     let mut end = at;
     for f in 0..n {
-        if let Some(w) = known_fact(head, t, f, history[t * FLUENTS + f]) {
-            buffer[end] = w;
+        let value = history[t * FLUENTS + f];
+        if value != OPEN {
+            buffer[end] = fact_word(head, t, f, value);
             end += 1;
         }
     }

@@ -148,8 +148,10 @@ pub fn judge_facts(job: &[u32], starts: &[u32], facts: &[u32]) -> Result<Plan, R
 fn check(job: &[u32], starts: &[u32], facts: &[u32]) -> Result<usize, Refusal>
     ensures { result ≡ ruled (check_refusal job.now starts.now facts.now) 0 }
 {
-    judge_facts(job, starts, facts)?;
-    Ok(0)
+    match &judge_facts(job, starts, facts) {
+        Ok(_) => Ok(0),
+        Err(refusal) => Err(*refusal),
+    }
 }
 
 // The check call.

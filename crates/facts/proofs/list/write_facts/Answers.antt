@@ -6,7 +6,8 @@ use lib.ListN.{length}
 use Rattle.facts.specs.Code.Written.{row_facts, Written}
 use Rattle.facts.proofs.Lists.{row-start, row_more, row-most, written_one, written_no, written-more, written-size}
 use Rattle.facts.proofs.list.write_facts.Goals as goal
-use Rattle.facts.proofs.list.write_facts.Goals.{in-Some, in_default}
+use Rattle.facts.proofs.list.write_facts.Goals.{then-value-ne-OPEN, else-value-ne-OPEN}
+use borrow.Author.Tests.{eq-eqb, ne_eqb}
 
 -- there is room for the fact of one fluent more
 room : (history : List ℕ) (head t : ℕ) {n f at end : ℕ} {old cur : List ℕ} → at + n ≤ length old → f < n → Written old at (row_facts history head t f) end cur → end < length cur
@@ -29,7 +30,8 @@ loop-f-preserved c =
     let a = c.args in
     let turn = c.loop-f in
     let more = row_more a.history.now a.head a.t turn.f in
-    elim c.match-known_fact.branch [
-      | in-Some w ↦ rw (w.buffer-is, w.end-is) (written-more more turn.invariant (written_one _ w.in-Some.ensures))
-      | in_default w ↦ rw (w.buffer-is, w.end-is) (written-more more turn.invariant (written_no w.in_default.ensures))
+    elim c.if-value-ne-OPEN.branch [
+      | then-value-ne-OPEN w ↦ rw (w.buffer-is, w.end-is)
+          (written-more more turn.invariant (written_one _ (rw (ne_eqb _ 1 w.if-value-ne-OPEN.true, w.fact_word.ensures))))
+      | else-value-ne-OPEN w ↦ rw (w.buffer-is, w.end-is) (written-more more turn.invariant (written_no (rw (eq-eqb _ 1 w.if-value-ne-OPEN.false))))
     ]
