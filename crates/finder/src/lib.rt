@@ -9,9 +9,10 @@ ghost use Rattle.finder.specs.Code.Seek.{Seekable, Readied};
 
 use answers::{Answer, Refusal, answered};
 use extract::Source;
+use job::check_job;
 use model::Arrays;
 use reading::pauses::all_starts;
-use theory::{arrays_of, buffer_refusal, judge_facts};
+use theory::{arrays_of, buffer_refusal, compare_facts, judge};
 use words::ENDS;
 
 // The number of the refusal that there is no reading, as an answer has it.
@@ -46,14 +47,20 @@ fn seek(job: &[u32], starts: &[u32], arrays: &Arrays, buffer: &mut [u32]) -> Ans
     }
 }
 
-// Runs every row, and returns the arrays of a plan that passes. Its plan is off the stack before a reading is sought.
+// Runs every row, and returns the arrays of a plan that passes. Its plan is off the stack before a reading is sought, and there is one alone, since
+// it is read where it stands.
 #[inline(never)]
 fn readied(job: &[u32], starts: &[u32], facts: &[u32], room: usize) -> Result<Arrays, Refusal>
     ensures { Readied room job.now starts.now facts.now result }
 {
     buffer_refusal(room)?;
-    match &judge_facts(job, starts, facts) {
-        Ok(plan) => Ok(arrays_of(job, starts, plan)),
+    let index = check_job(job)?;
+    let judged = judge(job, &index, starts);
+    match &judged {
+        Ok(plan) => {
+            compare_facts(job, &plan.history, facts)?;
+            Ok(arrays_of(job, starts, plan))
+        }
         Err(refusal) => Err(*refusal),
     }
 }

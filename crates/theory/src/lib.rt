@@ -38,6 +38,8 @@ pub struct Plan {
 }
 
 // Runs the rows of the starts, of a job that no row refuses, and makes the history up to moment `last`.
+// It is not inlined, so that its tables are on the stack while it runs, and not all the time that its caller does.
+#[inline(never)]
 pub fn judge_starts(
     job: &[u32],
     index: &Index,
@@ -86,8 +88,8 @@ pub fn check_job_and_room(job: &[u32], room: usize) -> Result<Index, Refusal>
 }
 
 // Runs the rows of the starts, of a job that no row refuses.
-// It is not inlined, so that its tables are on the stack while it runs, and not all the time that its caller does.
-#[inline(never)]
+// It is inlined, as judge_facts is: each call between would put one more plan on the stack.
+#[inline(always)]
 pub fn judge(job: &[u32], index: &Index, starts: &[u32]) -> Result<Plan, Refusal>
     requires { JobChecked job.now index.now }
     ensures { Judged (plan_refusal job.now starts.now) job.now starts.now result }
@@ -113,7 +115,7 @@ fn compare_part(given: &[u32], at: usize, part: &[u32]) -> Result<(), Refusal>
 }
 
 // Row 11: refuses the first difference from the facts of a plan, which are made for one moment at a time.
-fn compare_facts(job: &[u32], history: &[u8; STATES], given: &[u32]) -> Result<(), Refusal>
+pub fn compare_facts(job: &[u32], history: &[u8; STATES], given: &[u32]) -> Result<(), Refusal>
     requires { WellFormed job.now }
     ensures { (starts : List ℕ) → History job.now starts history.now → result ≡ ruled (facts_refusal given.now (facts_of job.now starts) 0) tt }
 {
@@ -132,6 +134,7 @@ fn compare_facts(job: &[u32], history: &[u8; STATES], given: &[u32]) -> Result<(
 }
 
 // Runs the rows of the job and of the starts, then row 11. The plan is read where it stands: `?` would put a second one on the stack.
+#[inline(always)]
 pub fn judge_facts(job: &[u32], starts: &[u32], facts: &[u32]) -> Result<Plan, Refusal>
     ensures { Judged (check_refusal job.now starts.now facts.now) job.now starts.now result }
 {
