@@ -21,7 +21,7 @@ use Rattle.answers.proofs.Rows.{or_none, or_refused, or_passed, or_assoc, ok-pas
 use Rattle.history.specs.Code.Tables.{Ruled}
 use Rattle.starts.specs.Rows.{unmet, unmet_at, starts_refusal}
 use Rattle.starts.specs.Lawful.{Lawful}
-use Rattle.starts.specs.Code.Given.{StartsFormed, Recorded}
+use Rattle.starts.specs.Code.Given.{StartsFormed, Tabled, Recorded}
 use Rattle.starts.proofs.Needs.{needs_read}
 use Rattle.starts.proofs.StartsFormed.{starts_passed, right_word, words_ascend, few_words}
 use Rattle.starts.proofs.Lawful.{lawful}
@@ -56,9 +56,12 @@ module _ {job starts : List ℕ} {u : ℕ} {plan : Plan} (given : Present job st
   present_indexed : Indexed job 3 plan.index.actions.position
   present_indexed = actions-indexed job (job_clear job starts given.passed.clear) given.passed.index
 
-  pub present_facing : {a : ℕ} → a < actions job → FacingAll job plan.durations plan.effects starts u a
-  present_facing k = record {
-    tables = record { formed = present_formed; lasts = given.passed.durations; makes = given.passed.effects };
+  pub present_tabled : Tabled job plan.durations plan.effects
+  present_tabled = record { formed = present_formed; lasts = given.passed.durations; makes = given.passed.effects }
+
+  pub present_facing : {durations effects : List ℕ} → Tabled job durations effects → {a : ℕ} → a < actions job → FacingAll job durations effects starts u a
+  present_facing tables k = record {
+    tables = tables;
     action = each_of starts (λ i l. (right_word present_words i l).action);
     past = given.past;
     present = given.present;

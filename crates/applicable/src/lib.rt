@@ -6,6 +6,7 @@ ghost use Rattle.words.specs.Fields.{start_word};
 ghost use Rattle.words.specs.Scan.{any};
 ghost use Rattle.history.specs.Code.Tables.{Durations, Named};
 ghost use Rattle.starts.specs.Rows.{clashing};
+ghost use Rattle.starts.specs.Code.Given.{Tabled};
 ghost use Rattle.job.specs.Parts.{actions};
 ghost use Rattle.moves.specs.Trials.{busy};
 ghost use Rattle.applicable.specs.Code.Given.{FacingAll, Present, held_refusal, StartTested};
@@ -15,52 +16,54 @@ use answers::{
     GROUP_OVER_LIMIT, Refusal, START_CLASHES, START_ENDS_LATE, START_IN_HAND, START_NEEDS,
     START_OUTSIDE_WINDOWS, START_WORD, refuse,
 };
-use history::{finish_of, keep_unfinished, laws_of};
+use history::{Actions, finish_of, keep_unfinished};
 use starts::{has_clash, has_unmet};
 use theory::Plan;
 use words::*;
 
 // Returns whether some start in the list is one of action `a` that is in hand at moment `u`.
-fn some_busy(job: &[u32], durations: &[usize; ACTIONS], starts: &[u32], u: usize, a: usize) -> bool
-    requires { Durations job.now durations.now × Named job.now starts.now }
-    ensures { result ≡ any (busy job.now u a) starts.now }
+fn some_busy(tables: &Actions<'_>, starts: &[u32], u: usize, a: usize) -> bool
+    requires { Durations tables.now.job.now tables.now.durations.now × Named tables.now.job.now starts.now }
+    ensures { result ≡ any (busy tables.now.job.now u a) starts.now }
 {
     starts.iter().any(|&s| {
-        start_action(s) == a && start_moment(s) <= u && u < finish_of(durations, s)
+        start_action(s) == a && start_moment(s) <= u && u < finish_of(tables.durations, s)
     })
 }
 
 // Returns whether some start in the list, of which none is later, clashes with action `a` started at moment `u`.
-fn some_clash(
-    job: &[u32],
-    durations: &[usize; ACTIONS],
-    effects: &[u8; EFFECTS],
-    starts: &[u32],
-    u: usize,
-    a: usize,
-) -> bool
-    requires { FacingAll job.now durations.now effects.now starts.now u a }
-    ensures { result ≡ any (λ s. clashing job.now s (start_word u a)) starts.now }
+fn some_clash(tables: &Actions<'_>, starts: &[u32], u: usize, a: usize) -> bool
+    requires { FacingAll tables.now.job.now tables.now.durations.now tables.now.effects.now starts.now u a }
+    ensures { result ≡ any (λ s. clashing tables.now.job.now s (start_word u a)) starts.now }
 {
     starts.iter().any(|&s| {
-        u < finish_of(durations, s) && has_clash(job, effects, start_action(s), a)
+        u < finish_of(tables.durations, s) && has_clash(tables, start_action(s), a)
     })
 }
 
 // Runs rows 8, 9, 15 and 16 of action `a` started at moment `u`, in this order. Of the starts only those in hand then count: they are the
 // first `count` words of `held`, since without a heap a list is an array and a count.
-fn held_refusal(job: &[u32], plan: &Plan, starts: &[u32], u: usize, a: usize) -> Result<(), Refusal>
-    requires { Present job.now starts.now u plan.now × (a < actions job.now) × (length starts.now ≤ 4096) }
-    ensures { result ≡ ruled (held_refusal job.now starts.now u a) tt }
+fn held_refusal(
+    tables: &Actions<'_>,
+    plan: &Plan,
+    starts: &[u32],
+    u: usize,
+    a: usize,
+) -> Result<(), Refusal>
+    requires present { Present tables.now.job.now starts.now u plan.now }
+    requires tabled { Tabled tables.now.job.now tables.now.durations.now tables.now.effects.now }
+    requires action { a < actions tables.now.job.now }
+    requires few { length starts.now ≤ 4096 }
+    ensures { result ≡ ruled (held_refusal tables.now.job.now starts.now u a) tt }
 {
     let mut held = [0u32; MOST_STARTS];
     copy_words(starts, 0, &mut held);
-    let count = keep_unfinished(&plan.durations, u, &mut held, starts.len());
+    let count = keep_unfinished(tables.durations, u, &mut held, starts.len());
     let in_hand = &held[..count];
-    if some_busy(job, &plan.durations, in_hand, u, a) {
+    if some_busy(tables, in_hand, u, a) {
         return Err(refuse(START_IN_HAND, 0));
     }
-    if some_clash(job, &plan.durations, &plan.effects, in_hand, u, a) {
+    if some_clash(tables, in_hand, u, a) {
         return Err(refuse(START_CLASHES, 0));
     }
     if !plan.shifts.may_start(u, a) {
@@ -93,9 +96,9 @@ pub fn start_refusal(
     if last_of(head) < u + plan.durations[a] {
         return Err(refuse(START_ENDS_LATE, 0));
     }
-    held_refusal(job, plan, starts, u, a)?;
-    let laws = laws_of(job, &plan.index.actions.position, &plan.ends, a);
-    if has_unmet(head, &plan.history, u, laws) {
+    let tables = plan.tables(job);
+    held_refusal(&tables, plan, starts, u, a)?;
+    if has_unmet(head, &plan.history, u, tables.laws_of(a)) {
         return Err(refuse(START_NEEDS, 0));
     }
     Ok(())

@@ -7,4 +7,4 @@ pub mod tables;
 
 pub use carry::keep_unfinished;
 pub use states::Actions;
-pub use tables::{durations, effects, finish_of, law_ends, laws_of};
+pub use tables::{durations, effects, finish_of, law_ends};

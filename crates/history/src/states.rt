@@ -2,10 +2,10 @@
 // carried along.
 ghost use Rattle.std.specs.Prelude.{◌≡◌, List, ◌∷◌, [], ℕ, ◌+◌, ◌<◌, ◌≤◌, length};
 ghost use Rattle.words.specs.Fields.{known_value};
-ghost use Rattle.job.specs.Parts.{fluents};
+ghost use Rattle.job.specs.Parts.{actions, fluents, laws_of};
 ghost use Rattle.job.specs.Code.WellFormed.{WellFormed};
 ghost use Rattle.history.specs.Values.{lists};
-ghost use Rattle.history.specs.Code.Tables.{Named, StateAt, HistoryUpto};
+ghost use Rattle.history.specs.Code.Tables.{Ruled, Named, StateAt, HistoryUpto};
 ghost use Rattle.history.specs.Held.{starting_at, Ascending};
 ghost use Rattle.history.specs.Code.Held.{Carried};
 ghost use Rattle.history.specs.Code.Stores.{Overlaid, Mapped};
@@ -13,7 +13,7 @@ ghost use Rattle.history.specs.Code.Lent.{WalkableBy, SteppableBy};
 ghost use Rattle.history.specs.Code.Passes.{changed, changed_by, AfterPass};
 
 use crate::carry::{Held, starting_at};
-use crate::tables::{finish_of, row_of, store_row};
+use crate::tables::{finish_of, laws_of, row_of, store_row};
 use words::{
     ACTIONS, EFFECTS, FLUENTS, KNOWN, MOST_STARTS, OPEN, STATES, fluent_of, fluents_of, kind_of,
     known_value, start_action,
@@ -53,15 +53,25 @@ fn apply(effects: &[u8; EFFECTS], a: usize, n: usize, hiding: bool, state: &mut 
     }
 }
 
-// A job and the tables of its actions, lent: how long each lasts, and what it makes of each fluent.
+// A job and the tables of its actions, lent: where each stands, how long it lasts, where its laws end, and what it makes of each fluent.
 #[derive(Clone, Copy)]
 pub struct Actions<'a> {
     pub job: &'a [u32],
+    pub places: &'a [usize; ACTIONS],
     pub durations: &'a [usize; ACTIONS],
+    pub ends: &'a [usize; ACTIONS],
     pub effects: &'a [u8; EFFECTS],
 }
 
 impl Actions<'_> {
+    // Returns the laws of action `a`.
+    pub fn laws_of(&self, a: usize) -> &[u32]
+        requires { Ruled self.now.job.now self.now.places.now self.now.ends.now × (a < actions self.now.job.now) }
+        ensures { result.now ≡ laws_of self.now.job.now a }
+    {
+        laws_of(self.job, self.places, self.ends, a)
+    }
+
     // Applies the start `s`, if it acts in a pass to moment `t`: in the hiding pass each does, in the other one that finishes then.
     fn apply_start(&self, s: u32, hiding: bool, t: usize, state: &mut [u8; FLUENTS])
         requires { WalkableBy self.now (s ∷ []) × (fluents self.now.job.now ≤ length state.old) }

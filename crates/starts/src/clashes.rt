@@ -10,58 +10,51 @@ ghost use Rattle.starts.specs.Code.Given.{Timed, Paired, PairStorable, Comparabl
 ghost use Rattle.answers.specs.Code.Ruled.{ruled};
 
 use answers::{Refusal, START_CLASHES, refuse};
-use history::finish_of;
+use history::{Actions, finish_of};
 use words::*;
 
 // Returns whether two actions clash. The loop has no way out before its end, so that it can be done on many fluents at once.
-pub fn has_clash(job: &[u32], effects: &[u8; EFFECTS], a: usize, b: usize) -> bool
-    requires { Paired job.now effects.now a b }
-    ensures { result ≡ clash job.now a b }
+pub fn has_clash(tables: &Actions<'_>, a: usize, b: usize) -> bool
+    requires { Paired tables.now.job.now tables.now.effects.now a b }
+    ensures { result ≡ clash tables.now.job.now a b }
 {
-    let n = fluents_of(job[0]);
+    let n = fluents_of(tables.job[0]);
     let mut found = false;
     for f in 0..n {
-        let x = effects[a * FLUENTS + f];
-        let y = effects[b * FLUENTS + f];
+        let x = tables.effects[a * FLUENTS + f];
+        let y = tables.effects[b * FLUENTS + f];
         found |= ((x == HOLDS) & (y == FAILS)) | ((x == FAILS) & (y == HOLDS));
     }
     found
 }
 
 // Stores at both places of the pair whether actions `a` and `b` clash.
-fn store_pair(
-    job: &[u32],
-    effects: &[u8; EFFECTS],
-    a: usize,
-    b: usize,
-    table: &mut [u8; ACTION_PAIRS],
-)
-    requires { PairStorable job.now effects.now a b table.old }
-    ensures { PairStored job.now a b table.old table.new }
+fn store_pair(tables: &Actions<'_>, a: usize, b: usize, table: &mut [u8; ACTION_PAIRS])
+    requires { PairStorable tables.now.job.now tables.now.effects.now a b table.old }
+    ensures { PairStored tables.now.job.now a b table.old table.new }
 {
-    let entry = has_clash(job, effects, a, b) as u8;
+    let entry = has_clash(tables, a, b) as u8;
     table[a * ACTIONS + b] = entry;
     table[b * ACTIONS + a] = entry;
 }
 
 // Compares action `a`, if it has no start before, with each action that has one. So each pair of actions that have starts is compared once.
 fn compare_action(
-    job: &[u32],
-    effects: &[u8; EFFECTS],
+    tables: &Actions<'_>,
     latest: &[usize; ACTIONS],
     a: usize,
     table: &mut [u8; ACTION_PAIRS],
 )
-    requires { Comparable job.now effects.now latest.now a table.old }
-    ensures { ClashesWith job.now latest.now a table.new }
+    requires { Comparable tables.now.job.now tables.now.effects.now latest.now a table.old }
+    ensures { ClashesWith tables.now.job.now latest.now a table.new }
 {
     if 0 < latest[a] {
         return;
     }
-    let n = actions_of(job[0]);
+    let n = actions_of(tables.job[0]);
     for b in 0..n {
         if 0 < latest[b] {
-            store_pair(job, effects, a, b, table);
+            store_pair(tables, a, b, table);
         }
     }
 }
@@ -83,24 +76,19 @@ fn clashes_after(
 
 // Row 9: refuses the first start that clashes with an earlier one. `latest` has the latest finish of each action's starts so far, 0 for an
 // action without one, and `table` the clashes of the actions that have one.
-pub fn first_clash(
-    job: &[u32],
-    durations: &[usize; ACTIONS],
-    effects: &[u8; EFFECTS],
-    starts: &[u32],
-) -> Result<(), Refusal>
-    requires { Timed job.now durations.now starts.now × Effects job.now effects.now }
-    ensures { result ≡ ruled (first_of (numbered 9 (clashes job.now starts.now)) (length starts.now)) tt }
+pub fn first_clash(tables: &Actions<'_>, starts: &[u32]) -> Result<(), Refusal>
+    requires { Timed tables.now.job.now tables.now.durations.now starts.now × Effects tables.now.job.now tables.now.effects.now }
+    ensures { result ≡ ruled (first_of (numbered 9 (clashes tables.now.job.now starts.now)) (length starts.now)) tt }
 {
     let mut table = [0u8; ACTION_PAIRS];
     let mut latest = [0usize; ACTIONS];
     for (i, &s) in starts.iter().enumerate() {
         let a = start_action(s);
-        compare_action(job, effects, &latest, a, &mut table);
-        if clashes_after(job, &latest, &table, a, start_moment(s)) {
+        compare_action(tables, &latest, a, &mut table);
+        if clashes_after(tables.job, &latest, &table, a, start_moment(s)) {
             return Err(refuse(START_CLASHES, i));
         }
-        latest[a] = finish_of(durations, s);
+        latest[a] = finish_of(tables.durations, s);
     }
     Ok(())
 }

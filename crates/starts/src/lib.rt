@@ -14,24 +14,19 @@ mod unmet;
 
 use answers::Refusal;
 pub use clashes::{first_clash, has_clash};
+use history::Actions;
 pub use order::wrong_word;
 pub use times::{late_end, restart};
 pub use unmet::{check_needs, has_unmet};
-use words::{ACTIONS, EFFECTS};
 
 // Returns the first of rows 6 to 9 that fits, at the first word that it fits. Rows 15 (`shifts::outside_windows`), 16
 // (`groups::over_limit`) and 10 (`check_needs`) come after them.
-pub fn check_times(
-    job: &[u32],
-    durations: &[usize; ACTIONS],
-    effects: &[u8; EFFECTS],
-    starts: &[u32],
-) -> Result<(), Refusal>
-    requires { Tabled job.now durations.now effects.now }
-    ensures { result ≡ ruled (rows_refusal (time_rows job.now starts.now) (length starts.now)) tt }
+pub fn check_times(tables: &Actions<'_>, starts: &[u32]) -> Result<(), Refusal>
+    requires { Tabled tables.now.job.now tables.now.durations.now tables.now.effects.now }
+    ensures { result ≡ ruled (rows_refusal (time_rows tables.now.job.now starts.now) (length starts.now)) tt }
 {
-    wrong_word(job, starts)?;
-    late_end(job, durations, starts)?;
-    restart(job, durations, starts)?;
-    first_clash(job, durations, effects, starts)
+    wrong_word(tables.job, starts)?;
+    late_end(tables, starts)?;
+    restart(tables, starts)?;
+    first_clash(tables, starts)
 }

@@ -6,25 +6,27 @@ ghost use Rattle.starts.specs.Code.Given.{Timed};
 ghost use Rattle.answers.specs.Code.Ruled.{ruled};
 
 use answers::{Refusal, START_ENDS_LATE, START_IN_HAND, refuse, refused_at};
-use history::finish_of;
+use history::{Actions, finish_of};
 use words::*;
 
 // Row 7: refuses the first start that finishes after the last moment.
-pub fn late_end(job: &[u32], durations: &[usize; ACTIONS], starts: &[u32]) -> Result<(), Refusal>
-    requires { Timed job.now durations.now starts.now }
-    ensures { result ≡ ruled (first_of (numbered 7 (ends_late job.now starts.now)) (length starts.now)) tt }
+pub fn late_end(tables: &Actions<'_>, starts: &[u32]) -> Result<(), Refusal>
+    requires { Timed tables.now.job.now tables.now.durations.now starts.now }
+    ensures { result ≡ ruled (first_of (numbered 7 (ends_late tables.now.job.now starts.now)) (length starts.now)) tt }
 {
-    let last = last_of(job[0]);
+    let last = last_of(tables.job[0]);
     refused_at(
         START_ENDS_LATE,
-        starts.iter().position(|&s| last < finish_of(durations, s)),
+        starts
+            .iter()
+            .position(|&s| last < finish_of(tables.durations, s)),
     )
 }
 
 // Row 8: refuses the first start whose action is in hand already. `latest` has the latest finish of each action's starts so far.
-pub fn restart(job: &[u32], durations: &[usize; ACTIONS], starts: &[u32]) -> Result<(), Refusal>
-    requires { Timed job.now durations.now starts.now }
-    ensures { result ≡ ruled (first_of (numbered 8 (in_hand_already job.now starts.now)) (length starts.now)) tt }
+pub fn restart(tables: &Actions<'_>, starts: &[u32]) -> Result<(), Refusal>
+    requires { Timed tables.now.job.now tables.now.durations.now starts.now }
+    ensures { result ≡ ruled (first_of (numbered 8 (in_hand_already tables.now.job.now starts.now)) (length starts.now)) tt }
 {
     let mut latest = [0usize; ACTIONS];
     for (i, &s) in starts.iter().enumerate() {
@@ -32,7 +34,7 @@ pub fn restart(job: &[u32], durations: &[usize; ACTIONS], starts: &[u32]) -> Res
         if start_moment(s) < latest[a] {
             return Err(refuse(START_IN_HAND, i));
         }
-        latest[a] = finish_of(durations, s);
+        latest[a] = finish_of(tables.durations, s);
     }
     Ok(())
 }

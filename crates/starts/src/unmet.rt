@@ -7,7 +7,7 @@ ghost use Rattle.starts.specs.Code.Given.{Recorded};
 ghost use Rattle.answers.specs.Code.Ruled.{ruled};
 
 use answers::{Refusal, START_NEEDS, refuse};
-use history::laws_of;
+use history::Actions;
 use words::*;
 
 // Returns whether the law `w` needs what the history does not say of moment `t`.
@@ -30,18 +30,16 @@ pub fn has_unmet(head: u32, history: &[u8; STATES], t: usize, laws: &[u32]) -> b
 
 // Row 10: refuses the first start whose needs are not known at its moment.
 pub fn check_needs(
-    job: &[u32],
-    places: &[usize; ACTIONS],
-    ends: &[usize; ACTIONS],
+    tables: &Actions<'_>,
     history: &[u8; STATES],
     starts: &[u32],
 ) -> Result<(), Refusal>
-    requires { Recorded job.now places.now ends.now history.now starts.now }
-    ensures { result ≡ ruled (first_of (numbered 10 (needs_unmet job.now starts.now)) (length starts.now)) tt }
+    requires { Recorded tables.now.job.now tables.now.places.now tables.now.ends.now history.now starts.now }
+    ensures { result ≡ ruled (first_of (numbered 10 (needs_unmet tables.now.job.now starts.now)) (length starts.now)) tt }
 {
-    let head = job[0];
+    let head = tables.job[0];
     for (i, &s) in starts.iter().enumerate() {
-        let laws = laws_of(job, places, ends, start_action(s));
+        let laws = tables.laws_of(start_action(s));
         if has_unmet(head, history, start_moment(s), laws) {
             return Err(refuse(START_NEEDS, i));
         }

@@ -13,7 +13,7 @@ ghost use Rattle.answers.specs.Code.Ruled.{answered, ruled};
 use answers::{Answer, BUFFER_SHORT, FACTS_DIFFER, Refusal, answered, refuse};
 use facts::{fill_facts, row_facts};
 use groups::{Groups, groups_of, over_limit};
-use history::{durations, effects, law_ends};
+use history::{Actions, durations, effects, law_ends};
 use job::{Index, check_job};
 use shifts::{Shifts, outside_windows, shifts_of};
 use starts::{check_needs, check_times};
@@ -37,6 +37,25 @@ pub struct Plan {
     pub history: [u8; STATES],
 }
 
+impl Plan {
+    // Lends the tables of the actions of the job that the plan is of.
+    pub fn tables<'a>(&'a self, job: &'a [u32]) -> Actions<'a>
+        ensures job { result.job.now ≡ job.now }
+        ensures places { result.places.now ≡ self.now.index.actions.position }
+        ensures durations { result.durations.now ≡ self.now.durations }
+        ensures ends { result.ends.now ≡ self.now.ends }
+        ensures effects { result.effects.now ≡ self.now.effects }
+    {
+        Actions {
+            job,
+            places: &self.index.actions.position,
+            durations: &self.durations,
+            ends: &self.ends,
+            effects: &self.effects,
+        }
+    }
+}
+
 // Runs the rows of the starts, of a job that no row refuses, and makes the history up to moment `last`.
 // It is not inlined, so that its tables are on the stack while it runs, and not all the time that its caller does.
 #[inline(never)]
@@ -53,18 +72,20 @@ pub fn judge_starts(
     let durations = durations(job, places);
     let ends = law_ends(job, places);
     let effects = effects(job, places, &ends);
-    check_times(job, &durations, &effects, starts)?;
-    let walked = history::Actions {
+    let tables = Actions {
         job,
+        places,
         durations: &durations,
+        ends: &ends,
         effects: &effects,
     };
-    let history = walked.history(starts, last);
+    check_times(&tables, starts)?;
+    let history = tables.history(starts, last);
     let shifts = shifts_of(job, &durations);
     outside_windows(job, &shifts, starts)?;
     let groups = groups_of(job);
     over_limit(job, &durations, &groups, starts)?;
-    check_needs(job, places, &ends, &history, starts)?;
+    check_needs(&tables, &history, starts)?;
     Ok(Plan {
         index: *index,
         durations,

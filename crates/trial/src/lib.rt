@@ -22,7 +22,8 @@ use words::{MOST_STARTS, insert_word, last_of, start_moment, start_word};
 
 pub mod calls;
 
-// The moment, the number of starts, and the starts, ascending; the words after them say nothing.
+// The moment, the number of starts, and the starts, ascending; the words after them say nothing. The number stands beside the starts, since
+// memory is fixed (there is no heap), and the words that C lends have it there.
 #[derive(Clone, Copy)]
 pub struct Trial {
     pub moment: usize,
@@ -93,10 +94,8 @@ impl Trial {
         if self.is_outside(job) {
             return Err(refuse(TRIAL_BOUNDS, 0));
         }
-        match judge_starts(job, index, &self.starts[..self.length], self.moment) {
-            Ok(plan) => Ok(plan),
-            Err(refusal) => Err(refuse(refusal.number, 0)),
-        }
+        judge_starts(job, index, &self.starts[..self.length], self.moment)
+            .map_err(|refusal| refuse(refusal.number, 0))
     }
 
     // Returns the trial with one more start, at its place.

@@ -18,6 +18,6 @@ use Rattle.applicable.proofs.some_busy.Goals as goal
 pub returns : goal.returns
 returns c =
     let args = c.args in
-    let test : ℕ → Bool = λ s. eqb (start_action s) args.a && (leb (start_moment s) args.u && ltb args.u (tabled_finish args.durations.now s)) in
+    let test : ℕ → Bool = λ s. eqb (start_action s) args.a && (leb (start_moment s) args.u && ltb args.u (tabled_finish args.tables.now.durations.now s)) in
     let found : c.any.result ≡ any test args.starts.now = any_from_yields_List test _ _ _ c.any.ensures.ran (YieldsList-from_slice _ c.iter.ensures.rest) (λ x b q k. search (rules, tests)) in
     found ∙ any-agree _ _ (each_of args.starts.now (λ i l. rw (finish-tabled c.requires.0 (get_or args.starts.now i 0) (c.requires.1.action i l))))

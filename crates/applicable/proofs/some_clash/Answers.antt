@@ -25,13 +25,13 @@ any-requires-clause-callable c =
     (λ x k l e.
     let at = facing_read c.requires k l e in
     let small = at.tables.lasts.small in
-    let paired : (b : ℕ) → b ≡ start_action x.now → Paired c.args.job.now c.args.effects.now b c.args.a = λ b q. pair_of at q in
+    let paired : (b : ℕ) → b ≡ start_action x.now → Paired c.args.tables.now.job.now c.args.tables.now.effects.now b c.args.a = λ b q. pair_of at q in
     search (rules, small, paired))
 
 pub returns : goal.returns
 returns c =
     let args = c.args in
-    let test : ℕ → Bool = λ s. ltb args.u (tabled_finish args.durations.now s) && clash args.job.now (start_action s) args.a in
+    let test : ℕ → Bool = λ s. ltb args.u (tabled_finish args.tables.now.durations.now s) && clash args.tables.now.job.now (start_action s) args.a in
     let found : c.any.result ≡ any test args.starts.now = any_from_yields_List test _ _ _ c.any.ensures.ran (YieldsList-from_slice _ c.iter.ensures.rest) (λ x b q k. search (rules, tests)) in
     found
     ∙ any-agree _ _ (each_of args.starts.now (λ i l.

@@ -8,7 +8,7 @@ use Rattle.std.proofs.lemmas.Result.{err_from_is_err_and}
 use Rattle.words.specs.Lists.{Each}
 use Rattle.words.proofs.Lists.{each_of}
 use Rattle.job.specs.Parts.{actions, last_moment, duration}
-use Rattle.applicable.proofs.NewStart.{present_formed, present_few, present_ruled, present_unmet, tested_err, tested_ok, row-6, row-7, row_held, row-10, no_row}
+use Rattle.applicable.proofs.NewStart.{present_formed, present_few, present_tabled, present_ruled, present_unmet, tested_err, tested_ok, row-6, row-7, row_held, row-10, no_row}
 use Rattle.applicable.proofs.start_refusal.Goals as goal
 
 pub bounds-job-0 : goal.bounds-job-0
@@ -40,7 +40,8 @@ pub held_refusal-requires : goal.held_refusal-requires
 held_refusal-requires c =
     let small : Each (λ s. s < 2 ^ 32) c.args.starts.now = each_of c.args.starts.now (λ i l. omega (arith, c.type_inv.starts i)) in
     let below : c.args.a < actions c.args.job.now = rw c.actions_of.ensures.0 at c.if-actions_of-a.false in
-    (c.requires, below, present_few c.requires small)
+    let lent = c.tables-tables.ensures in
+    rw (lent.job, lent.durations, lent.effects) (record { present = c.requires; tabled = present_tabled c.requires; action = below; few = present_few c.requires small })
 
 pub returns-in_err-held_refusal : goal.returns-in_err-held_refusal
 returns-in_err-held_refusal c =
@@ -49,13 +50,14 @@ returns-in_err-held_refusal c =
     let a = c.args in
     let inside : a.u + duration a.job.now a.a ≤ last_moment a.job.now = omega (arith, lasts, c.last_of.ensures.0, c.if-last_of-u.false) in
     let p = err_from_is_err_and c.from_residual.result c.from_residual.ensures.1 in
-    let held = row_held _ _ _ _ (lt-leb _ _ below) (le-ltb _ _ inside) c.in_err-held_refusal.ensures in
+    let held = row_held _ _ _ _ (lt-leb _ _ below) (le-ltb _ _ inside) (rw c.tables-tables.ensures.job at c.in_err-held_refusal.ensures) in
     rw (p.1, p.2) (tested_err c.requires _ held.0 held.1)
 
-pub laws_of-laws-requires : goal.laws_of-laws-requires
-laws_of-laws-requires c =
+pub laws_of-requires : goal.laws_of-requires
+laws_of-requires c =
     let below : c.args.a < actions c.args.job.now = rw c.actions_of.ensures.0 at c.if-actions_of-a.false in
-    (present_ruled c.requires, below)
+    let lent = c.tables-tables.ensures in
+    rw (lent.job, lent.places, lent.ends) (present_ruled c.requires, below)
 
 pub has_unmet-requires : goal.has_unmet-requires
 has_unmet-requires c =
@@ -68,9 +70,9 @@ returns-then-has_unmet c =
     let lasts : let args = c.args in get_or args.plan.now.durations args.a 0 ≡ duration args.job.now args.a = c.requires.passed.durations.entry _ below in
     let a = c.args in
     let inside : a.u + duration a.job.now a.a ≤ last_moment a.job.now = omega (arith, lasts, c.last_of.ensures.0, c.if-last_of-u.false) in
-    let unmet = present_unmet c.requires below c.laws_of-laws.ensures c.has_unmet.ensures in
+    let unmet = present_unmet c.requires below (rw c.tables-tables.ensures.job at c.laws_of.ensures) c.has_unmet.ensures in
     rw c.refuse-then-has_unmet.ensures
-    (tested_err c.requires _ (row-10 _ _ _ _ (lt-leb _ _ below) (le-ltb _ _ inside) c.in_ok-held_refusal.ensures (sym unmet ∙ c.if-has_unmet.true)) (λ z. omega arith))
+    (tested_err c.requires _ (row-10 _ _ _ _ (lt-leb _ _ below) (le-ltb _ _ inside) (rw c.tables-tables.ensures.job at c.in_ok-held_refusal.ensures) (sym unmet ∙ c.if-has_unmet.true)) (λ z. omega arith))
 
 pub returns : goal.returns
 returns c =
@@ -79,5 +81,5 @@ returns c =
     let lasts : let args = c.args in get_or args.plan.now.durations args.a 0 ≡ duration args.job.now args.a = c.requires.passed.durations.entry _ below in
     let a = c.args in
     let inside : a.u + duration a.job.now a.a ≤ last_moment a.job.now = omega (arith, lasts, c.last_of.ensures.0, c.if-last_of-u.false) in
-    let unmet = present_unmet c.requires below c.laws_of-laws.ensures c.has_unmet.ensures in
-    tested_ok c.requires _ small (no_row _ _ _ _ (lt-leb _ _ below) (le-ltb _ _ inside) c.in_ok-held_refusal.ensures (sym unmet ∙ c.if-has_unmet.false))
+    let unmet = present_unmet c.requires below (rw c.tables-tables.ensures.job at c.laws_of.ensures) c.has_unmet.ensures in
+    tested_ok c.requires _ small (no_row _ _ _ _ (lt-leb _ _ below) (le-ltb _ _ inside) (rw c.tables-tables.ensures.job at c.in_ok-held_refusal.ensures) (sym unmet ∙ c.if-has_unmet.false))

@@ -25,17 +25,17 @@ loop-b-init c = let pre = c.requires in comparing_start pre.action pre.told
 
 pub offset_bounds-latest-b : goal.offset_bounds-latest-b
 offset_bounds-latest-b c =
-    let below : (c.loop-b.b < actions c.args.job.now) × (c.loop-b.b < 64) = omega (arith, c.actions_of-n.ensures.0, c.requires.formed.few_actions) in
+    let below : (c.loop-b.b < actions c.args.tables.now.job.now) × (c.loop-b.b < 64) = omega (arith, c.actions_of-n.ensures.0, c.requires.formed.few_actions) in
     omega (arith, below.1)
 
 pub bounds-latest-b : goal.bounds-latest-b
 bounds-latest-b c =
-    let below : (c.loop-b.b < actions c.args.job.now) × (c.loop-b.b < 64) = omega (arith, c.actions_of-n.ensures.0, c.requires.formed.few_actions) in
+    let below : (c.loop-b.b < actions c.args.tables.now.job.now) × (c.loop-b.b < 64) = omega (arith, c.actions_of-n.ensures.0, c.requires.formed.few_actions) in
     below.1
 
 pub store_pair-requires : goal.store_pair-requires
 store_pair-requires c =
-    let below : (c.loop-b.b < actions c.args.job.now) × (c.loop-b.b < 64) = omega (arith, c.actions_of-n.ensures.0, c.requires.formed.few_actions) in
+    let below : (c.loop-b.b < actions c.args.tables.now.job.now) × (c.loop-b.b < 64) = omega (arith, c.actions_of-n.ensures.0, c.requires.formed.few_actions) in
     let pre = c.requires in
     record {
       two = record { formed = pre.formed; makes = pre.makes; first = pre.action; second = below.0 };
@@ -44,7 +44,7 @@ store_pair-requires c =
 
 pub loop-b-preserved : goal.loop-b-preserved
 loop-b-preserved c =
-    let below : (c.loop-b.b < actions c.args.job.now) × (c.loop-b.b < 64) = omega (arith, c.actions_of-n.ensures.0, c.requires.formed.few_actions) in
+    let below : (c.loop-b.b < actions c.args.tables.now.job.now) × (c.loop-b.b < 64) = omega (arith, c.actions_of-n.ensures.0, c.requires.formed.few_actions) in
     let pre = c.requires in
     let so = c.loop-b.invariant in
     elim c.if-latest-b-gt0.branch [

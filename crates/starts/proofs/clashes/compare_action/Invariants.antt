@@ -4,4 +4,4 @@ use Rattle.starts.proofs.ClashTable.{Comparing}
 use Rattle.starts.proofs.clashes.compare_action.Given as goal
 
 abbrev pub invariant-loop-b : goal.invariant-loop-b
-invariant-loop-b l = Comparing l.job l.latest l.a l.b l.table
+invariant-loop-b l = Comparing l.tables.job.now l.latest l.a l.b l.table

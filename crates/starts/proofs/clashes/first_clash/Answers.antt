@@ -18,21 +18,21 @@ loop-i-init c = (tried_start, latest-start _ _, clashes-start _)
 pub compare_action-requires : goal.compare_action-requires
 compare_action-requires c =
     let inside : c.loop-i.i < length c.args.starts.now = c.loop-i-test.true in
-    let action : c.start_action-a.result < actions c.args.job.now = omega (arith, c.start_action-a.ensures.0, (right_word c.requires.0.words c.loop-i.i inside).action) in
+    let action : c.start_action-a.result < actions c.args.tables.now.job.now = omega (arith, c.start_action-a.ensures.0, (right_word c.requires.0.words c.loop-i.i inside).action) in
     let pre = c.requires in
     record { formed = pre.0.formed; makes = pre.1; action = action; told = c.loop-i.invariant.2 }
 
 pub clashes_after-requires : goal.clashes_after-requires
 clashes_after-requires c =
     let inside : c.loop-i.i < length c.args.starts.now = c.loop-i-test.true in
-    let action : c.start_action-a.result < actions c.args.job.now = omega (arith, c.start_action-a.ensures.0, (right_word c.requires.0.words c.loop-i.i inside).action) in
+    let action : c.start_action-a.result < actions c.args.tables.now.job.now = omega (arith, c.start_action-a.ensures.0, (right_word c.requires.0.words c.loop-i.i inside).action) in
     record { formed = c.requires.0.formed; action = action; told = c.compare_action.ensures.forth }
 
 pub returns-then-clashes_after : goal.returns-then-clashes_after
 returns-then-clashes_after c =
     let inside : c.loop-i.i < length c.args.starts.now = c.loop-i-test.true in
     let words : (j : ℕ) → get_or c.args.starts.now j 0 < 2 ^ 32 = λ j. omega (arith, c.type_inv.starts j) in
-    let value : clashes c.args.job.now c.args.starts.now c.loop-i.i ≡ c.clashes_after.result = latest-clash c.requires.0 words inside c.loop-i.invariant.1 c.start_action-a.ensures.0 c.start_moment.ensures.0
+    let value : clashes c.args.tables.now.job.now c.args.starts.now c.loop-i.i ≡ c.clashes_after.result = latest-clash c.requires.0 words inside c.loop-i.invariant.1 c.start_action-a.ensures.0 c.start_moment.ensures.0
     ∙ sym c.clashes_after.ensures in
     rw c.refuse.ensures (tried_found c.loop-i.invariant.0 (omega arith) inside (value ∙ c.if-clashes_after.true))
 
@@ -49,8 +49,8 @@ pub loop-i-preserved : goal.loop-i-preserved
 loop-i-preserved c =
     let words : (j : ℕ) → get_or c.args.starts.now j 0 < 2 ^ 32 = λ j. omega (arith, c.type_inv.starts j) in
     let inside : c.loop-i.i < length c.args.starts.now = c.loop-i-test.true in
-    let action : c.start_action-a.result < actions c.args.job.now = omega (arith, c.start_action-a.ensures.0, (right_word c.requires.0.words c.loop-i.i inside).action) in
-    let value : clashes c.args.job.now c.args.starts.now c.loop-i.i ≡ c.clashes_after.result = latest-clash c.requires.0 words inside c.loop-i.invariant.1 c.start_action-a.ensures.0 c.start_moment.ensures.0
+    let action : c.start_action-a.result < actions c.args.tables.now.job.now = omega (arith, c.start_action-a.ensures.0, (right_word c.requires.0.words c.loop-i.i inside).action) in
+    let value : clashes c.args.tables.now.job.now c.args.starts.now c.loop-i.i ≡ c.clashes_after.result = latest-clash c.requires.0 words inside c.loop-i.invariant.1 c.start_action-a.ensures.0 c.start_moment.ensures.0
     ∙ sym c.clashes_after.ensures in (
       tried_more c.loop-i.invariant.0 inside (value ∙ c.if-clashes_after.false),
       latest-more c.requires.0 words inside c.loop-i.invariant.1 c.start_action-a.ensures.0 c.finish_of.ensures,

@@ -8,4 +8,4 @@ use Rattle.starts.proofs.clashes.first_clash.Given as goal
 
 abbrev pub invariant-loop-i : goal.invariant-loop-i
 invariant-loop-i l =
-    Tried 9 (clashes l.job l.starts) (length l.starts) l.i × Latest l.job l.starts l.i l.latest × Clashes l.job l.latest l.table
+    Tried 9 (clashes l.tables.job.now l.starts) (length l.starts) l.i × Latest l.tables.job.now l.starts l.i l.latest × Clashes l.tables.job.now l.latest l.table

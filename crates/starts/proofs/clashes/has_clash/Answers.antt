@@ -16,11 +16,11 @@ loop-f-init c = refl
 pub loop-f-preserved : goal.loop-f-preserved
 unfolding any_below
 loop-f-preserved c =
-    let below : c.loop-f.f < fluents c.args.job.now = omega (arith, c.fluents_of-n.ensures.0) in
+    let below : c.loop-f.f < fluents c.args.tables.now.job.now = omega (arith, c.fluents_of-n.ensures.0) in
     rw (c.loop-f.invariant, add-one c.loop-f.f, opposed-read c.requires _ below)
 
 pub returns : goal.returns
 unfolding clash
 returns c =
-    let e : c.loop-f.f ≡ fluents c.args.job.now = omega (arith, c.fluents_of-n.ensures.0) in
+    let e : c.loop-f.f ≡ fluents c.args.tables.now.job.now = omega (arith, c.fluents_of-n.ensures.0) in
     rw e at c.loop-f.invariant

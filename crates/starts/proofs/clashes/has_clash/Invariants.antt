@@ -5,4 +5,4 @@ use Rattle.starts.specs.Rows.{opposed}
 use Rattle.starts.proofs.clashes.has_clash.Given as goal
 
 abbrev pub invariant-loop-f : goal.invariant-loop-f
-invariant-loop-f l = l.found ≡ any_below (opposed l.job l.a l.b) l.f
+invariant-loop-f l = l.found ≡ any_below (opposed l.tables.job.now l.a l.b) l.f

@@ -16,8 +16,8 @@ use Rattle.answers.specs.Code.Ruled.{refused_at}
 pub returns : goal.returns
 unfolding ends_late
 returns c =
-    let found : c.position.result ≡ position (λ s. ltb c.last_of-last.result (tabled_finish c.args.durations.now s)) c.args.starts.now = position_from_yields_List _ _ _ c.position.result c.position.ensures.ran (YieldsList-from_slice _ c.iter.ensures.rest) (λ x b q k. search (rules, tests)) in
+    let found : c.position.result ≡ position (λ s. ltb c.last_of-last.result (tabled_finish c.args.tables.now.durations.now s)) c.args.starts.now = position_from_yields_List _ _ _ c.position.result c.position.ensures.ran (YieldsList-from_slice _ c.iter.ensures.rest) (λ x b q k. search (rules, tests)) in
     c.refused_at.ensures
     ∙ ap (refused_at 7) found
-    ∙ row-sought 7 (ends_late c.args.job.now c.args.starts.now) (λ s. ltb c.last_of-last.result (tabled_finish c.args.durations.now s)) c.args.starts.now (omega arith)
+    ∙ row-sought 7 (ends_late c.args.tables.now.job.now c.args.starts.now) (λ s. ltb c.last_of-last.result (tabled_finish c.args.tables.now.durations.now s)) c.args.starts.now (omega arith)
     (λ i l. rw (c.last_of-last.ensures.0, finish-is c.requires.lasts c.requires.words i l))

@@ -23,7 +23,7 @@ bounds-latest-a c = omega arith
 pub returns-then-start_moment-latest : goal.returns-then-start_moment-latest
 returns-then-start_moment-latest c =
     let words : (j : ℕ) → get_or c.args.starts.now j 0 < 2 ^ 32 = λ j. omega (arith, c.type_inv.starts j) in
-    let value : in_hand_already c.args.job.now c.args.starts.now c.loop-i.i ≡ ltb c.start_moment.result (get_or c.loop-i.latest c.start_action-a.result 0) = latest-restart c.requires words c.loop-i-test.true c.loop-i.invariant.1
+    let value : in_hand_already c.args.tables.now.job.now c.args.starts.now c.loop-i.i ≡ ltb c.start_moment.result (get_or c.loop-i.latest c.start_action-a.result 0) = latest-restart c.requires words c.loop-i-test.true c.loop-i.invariant.1
     c.start_action-a.ensures.0 c.start_moment.ensures.0 in
     rw c.refuse.ensures (tried_found c.loop-i.invariant.0 (omega arith) c.loop-i-test.true (value ∙ lt-ltb _ _ c.if-start_moment-latest.true))
 
@@ -39,7 +39,7 @@ bounds-latest-a-in-loop-i c = omega arith
 pub loop-i-preserved : goal.loop-i-preserved
 loop-i-preserved c =
     let words : (j : ℕ) → get_or c.args.starts.now j 0 < 2 ^ 32 = λ j. omega (arith, c.type_inv.starts j) in
-    let value : in_hand_already c.args.job.now c.args.starts.now c.loop-i.i ≡ ltb c.start_moment.result (get_or c.loop-i.latest c.start_action-a.result 0) = latest-restart c.requires words c.loop-i-test.true c.loop-i.invariant.1
+    let value : in_hand_already c.args.tables.now.job.now c.args.starts.now c.loop-i.i ≡ ltb c.start_moment.result (get_or c.loop-i.latest c.start_action-a.result 0) = latest-restart c.requires words c.loop-i-test.true c.loop-i.invariant.1
     c.start_action-a.ensures.0 c.start_moment.ensures.0 in
     let inside = c.loop-i-test.true in (
       tried_more c.loop-i.invariant.0 inside (value ∙ le-ltb _ _ c.if-start_moment-latest.false),

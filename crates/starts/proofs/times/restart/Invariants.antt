@@ -7,4 +7,4 @@ use Rattle.starts.proofs.Rows.{Tried}
 use Rattle.starts.proofs.times.restart.Given as goal
 
 abbrev pub invariant-loop-i : goal.invariant-loop-i
-invariant-loop-i l = Tried 8 (in_hand_already l.job l.starts) (length l.starts) l.i × Latest l.job l.starts l.i l.latest
+invariant-loop-i l = Tried 8 (in_hand_already l.tables.job.now l.starts) (length l.starts) l.i × Latest l.tables.job.now l.starts l.i l.latest

@@ -17,13 +17,13 @@ laws_of-laws-requires c =
 
 pub returns-then-has_unmet : goal.returns-then-has_unmet
 returns-then-has_unmet c =
-    let value : needs_unmet c.args.job.now c.args.starts.now c.loop-i.i ≡ c.has_unmet.result = unmet-read c.requires c.loop-i-test.true
+    let value : needs_unmet c.args.tables.now.job.now c.args.starts.now c.loop-i.i ≡ c.has_unmet.result = unmet-read c.requires c.loop-i-test.true
     c.start_action.ensures.0 c.laws_of-laws.ensures c.start_moment.ensures.0 c.has_unmet.ensures in
     rw c.refuse.ensures (tried_found c.loop-i.invariant (omega arith) c.loop-i-test.true (value ∙ c.if-has_unmet.true))
 
 pub loop-i-preserved : goal.loop-i-preserved
 loop-i-preserved c =
-    let value : needs_unmet c.args.job.now c.args.starts.now c.loop-i.i ≡ c.has_unmet.result = unmet-read c.requires c.loop-i-test.true
+    let value : needs_unmet c.args.tables.now.job.now c.args.starts.now c.loop-i.i ≡ c.has_unmet.result = unmet-read c.requires c.loop-i-test.true
     c.start_action.ensures.0 c.laws_of-laws.ensures c.start_moment.ensures.0 c.has_unmet.ensures in
     tried_more c.loop-i.invariant c.loop-i-test.true (value ∙ c.if-has_unmet.false)
 

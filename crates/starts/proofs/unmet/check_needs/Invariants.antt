@@ -5,4 +5,4 @@ use Rattle.starts.proofs.Rows.{Tried}
 use Rattle.starts.proofs.unmet.check_needs.Given as goal
 
 abbrev pub invariant-loop-i : goal.invariant-loop-i
-invariant-loop-i l = Tried 10 (needs_unmet l.job l.starts) (length l.starts) l.i
+invariant-loop-i l = Tried 10 (needs_unmet l.tables.job.now l.starts) (length l.starts) l.i
