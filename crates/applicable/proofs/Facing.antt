@@ -8,12 +8,10 @@ use native.Mathlib.Omega.{arith}
 use borrow.Author.Tests.{le-leb, lt-ltb}
 use lib.Dec.{eqb, ltb}
 use lib.ListN.{length, get_or, take}
-use lib.Seq.{sets}
 use Rattle.std.specs.List.{list_any}
 use Rattle.std.proofs.lemmas.Grind.{get_or_default_zero}
 use Rattle.words.specs.Fields.{start_moment, start_action, start_word}
 use Rattle.words.specs.Scan.{any, filter}
-use Rattle.words.proofs.Copies.{sets_first}
 use Rattle.words.proofs.Choices.{both_true, same_test}
 use Rattle.words.proofs.Filter.{any-filter, each_filter, filter-agree}
 use Rattle.words.proofs.Scan.{any-agree}
@@ -72,13 +70,10 @@ pub facing_read : {job durations effects starts : List ℕ} {u a : ℕ} → Faci
     → Facing job durations effects s u a
 facing_read {starts} given {s} i l e = rw (e ∙ get_or_default_zero starts i s l) (facing_at given i l)
 
--- what the code has kept of a copy of some starts
-pub kept : (durations starts buffer : List ℕ) (u : ℕ) {copied held : List ℕ} {count : ℕ} → length starts ≤ length buffer → copied ≡ sets buffer 0 starts
-    → Filtered (unfinished_by durations u) (length starts) copied count held → take count held ≡ filter (unfinished_by durations u) starts
-kept durations starts buffer u few copy f =
-    f.words
-    ∙ ap (λ (l : List ℕ). filter (unfinished_by durations u) (take (length starts) l)) copy
-    ∙ ap (λ (l : List ℕ). filter (unfinished_by durations u) l) (sets_first buffer starts few)
+-- what the code has kept of a list of some starts
+pub kept : {test : ℕ → Bool} {starts listed held in_hand : List ℕ} {n count : ℕ} → take n listed ≡ starts → Filtered test n listed count held
+    → in_hand ≡ take count held → in_hand ≡ filter test starts
+kept {test} all f e = e ∙ f.words ∙ ap (filter test) all
 
 -- of all starts of a plan: only those in hand are of the same action in hand, or clash
 module _ {job durations effects starts : List ℕ} {u a : ℕ} (given : FacingAll job durations effects starts u a) where

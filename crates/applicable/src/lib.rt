@@ -16,7 +16,8 @@ use answers::{
     GROUP_OVER_LIMIT, Refusal, START_CLASHES, START_ENDS_LATE, START_IN_HAND, START_NEEDS,
     START_OUTSIDE_WINDOWS, START_WORD, refuse,
 };
-use history::{Actions, finish_of, keep_unfinished};
+use history::carry::Held;
+use history::{Actions, finish_of};
 use starts::{has_clash, has_unmet};
 use theory::Plan;
 use words::*;
@@ -41,8 +42,7 @@ fn some_clash(tables: &Actions<'_>, starts: &[u32], u: usize, a: usize) -> bool
     })
 }
 
-// Runs rows 8, 9, 15 and 16 of action `a` started at moment `u`, in this order. Of the starts only those in hand then count: they are the
-// first `count` words of `held`, since without a heap a list is an array and a count.
+// Runs rows 8, 9, 15 and 16 of action `a` started at moment `u`, in this order. Of the starts only those in hand then count.
 fn held_refusal(
     tables: &Actions<'_>,
     plan: &Plan,
@@ -56,10 +56,10 @@ fn held_refusal(
     requires few { length starts.now ≤ 4096 }
     ensures { result ≡ ruled (held_refusal tables.now.job.now starts.now u a) tt }
 {
-    let mut held = [0u32; MOST_STARTS];
-    copy_words(starts, 0, &mut held);
-    let count = keep_unfinished(tables.durations, u, &mut held, starts.len());
-    let in_hand = &held[..count];
+    let mut held = Held::none();
+    held.hold(starts);
+    held.keep(tables.durations, u);
+    let in_hand = held.starts();
     if some_busy(tables, in_hand, u, a) {
         return Err(refuse(START_IN_HAND, 0));
     }

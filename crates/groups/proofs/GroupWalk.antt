@@ -1,13 +1,13 @@
 -- The starts in hand, carried from word to word of a plan's starts: what row 16 is counted over. Assumes nothing.
 use mathlib.Core.Bool.{Bool, true, false}
-use mathlib.Core.List.{List}
+use mathlib.Core.List.{List, [], ◌∷◌, ◌++◌}
 use mathlib.Core.Path.{◌≡◌, refl, sym, ◌∙◌}
 use Prim.Native.Nat.{ℕ, ◌+◌, ◌≤◌, ◌<◌}
 use native.Mathlib.Numerals.{add-one}
 use native.Mathlib.Omega.{arith}
 use borrow.Author.Tests.{lt-ltb}
-use lib.ListN.{length, get_or, take, set, replicate, length-set}
-use lib.Seq.{get_or-take, length-take-le, take-suc, take-suc-set}
+use lib.ListN.{length, get_or, take}
+use lib.Seq.{get_or-take, length-take-le, take-suc}
 use Rattle.std.specs.List.{list_any}
 use Rattle.words.specs.Fields.{start_moment, start_action}
 use Rattle.words.specs.Lists.{Each, each_none}
@@ -32,17 +32,15 @@ use Rattle.groups.proofs.GroupTable.{some_read}
 pub record Carrying (job starts : List ℕ) (held : List ℕ) (count t i : ℕ) : Type 0 where
   pub tried : Tried 16 (group_exceeded job starts) (length starts) i
   pub few : count ≤ i
-  pub room : length held ≡ 4096
   pub words : take count held ≡ held_at job (take i starts) t
   pub past : Each (λ s. start_moment s ≤ t) (take i starts)
   pub coming : (k : ℕ) → i ≤ k → k < length starts → t ≤ start_moment (get_or starts k 0)
 
 module _ {job durations starts : List ℕ} {groups : Groups} (given : Grouped job durations starts groups) where
-  pub carrying_none : Carrying job starts (replicate 4096 0) 0 0 0
-  carrying_none = record {
+  pub carrying_none : (held : List ℕ) → Carrying job starts held 0 0 0
+  carrying_none held = record {
     tried = tried_start;
     few = omega arith;
-    room = refl;
     words = refl;
     past = each_none;
     coming = λ k l m. omega arith;
@@ -89,14 +87,14 @@ module _ {job durations starts : List ℕ} {groups : Groups} (given : Grouped jo
       full_at ea er = sym (er ∙ some_read given.table s lasts (λ group. one_taken job group starts i inside) kept_in_hand ea)
 
       -- word i joins them
-      pub carrying_more : length kept ≡ length held → group_exceeded job starts i ≡ false
-          → Carrying job starts (set kept n (get_or starts i 0)) (n + 1) (start_moment (get_or starts i 0)) (i + 1)
-      carrying_more size clear = record {
+      pub carrying_more : {new : List ℕ} {count' : ℕ} → count' ≡ n + 1 → take count' new ≡ take n kept ++ (get_or starts i 0 ∷ []) → group_exceeded job starts i ≡ false
+          → Carrying job starts new count' (start_moment (get_or starts i 0)) (i + 1)
+      carrying_more more joined clear = record {
         tried = tried_more old.tried inside clear;
-        few = omega (arith, f.few, old.few);
-        room = length-set kept n s ∙ size ∙ old.room;
+        few = omega (arith, more, f.few, old.few);
         words =
-            rw (add-one n, take-suc-set kept n s (omega (arith, f.few, old.few, old.room, given.few)), kept_in_hand)
+            joined
+            ∙ rw kept_in_hand
             (sym (filter-hit (in_hand job (start_moment s)) starts i inside (true_in_hand job (start_moment s) s (omega arith) (omega (arith, lasts)))));
         past = rw (add-one i, take-suc starts i 0 inside) (each_last s (each_map (λ v l. omega (arith, old.coming i (omega arith) inside)) old.past) (omega arith));
         coming = λ k l m. pairs-at given.ascends k i (omega arith) m;

@@ -14,7 +14,7 @@ ghost use Rattle.answers.specs.Code.Ruled.{ruled};
 
 use answers::{GROUP_OVER_LIMIT, Refusal, refuse};
 use bitset::{has, single, union};
-use history::keep_unfinished;
+use history::carry::Held;
 use words::*;
 
 // A group: its limit, and the set of its actions.
@@ -98,26 +98,19 @@ impl Groups {
     }
 }
 
-// Keeps of the first `count` starts, which all finish after moment `t`, those that finish after moment `u`, which is not before `t`.
-// If the moment has not changed, all are kept without a pass. Returns their number.
-fn keep_from(
-    durations: &[usize; ACTIONS],
-    t: usize,
-    u: usize,
-    held: &mut [u32],
-    count: usize,
-) -> usize
-    requires { (t ≤ u) × ((a : ℕ) → get_or durations.now a 0 < 64) × (count ≤ length held.old) × Each (λ s. unfinished_by durations.now t s ≡ true) (take count held.old) }
-    ensures { Filtered (unfinished_by durations.now u) count held.old result held.new }
+// Keeps of the starts in hand, which all finish after moment `t`, those that finish after moment `u`, which is not before `t`. If the moment
+// has not changed, all are kept without a pass.
+fn keep_from(durations: &[usize; ACTIONS], t: usize, u: usize, held: &mut Held)
+    requires { (t ≤ u) × ((a : ℕ) → get_or durations.now a 0 < 64) × Each (λ s. unfinished_by durations.now t s ≡ true) (take held.old.count held.old.words) }
+    ensures { Filtered (unfinished_by durations.now u) held.old.count held.old.words held.new.count held.new.words }
 {
-    if t == u {
-        return count;
+    if t != u {
+        held.keep(durations, u);
     }
-    keep_unfinished(durations, u, held, count)
 }
 
-// Row 16: refuses the first start with which a group exceeds its limit. The first `count` words of `held` are the starts before it that are
-// in hand at the moment `t` of the last one: without a heap a list that shrinks and grows is an array and a count.
+// Row 16: refuses the first start with which a group exceeds its limit. `held` has the starts before it that are in hand at the moment `t` of
+// the last one.
 pub fn over_limit(
     job: &[u32],
     durations: &[usize; ACTIONS],
@@ -130,17 +123,15 @@ pub fn over_limit(
     if groups.all_empty() {
         return Ok(());
     }
-    let mut held = [0u32; MOST_STARTS];
-    let mut count = 0;
+    let mut held = Held::none();
     let mut t = 0;
     for (i, &s) in starts.iter().enumerate() {
         let u = start_moment(s);
-        count = keep_from(durations, t, u, &mut held, count);
-        if groups.some_full(&held[..count], start_action(s)) {
+        keep_from(durations, t, u, &mut held);
+        if groups.some_full(held.starts(), start_action(s)) {
             return Err(refuse(GROUP_OVER_LIMIT, i));
         }
-        held[count] = s;
-        count += 1;
+        held.push(s);
         t = u;
     }
     Ok(())

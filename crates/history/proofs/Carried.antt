@@ -34,12 +34,6 @@ each_timed {S = S} d n = each_of S (λ i l. d.entry _ (n.action i l))
 named-filter : {job S : List ℕ} (test : ℕ → Bool) → Named job S → Named job (filter test S)
 named-filter {job} {S} test n = record { action = each_at {P = λ s. start_action s < actions job} (each_filter test (each_of S n.action)) }
 
--- the list at moment 0 has the starts that begin then
-pub list_start : {job S : List ℕ} → Lasting job S → {first : List ℕ} (held : List ℕ) → first ≡ starting_at S 0 → length first ≤ length held
-    → HeldList job S 0 (sets held 0 first) (length first)
-list_start {job} {S} lasting {first} held begin room =
-    record { inside = rw (length-sets held 0 first) room; words = sets_first held first room ∙ begin ∙ sym (held_start job S lasting) }
-
 -- the list at moment t: how many words it has, that they name actions of the job, and that there is room for the starts of the next moment
 module _ {job S : List ℕ} {t : ℕ} {held : List ℕ} {count : ℕ} (h : HeldList job S t held count) where
   pub list_count : count ≡ length (held_at job S t)

@@ -1,7 +1,7 @@
 // The history of a plan: tables of the actions of a well-formed job, and the values of the fluents at every moment.
 #![tactic(auto)]
 
-mod carry;
+pub mod carry;
 pub mod states;
 pub mod tables;
 

@@ -15,8 +15,8 @@ ghost use Rattle.history.specs.Code.Passes.{changed, changed_by, AfterPass};
 use crate::carry::{Held, starting_at};
 use crate::tables::{finish_of, laws_of, row_of, store_row};
 use words::{
-    ACTIONS, EFFECTS, FLUENTS, KNOWN, MOST_STARTS, OPEN, STATES, fluent_of, fluents_of, kind_of,
-    known_value, start_action,
+    ACTIONS, EFFECTS, FLUENTS, KNOWN, OPEN, STATES, fluent_of, fluents_of, kind_of, known_value,
+    start_action,
 };
 
 // The state at moment 0: what the words say that is initially known.
@@ -107,7 +107,7 @@ impl Actions<'_> {
             → Carried self.now.job.now S t held.old.words held.old.count state.old
             → Carried self.now.job.now S (t + 1) held.new.words held.new.count state.new }
     {
-        self.apply_starts(&held.words[..held.count], false, t + 1, state);
+        self.apply_starts(held.starts(), false, t + 1, state);
         let kept = held.hold_next(self.durations, starting, t);
         self.apply_starts(&held.words[..kept], true, t + 1, state);
     }
@@ -120,10 +120,7 @@ impl Actions<'_> {
         let mut table = [OPEN; STATES];
         let mut state = initial_state(self.job);
         store_row(&state, 0, &mut table);
-        let mut held = Held {
-            words: [0; MOST_STARTS],
-            count: 0,
-        };
+        let mut held = Held::none();
         held.hold_first(starts);
         let mut next = held.count;
         for t in 0..last {

@@ -1,9 +1,8 @@
 -- What a job has that rows 1 to 5 pass, with its index of all its words, and a plan that the rows on starts pass. Assumes nothing.
 use mathlib.Core.List.{List}
-use mathlib.Core.Path.{◌≡◌, refl, ◌∙◌}
+use mathlib.Core.Path.{◌≡◌}
 use Prim.Native.Nat.{ℕ, ◌≤◌}
 use native.Mathlib.Omega.{arith}
-use borrow.Author.Tests.{eq-eqb}
 use lib.ListN.{length}
 use Rattle.job.specs.declared.Index.{Index}
 use Rattle.job.specs.Refusal.{job_refusal}
@@ -17,10 +16,7 @@ use Rattle.answers.proofs.Rows.{or_none}
 use Rattle.facts.specs.Facts.{facts_of}
 use Rattle.facts.proofs.Lists.{facts_fit}
 use Rattle.starts.specs.Rows.{starts_refusal}
-use Rattle.answers.specs.declared.Refusal.{Refusal}
-use Rattle.theory.specs.Answers.{fact_room_refusal, plan_refusal}
-use Rattle.theory.specs.Code.Judged.{room_checked_of, JobChecked, PassedUpto}
-use Rattle.theory.specs.declared.Plan.{Plan}
+use Rattle.theory.specs.Answers.{plan_refusal}
 use Rattle.job.proofs.WordPositions.{placed, positions-count}
 
 -- a plan that passes the rows of its job and its starts: the job is well formed

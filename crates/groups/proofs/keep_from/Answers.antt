@@ -5,5 +5,5 @@ use Rattle.words.proofs.Filter.{filter-all}
 use Rattle.history.specs.Code.Held.{unfinished_by}
 use Rattle.groups.proofs.keep_from.Goals as goal
 
-pub returns-then-t-u : goal.returns-then-t-u
-returns-then-t-u c = record { few = omega arith; words = rw (← c.if-t-u.true) (sym (filter-all (unfinished_by c.args.durations.now c.args.t) c.requires.3)) }
+pub returns-else-t-u : goal.returns-else-t-u
+returns-else-t-u c = record { few = omega arith; words = rw (← c.if-t-u.false) (sym (filter-all (unfinished_by c.args.durations.now c.args.t) c.requires.2)) }

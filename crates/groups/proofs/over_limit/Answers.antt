@@ -1,12 +1,9 @@
 -- `groups::over_limit` meets its contract. The invariant: the row fits no word before `i`, and of these the ones in hand are carried.
 -- Assumes nothing.
 use mathlib.Core.Path.{◌≡◌, sym, ◌∙◌}
-use Prim.Native.Nat.{suc, ◌≤◌}
+use Prim.Native.Nat.{suc}
 use native.Mathlib.Omega.{arith}
 use lib.ListN.{length, get_or, take}
-use lib.Seq.{length-take-le}
-use Rattle.words.specs.Fields.{start_moment}
-use Rattle.history.specs.Code.Held.{unfinished_by, Filtered}
 use Rattle.starts.specs.Rows.{group_exceeded}
 use Rattle.starts.proofs.Rows.{clear_row, tried_found, tried_end}
 use Rattle.groups.proofs.GroupTable.{empty_clear}
@@ -24,39 +21,32 @@ returns-then-all_empty c =
     rw (clear_row 16 (group_exceeded job starts) (length starts) (λ i l. empty_clear c.requires.table none (take (suc i) starts) (get_or starts i 0)))
 
 pub loop-i-init : goal.loop-i-init
-loop-i-init c = carrying_none c.requires
+loop-i-init c = rw c.none-held.ensures (carrying_none c.requires _)
 
-pub keep_from-count-requires : goal.keep_from-count-requires
-keep_from-count-requires c =
+pub keep_from-requires : goal.keep_from-requires
+keep_from-requires c =
     let given = c.requires in
     let old = c.loop-i.invariant in
     let inside = c.loop-i-test.true in
-    (rw (← c.start_moment-u.ensures.0) at (old.coming _ (omega arith) inside), given.timed.lasts.small, omega (arith, old.few, old.room, given.few, inside), unfinished-yet given old inside)
-
-pub slice_bounds-held-end : goal.slice_bounds-held-end
-slice_bounds-held-end c =
-    let inside : c.keep_from-count.result ≤ length c.keep_from-count.new.held = let old = c.loop-i.invariant in
-    omega (arith, c.keep_from-count.ensures.few, c.keep_from-count.auto.held, old.few, old.room, c.requires.few, c.loop-i-test.true) in
-    inside
-
-pub slice_bounds-some_full-end : goal.slice_bounds-some_full-end
-slice_bounds-some_full-end c =
-    let inside : c.keep_from-count.result ≤ length c.keep_from-count.new.held = let old = c.loop-i.invariant in
-    omega (arith, c.keep_from-count.ensures.few, c.keep_from-count.auto.held, old.few, old.room, c.requires.few, c.loop-i-test.true) in
-    sym (length-take-le _ _ inside)
+    (rw (← c.start_moment-u.ensures.0) at (old.coming _ (omega arith) inside), given.timed.lasts.small, unfinished-yet given old inside)
 
 pub returns-then-some_full : goal.returns-then-some_full
 returns-then-some_full c =
-    let filtered : let args = c.args in Filtered (unfinished_by args.durations.now (start_moment (get_or args.starts.now c.loop-i.i 0))) c.loop-i.count c.loop-i.held c.keep_from-count.result c.keep_from-count.new.held = rw c.start_moment-u.ensures.0 at c.keep_from-count.ensures in
-    let value : let args = c.args in group_exceeded args.job.now args.starts.now c.loop-i.i ≡ c.some_full.result = full_at c.requires c.loop-i.invariant c.loop-i-test.true filtered c.start_action.ensures.0 c.some_full.ensures in
+    let filtered = rw c.start_moment-u.ensures.0 at c.keep_from.ensures in
+    let value : let args = c.args in group_exceeded args.job.now args.starts.now c.loop-i.i ≡ c.some_full.result =
+    full_at c.requires c.loop-i.invariant c.loop-i-test.true filtered c.start_action.ensures.0 (rw c.starts.ensures at c.some_full.ensures) in
     rw c.refuse.ensures (tried_found c.loop-i.invariant.tried (omega arith) c.loop-i-test.true (value ∙ c.if-some_full.true))
+
+pub push-requires : goal.push-requires
+push-requires c = omega (arith, c.keep_from.ensures.few, c.loop-i.invariant.few, c.requires.few, c.loop-i-test.true)
 
 pub loop-i-preserved : goal.loop-i-preserved
 loop-i-preserved c =
-    let filtered : let args = c.args in Filtered (unfinished_by args.durations.now (start_moment (get_or args.starts.now c.loop-i.i 0))) c.loop-i.count c.loop-i.held c.keep_from-count.result c.keep_from-count.new.held = rw c.start_moment-u.ensures.0 at c.keep_from-count.ensures in
-    let value : let args = c.args in group_exceeded args.job.now args.starts.now c.loop-i.i ≡ c.some_full.result = full_at c.requires c.loop-i.invariant c.loop-i-test.true filtered c.start_action.ensures.0 c.some_full.ensures in
+    let filtered = rw c.start_moment-u.ensures.0 at c.keep_from.ensures in
+    let value : let args = c.args in group_exceeded args.job.now args.starts.now c.loop-i.i ≡ c.some_full.result =
+    full_at c.requires c.loop-i.invariant c.loop-i-test.true filtered c.start_action.ensures.0 (rw c.starts.ensures at c.some_full.ensures) in
     rw c.start_moment-u.ensures.0
-    (carrying_more c.requires c.loop-i.invariant c.loop-i-test.true filtered c.keep_from-count.auto.held (value ∙ c.if-some_full.false))
+    (carrying_more c.requires c.loop-i.invariant c.loop-i-test.true filtered c.push.ensures.0 c.push.ensures.1 (value ∙ c.if-some_full.false))
 
 pub returns : goal.returns
 returns c = tried_end c.loop-i.invariant.tried (omega arith)

@@ -4,4 +4,4 @@ use Rattle.groups.proofs.GroupWalk.{Carrying}
 use Rattle.groups.proofs.over_limit.Given as goal
 
 abbrev pub invariant-loop-i : goal.invariant-loop-i
-invariant-loop-i l = Carrying l.job l.starts l.held l.count l.t l.i
+invariant-loop-i l = Carrying l.job l.starts l.held.words l.held.count l.t l.i

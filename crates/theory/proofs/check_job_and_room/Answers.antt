@@ -1,5 +1,4 @@
 -- `theory::check_job_and_room` meets its contract: a row of the job refuses, or row 12 after them, or neither. Assumes nothing.
-use mathlib.Core.Path.{sym, ◌∙◌}
 use borrow.Author.Tests.{lt-ltb, le-ltb}
 use Rattle.words.specs.Fields.{fact_room}
 use Rattle.job.specs.Code.Index.{checked_of}

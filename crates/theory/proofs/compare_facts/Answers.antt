@@ -1,11 +1,9 @@
 -- `theory::compare_facts` meets its contract. The invariant: row 11 is left to the facts from moment `t` on. Assumes nothing.
-use mathlib.Core.List.{List, []}
+use mathlib.Core.List.{[]}
 use mathlib.Core.Path.{◌≡◌, refl, sym}
-use Prim.Native.Nat.{ℕ}
 use native.Mathlib.Omega.{arith}
 use lib.ListN.{drop}
 use lib.Seq.{length-take-le}
-use Rattle.history.specs.Code.Tables.{History}
 use Rattle.facts.specs.Facts.{facts_of}
 use Rattle.theory.specs.Answers.{facts_refusal}
 use Rattle.answers.proofs.Rows.{err-refused, ok-passed}

@@ -1,5 +1,4 @@
 -- `theory::compare_part` meets its contract. The invariant: the first `i` words of the part are the same. Assumes nothing.
-use mathlib.Core.Path.{◌≡◌}
 use native.Mathlib.Omega.{arith}
 use Rattle.theory.proofs.Laws.{part_differs, given_ends, part_ends, same_start, same_more}
 use Rattle.theory.proofs.compare_part.Goals as goal

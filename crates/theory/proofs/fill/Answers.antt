@@ -1,5 +1,5 @@
 -- `theory::fill` meets its contract: a row refuses and leaves the buffer, or the facts are written. Assumes nothing.
-use mathlib.Core.Path.{◌≡◌, sym, ◌∙◌, ap}
+use mathlib.Core.Path.{sym, ◌∙◌, ap}
 use native.Mathlib.Omega.{arith}
 use lib.ListN.{length}
 use lib.Seq.{length-sets}

@@ -1,5 +1,5 @@
 -- `theory::judge` meets its contract: the job passes, and the rows on starts say the rest. Assumes nothing.
-use mathlib.Core.Path.{◌≡◌, subst}
+use mathlib.Core.Path.{subst}
 use Prim.Native.Nat.{ℕ}
 use native.Mathlib.Omega.{arith}
 use Rattle.job.proofs.WellFormed.{well_formed}

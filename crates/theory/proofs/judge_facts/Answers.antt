@@ -1,5 +1,5 @@
 -- `theory::judge_facts` meets its contract: a row of the job or the starts refuses, or row 11, or none of them. Assumes nothing.
-use mathlib.Core.Path.{◌≡◌, sym, ◌∙◌, ap}
+use mathlib.Core.Path.{sym, ◌∙◌, ap}
 use Rattle.answers.specs.declared.Refusal.{Refusal}
 use Rattle.answers.proofs.Rows.{ok-passed, err-refused, or_refused, or_passed}
 use Rattle.job.specs.Code.Index.{checked_of}

@@ -1,5 +1,5 @@
 -- `theory::judge_starts` meets its contract: rows 6 to 9, 15, 16 or 10 refuse, or a plan passes them. Assumes nothing.
-use mathlib.Core.Path.{◌≡◌, refl, ap, sym, ◌∙◌}
+use mathlib.Core.Path.{refl, ap, sym, ◌∙◌}
 use native.Mathlib.Omega.{arith}
 use Rattle.answers.specs.declared.Refusal.{Refusal}
 use Rattle.answers.proofs.Rows.{ok-passed, err-refused}

@@ -1,5 +1,5 @@
 -- `theory::moments::start_moments` meets its contract. The invariant: the sets are those of the starts that have been taken. Assumes nothing.
-use mathlib.Core.Path.{◌≡◌, ap, ◌∙◌}
+use mathlib.Core.Path.{ap, ◌∙◌}
 use native.Mathlib.Omega.{arith}
 use Rattle.words.proofs.Back.{back_start, back_taken}
 use Rattle.bitset.proofs.SetTable.{table_none, table_more}

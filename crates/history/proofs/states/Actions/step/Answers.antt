@@ -5,7 +5,7 @@ use Rattle.history.proofs.Steps.{step_room, step_walk, step_next, step_hiding}
 use Rattle.history.proofs.states.Actions.step.Goals as goal
 
 pub apply_starts-requires : goal.apply_starts-requires
-apply_starts-requires c = (step_walk c.requires, c.requires.carried.state.room)
+apply_starts-requires c = (rw c.starts.ensures (step_walk c.requires), c.requires.carried.state.room)
 
 pub hold_next-kept-requires : goal.hold_next-kept-requires
 hold_next-kept-requires c = (c.requires.walk.tables.durations.small, c.requires.soon, step_room c.requires)
@@ -21,4 +21,4 @@ returns c =
     let next = c.hold_next-kept.ensures in
     λ S named ascends begin old.
     carried_next c.args.t begin (each_lasts p.walk.well named) ascends (step_next p next.list S named ascends begin old.list) _ next.kept old
-    c.apply_starts.ensures c.apply_starts-2.ensures
+    (rw c.starts.ensures at c.apply_starts.ensures) c.apply_starts-2.ensures
