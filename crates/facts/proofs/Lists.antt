@@ -5,8 +5,8 @@ use Prim.Native.Nat.{ℕ, ◌+◌, ◌-◌, ◌*◌, ◌≤◌, ◌<◌}
 use native.Mathlib.Nat.{zero-add, add-zero, add_assoc, mul-le-mul, le_trans}
 use native.Mathlib.Omega.{arith}
 use lib.Dec.{eqb}
-use lib.ListN.{length, get_or, set, length-append}
-use lib.Seq.{length-sets}
+use lib.ListN.{length, get_or, set, take, drop, length-append}
+use lib.Seq.{length-sets, get_or-take, get_or-drop}
 use Rattle.words.specs.Scan.{concat_below}
 use Rattle.words.specs.Lists.{insert}
 use Rattle.words.proofs.Choices.{cond-all}
@@ -20,7 +20,7 @@ use Rattle.history.specs.Values.{value_at}
 use Rattle.history.specs.Code.Tables.{HistoryUpto}
 use Rattle.history.proofs.Before.{value_before}
 use Rattle.facts.specs.Facts.{fact_of, facts_at, facts_upto, facts_after, facts_of}
-use Rattle.facts.specs.Code.Written.{row_facts, rows_facts, Written, Filled}
+use Rattle.facts.specs.Code.Written.{facts_in, row_facts, rows_facts, Written, Filled}
 
 module _ {old : List ℕ} {at : ℕ} where
   pub written_none : Written old at [] at old
@@ -49,23 +49,36 @@ fact_most head t f value = cond-all (λ l. length l ≤ 1) (eqb value unknown) (
 facts_most : (head t : ℕ) (value : ℕ → ℕ) (n : ℕ) → length (concat_below (λ f. fact_of head t f (value f)) n) ≤ n
 facts_most head t value n = omega (arith, concat-most (λ (f : ℕ). fact_of head t f (value f)) 1 n (λ f. fact_most head t f (value f)))
 
--- by a history: one fluent more
-module _ (history : List ℕ) (head t : ℕ) where
-  pub row-none : row_facts history head t 0 ≡ []
-  unfolding row_facts concat_below
-  row-none = refl
-
+-- by a row of values: one fluent more
+module _ (head t : ℕ) (row : List ℕ) where
   -- before the first fluent nothing is written
-  pub row-start : {old : List ℕ} {at : ℕ} → Written old at (row_facts history head t 0) at old
-  row-start = rw row-none written_none
+  pub row-start : {old : List ℕ} {at : ℕ} → Written old at (facts_in head t row 0) at old
+  unfolding facts_in concat_below
+  row-start = written_none
 
-  pub row_more : (n : ℕ) → row_facts history head t (n + 1) ≡ row_facts history head t n ++ fact_of head t n (get_or history (t * 256 + n) 0)
-  unfolding row_facts
-  row_more n = concat-more (λ (f : ℕ). fact_of head t f (get_or history (t * 256 + f) 0)) n
+  pub row_more : (n : ℕ) → facts_in head t row (n + 1) ≡ facts_in head t row n ++ fact_of head t n (get_or row n 0)
+  unfolding facts_in
+  row_more n = concat-more (λ (f : ℕ). fact_of head t f (get_or row f 0)) n
 
+  pub in-most : (n : ℕ) → length (facts_in head t row n) ≤ n
+  unfolding facts_in
+  in-most n = facts_most head t (λ f. get_or row f 0) n
+
+-- by a history, of which a row is read
+module _ (history : List ℕ) (head t : ℕ) where
   pub row-most : (n : ℕ) → length (row_facts history head t n) ≤ n
   unfolding row_facts
   row-most n = facts_most head t (λ f. get_or history (t * 256 + f) 0) n
+
+  pub row-read : (n : ℕ) → facts_in head t (take n (drop (t * 256) history)) n ≡ row_facts history head t n
+  unfolding facts_in row_facts
+  row-read n =
+      concat-cong _ _ n (λ f l. ap (fact_of head t f) (get_or-take n (drop (t * 256) history) f 0 l ∙ get_or-drop (t * 256) history f 0))
+
+  -- a row that is read is written as the history's
+  pub row-written : {n : ℕ} {row old new : List ℕ} {at end : ℕ} → (row ≡ take n (drop (t * 256) history)) × (length row ≡ n)
+      → Written old at (facts_in head t row (length row)) end new → Written old at (row_facts history head t n) end new
+  row-written {n} read w = rw (read.1, read.0, row-read n) at w
 
 -- by a history: k moments from t on, one moment more at either end
 module _ (history : List ℕ) (head n : ℕ) where

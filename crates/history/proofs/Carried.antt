@@ -10,7 +10,7 @@ use lib.ListN.{length, get_or, take, length-append}
 use lib.Seq.{sets, length-sets, length-take-le, take-take, take_at}
 use Rattle.words.specs.Fields.{start_moment, start_action}
 use Rattle.words.specs.Scan.{filter}
-use Rattle.words.proofs.Copies.{sets_front, sets_first}
+use Rattle.words.proofs.Copies.{sets_front}
 use Rattle.words.proofs.Filter.{filter-agree, each_filter, filter-apart}
 use Rattle.words.proofs.Lists.{each_of, each_at, each_map}
 use Rattle.job.specs.Code.WellFormed.{WellFormed}
@@ -20,7 +20,7 @@ use Rattle.history.specs.Held.{held_at, begins_at, starting_at, unfinished, Last
 use Rattle.history.specs.Code.Tables.{Durations, Named, Walkable}
 use Rattle.history.specs.Code.Held.{unfinished_by, Filtered, Carried}
 use Rattle.history.specs.Code.Passes.{AfterPass}
-use Rattle.history.proofs.Held.{in_hand-true, held_start, held_next}
+use Rattle.history.proofs.Held.{in_hand-true, held_next}
 use Rattle.history.proofs.Moments.{state_next}
 
 -- each start lasts, as long as the table of durations says

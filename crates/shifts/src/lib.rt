@@ -1,4 +1,5 @@
-// Row 15: starts outside the shift windows of their action.
+// Row 15: starts outside the shift windows of their action. Actions and moments are plain numbers, taken from words: a type for one would be
+// taken apart again at each set and each entry of a table, so that a function asks that they are below 64. Sets have u32 members, so they are cast.
 #![tactic(auto)]
 
 ghost use Rattle.std.specs.Prelude.{not, ◌||◌, ◌≡◌, ◌<◌, length, get_or};

@@ -4,7 +4,7 @@ use mathlib.Core.List.{List, [], ◌∷◌}
 use mathlib.Core.Path.{◌≡◌, refl, ap, sym, ◌∙◌}
 use Prim.Native.Nat.{ℕ, zero, suc, ◌+◌, ◌≤◌, ◌<◌}
 use native.Mathlib.Omega.{arith}
-use borrow.Author.Tests.{ltb-true, eq-eqb, ne_eqb}
+use borrow.Author.Tests.{ltb-true}
 use Rattle.std.specs.Prelude.{⊤, Result, Ok, Err, position}
 use lib.Dec.{eqb, ltb}
 use lib.ListN.{length, get_or, take, drop}
@@ -145,13 +145,3 @@ module _ (job starts : List ℕ) where
       later =
           ap (λ (r : Refusal). first_refusal (row_answer 15 (outside_windows job starts)) (first_refusal (row_answer 16 (group_exceeded job starts)) r))
           (sym (rows_last 10 (needs_unmet job starts) (length starts)))
-
-  -- rows 6 to 9, whose answer is r, fit a word; they fit none
-  module _ {r : Refusal} (is : r ≡ rows_refusal (time_rows job starts) (length starts)) where
-    pub starts_found : (r.number ≡ 0 → ⊥) → r ≡ starts_refusal job starts
-    starts_found h = rw (starts_by_rows, ← is, ne_eqb r.number 0 h)
-
-    pub starts_next : r.number ≡ 0 → {outside over needs rest answer : Refusal} → answer ≡ first_refusal outside rest → rest ≡ first_refusal over needs
-        → outside ≡ row_answer 15 (outside_windows job starts) → over ≡ row_answer 16 (group_exceeded job starts) → needs ≡ row_answer 10 (needs_unmet job starts)
-        → answer ≡ starts_refusal job starts
-    starts_next h e er eo eg en = e ∙ rw (er, eo, eg, en, starts_by_rows, ← is, eq-eqb r.number 0 h)

@@ -1,4 +1,5 @@
-// Row 9: starts that clash.
+// Row 9: starts that clash. A function asks of an action that the job has it: a type for such an action would have the job in it, which `tables`
+// has, and be taken apart again at each entry of a table.
 ghost use Rattle.std.specs.Prelude.{◌≡◌, length};
 ghost use Rattle.words.specs.Scan.{any_below};
 ghost use Rattle.answers.specs.Rows.{first_of};
@@ -33,7 +34,7 @@ fn store_pair(tables: &Actions<'_>, a: usize, b: usize, table: &mut [u8; ACTION_
     requires { PairStorable tables.now.job.now tables.now.effects.now a b table.old }
     ensures { PairStored tables.now.job.now a b table.old table.new }
 {
-    let entry = has_clash(tables, a, b) as u8;
+    let entry = u8::from(has_clash(tables, a, b));
     table[a * ACTIONS + b] = entry;
     table[b * ACTIONS + a] = entry;
 }

@@ -1,4 +1,5 @@
-// The theory layer's calls, on any lists of words: check and fill.
+// The theory layer's calls, on any lists of words: check and fill. That a job passes is asked as `WellFormed` or `JobChecked`: a type for a checked
+// job would have its index or its tables in it, and so ask for more than docs/CONTRACTS.md has it.
 #![tactic(auto)]
 
 ghost use Rattle.std.specs.Prelude.{List, ◌≡◌, ℕ, ◌≤◌, length, drop};

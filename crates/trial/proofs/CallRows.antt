@@ -45,10 +45,6 @@ same_first a b = cases (eqb a.number 0)
     cases true = refl
     cases false = refl
 
--- a last row that does not fit
-last_none : (r : Refusal) → r.number ≡ 0 → first_refusal r passed ≡ passed
-last_none r z = sym (or_passed r passed z)
-
 module _ (job words : List ℕ) where
   -- few words: the job's refusal or 14
   module _ (short : length words < 4098) where

@@ -94,8 +94,10 @@ impl Trial {
         if self.is_outside(job) {
             return Err(refuse(TRIAL_BOUNDS, 0));
         }
-        judge_starts(job, index, &self.starts[..self.length], self.moment)
-            .map_err(|refusal| refuse(refusal.number, 0))
+        judge_starts(job, index, &self.starts[..self.length], self.moment).map_err(|refusal| refuse(
+            refusal.number,
+            0,
+        ))
     }
 
     // Returns the trial with one more start, at its place.

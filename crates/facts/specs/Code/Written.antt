@@ -7,7 +7,10 @@ use Rattle.job.specs.Parts.{head_word, last_moment}
 use Rattle.job.specs.Code.WellFormed.{WellFormed}
 use Rattle.facts.specs.Facts.{fact_of}
 
--- by a history, the facts at moment t of the first n fluents
+-- by a row of values, the facts at moment t of the first n fluents; the same by a history
+unfoldable pub facts_in : ℕ → ℕ → List ℕ → ℕ → List ℕ
+facts_in head t row n = concat_below (λ f. fact_of head t f (get_or row f 0)) n
+
 unfoldable pub row_facts : List ℕ → ℕ → ℕ → ℕ → List ℕ
 row_facts history head t n = concat_below (λ f. fact_of head t f (get_or history (t * 256 + f) 0)) n
 

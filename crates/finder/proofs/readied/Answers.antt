@@ -1,5 +1,5 @@
 -- `finder::readied` meets its contract: row 12 or a row of check refuses, or the plan passes and its arrays are made. Assumes nothing.
-use mathlib.Core.Path.{◌≡◌, sym, ap, ◌∙◌}
+use mathlib.Core.Path.{sym, ap, ◌∙◌}
 use Rattle.answers.specs.declared.Refusal.{Refusal}
 use Rattle.answers.proofs.Rows.{ok-passed, err-refused, or_refused, or_passed}
 use Rattle.job.specs.Code.Index.{checked_of}

@@ -12,4 +12,4 @@ as_byte true = refl
 as_byte false = refl
 
 pub returns : goal.returns
-returns c = pair_stored c.requires (as_byte c.has_clash-entry.result ∙ ap indicator c.has_clash-entry.ensures)
+returns c = pair_stored c.requires (c.from-entry.ensures ∙ as_byte c.has_clash.result ∙ ap indicator c.has_clash.ensures)

@@ -1,6 +1,6 @@
 -- `trial::Trial::new_start` meets its contract: a row of the job or the trial refuses, or one of the new start, or there is room for it. Assumes
 -- nothing.
-use mathlib.Core.Path.{◌≡◌, sym, ap, ◌∙◌}
+use mathlib.Core.Path.{sym, ap, ◌∙◌}
 use Prim.Native.Nat.{◌≤◌}
 use native.Mathlib.Omega.{arith}
 use lib.ListN.{length}

@@ -1,5 +1,4 @@
 -- `trial::Trial::on` meets its contract: a row refuses, or the moment is one more. Assumes nothing.
-use mathlib.Core.Path.{refl}
 use Rattle.moves.specs.Trials.{On}
 use Rattle.trial.proofs.Moves.{stepped_refused, stepped_moved}
 use Rattle.trial.proofs.Trial.on.Goals as goal

@@ -1,6 +1,6 @@
 -- `trial::Trial::shown` meets its contract: a row refuses and leaves the buffer, or the facts up to the present moment are written. Assumes
 -- nothing.
-use mathlib.Core.Path.{◌≡◌, sym, ap, ◌∙◌}
+use mathlib.Core.Path.{sym, ap, ◌∙◌}
 use Prim.Native.Nat.{◌≤◌}
 use native.Mathlib.Omega.{arith}
 use lib.ListN.{length}
