@@ -17,25 +17,23 @@ pub fn search(tables: &Tables, state: Open, found: Found) -> Found
     if state.left == 0 {
         return ending::leaf(tables, state, found);
     }
-    let gaps = narrowing::gaps(tables.count, state);
+    let gaps = narrowing::gaps(tables, state);
     if gaps == 0 {
-        let i = narrowing::choose(tables.count, state);
+        let i = narrowing::choose(tables, state);
         return tries(tables, state, i, found);
     }
     let g = bitset::lowest(gaps);
     let h = narrowing::last_gap(state.left, gaps, g);
     let mut r = found;
-    let mut rest = state.left;
-    while rest != 0 {
-        let i = bitset::lowest(rest) as usize;
+    for i in bitset::members(state.left) {
+        let i = i as usize;
         let with = narrowing::over(state, i, g, h);
         r = tries(tables, with, i, r);
-        rest = bitset::drop_lowest(rest);
     }
     r
 }
 
-// The same, where member i, which is left, is placed next: at each begin that it may have.
+// `found` with the ends to which the set reads where member i, which is left, is placed next: at each begin that it may have.
 #[cycle(search_tries)]
 fn tries(tables: &Tables, state: Open, i: usize, found: Found) -> Found
     requires { TryReady tables.now state i found.upto }
@@ -43,11 +41,8 @@ fn tries(tables: &Tables, state: Open, i: usize, found: Found) -> Found
 {
     let may = state.members[i];
     let mut r = found;
-    let mut rest = may.begins;
-    while rest != 0 {
-        let x = bitset::lowest(rest);
+    for x in bitset::members(may.begins) {
         let row = keeping::pair_at(&tables.ends, i, i, x);
-        rest = bitset::drop_lowest(rest);
         if bitset::inter(may.ends, row) == 0 {
             continue;
         }

@@ -26,7 +26,7 @@ fn from_first(tables: &Tables, a: u32, first: usize, last: usize, goal: u64, fou
     searching::search(tables, next, found)
 }
 
-// The same for each member that may end last.
+// `found` with the ends of `goal` from a where member `first` begins at a, whichever member ends last.
 fn from_each(tables: &Tables, a: u32, first: usize, goal: u64, found: Found) -> Found
     requires { SearchReady tables.now a found.upto × (first < tables.now.count) }
     ensures { Grown tables.now a found result × ((e : ℕ) (bs es : ℕ → ℕ) → Masked tables.now a e bs es → InTables tables.now a bs es → BoundsHave tables.now.count tables.now.bounds bs es → e ≤ found.upto → bs first ≡ a → In goal e → In result.ends e) }

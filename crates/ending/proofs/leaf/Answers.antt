@@ -18,7 +18,7 @@ use Rattle.ending.proofs.leaf.Goals.{After-covered-got}
 
 -- the lists have a begin and a mask for each member
 long : (c : After-covered-got) → let n = c.args.tables.now.count in (n ≤ length c.first_begins-begins.result) × (n ≤ length c.ends_at-masks.result)
-long c = let few = c.requires.state.ready.few in let four : length c.first_begins-begins.result ≡ 4 = search rules in let four' : length c.ends_at-masks.result ≡ 4 = search rules in (omega arith, omega arith)
+long c = let few = c.args.tables.now.few in let four : length c.first_begins-begins.result ≡ 4 = search rules in let four' : length c.ends_at-masks.result ≡ 4 = search rules in (omega arith, omega arith)
 
 -- what is covered, by the begins and masks of the members
 covers : (c : After-covered-got) (e : ℕ) → let a = c.args in

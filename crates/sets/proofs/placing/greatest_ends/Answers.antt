@@ -11,7 +11,7 @@ pub loop-i-init : goal.loop-i-init
 loop-i-init c = record { four = refl; highest = λ j l. absurd (omega arith) }
 
 pub greatest_upto-requires : goal.greatest_upto-requires
-greatest_upto-requires c = (c.requires.0, c.requires.2 c.loop-i.i c.loop-i-test.true)
+greatest_upto-requires c = (c.requires.0, c.requires.1 c.loop-i.i c.loop-i-test.true)
 
 pub loop-i-preserved : goal.loop-i-preserved
 loop-i-preserved c =
@@ -19,7 +19,7 @@ loop-i-preserved c =
     record {
       four = simp length-set l.invariant.four;
       highest = entries_more (λ j. j) (λ j m. Highest (entry_at c.args.sets j) c.args.e m) l.ends l.i c.greatest_upto.result
-          (omega (arith, l.invariant.four, c.requires.1, c.loop-i-test.true)) (λ j g q. omega arith) l.invariant.highest c.greatest_upto.ensures;
+          (omega (arith, l.invariant.four, c.args.tables.now.few, c.loop-i-test.true)) (λ j g q. omega arith) l.invariant.highest c.greatest_upto.ensures;
     }
 
 pub returns : goal.returns

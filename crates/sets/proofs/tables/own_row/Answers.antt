@@ -11,7 +11,7 @@ returns-then-not-has c = in_none (λ e h. not_both (rw c.pair_at.ensures h.4.yes
 
 pub returns : goal.returns
 returns c = λ e.
-    let row = in_both c.inter-row.ensures e in
+    let row = in_both c.inter-after.ensures e in
     let upto = in_between c.between.ensures e in
     let both = in_both c.inter.ensures e in
     let own = c.pair_at-2.ensures in (
