@@ -82,7 +82,7 @@ module _ {t : Tables} {b hi : ℕ} {bs Es : ℕ → ℕ} (ready : SearchReady t 
       = λ i. ⊎_elim (λ t. (t.0, λ l. t.1)) (λ n. (0, λ l. let r = (h.needs i l).each in not_both r.member.yes (n r.end r.upto))) (greatest (Es i) e) in
       record { es = λ i. (top i).0; masked = masked_top h (λ i l. (top i).1 l) }
 
-  -- and no others
+  -- the ends of all placements with these begins are covered
   pub covers_all : {e : ℕ} {bs' es : ℕ → ℕ} → ((i : ℕ) → i < t.count → bs' i ≡ bs i) → Masked t b e bs' es → Coverable t.count bs Es b e
   covers_all q m = coverable ready.some (λ i l. (range i l).0) (λ i x l t. (onward i x l t).0) (record {
     chosen = λ i l. ((sets i _ l).1 (end_same ready q i _ l (m.lawful i l)), (m.inside i l).2);

@@ -1,5 +1,6 @@
 // The entries of tables by pairs of members, and what one member keeps where another begins.
 // Each function asks that its members are below 4 and its moments below 64: a type for them would be taken apart again at each table entry.
+// Sets have u32 members and arrays usize indices; no From joins them, so both are cast.
 ghost use Rattle.std.specs.Prelude.{◌≡◌, ◌+◌, ◌*◌, ◌<◌};
 ghost use Rattle.keeping.specs.Code.Tables.{pair_at, Narrows};
 
@@ -23,6 +24,7 @@ pub fn pair_at(table: &[u64; PAIRS], i: usize, j: usize, x: u32) -> u64
 }
 
 // What member j keeps where member i begins at x, within a window of moments.
+// Six parameters: no struct holds a member and its begin, and one made for this call would be taken apart again in its first lines.
 pub fn narrowed(tables: &Tables, i: usize, x: u32, j: usize, old: Choice, window: u64) -> Choice
     requires { (i < 4) × (j < 4) × (x < 64) }
     ensures { Narrows tables.now i x j window old result }

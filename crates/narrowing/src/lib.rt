@@ -1,5 +1,8 @@
 // Open sets: the begins and ends that each member of a set may still have, and what is left of them as one member is placed; bounds (on begins,
 // by the ends of others).
+// A function asks of a member or a moment that it is in range, below the tables' number of members or below 64, since its callers have it as a plain
+// index or a set's member: a type for it would be made and taken apart again at each call.
+// Sets have u32 members and arrays usize indices; no From joins them, so both are cast.
 #![tactic(auto)]
 
 ghost use Rattle.std.specs.Prelude.{◌≡◌, ◌↔◌, ◌⊎◌, not, ◌&&◌, ℕ, ◌<◌, ◌≤◌, eqb};

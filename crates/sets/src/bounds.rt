@@ -1,5 +1,8 @@
 // Bounds on begins by ends: where a condition ties the end of member w to the begin of member j, the begins of j with which w may still end at a
 // moment or later, and at a moment or sooner.
+// A function asks that its members are below 4, its rows below 16 and its moments below 64: a type for them would be taken apart again at each
+// table entry.
+// Sets have u32 members and arrays usize indices; no From joins them, so both are cast.
 ghost use Rattle.std.specs.Prelude.{◌≡◌, ℕ, ◌+◌, ◌*◌, ◌<◌, ◌≤◌, length, get_or};
 ghost use Rattle.bitset.specs.Code.Members.{In};
 ghost use Rattle.narrowing.specs.Code.Tables.{EndsHave, BoundsHave, Bounded};

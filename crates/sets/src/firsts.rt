@@ -10,6 +10,8 @@ use words::{MEMBERS, MOMENTS};
 
 // `found` with the ends of `goal` from a where member `first` begins at a and `last` ends last. Nothing is placed where `last` has none that is
 // not found yet.
+// Six parameters: the moment, the two members, the ends that are sought and those that are found come from three loops, and no struct holds two of
+// them.
 fn from_first(tables: &Tables, a: u32, first: usize, last: usize, goal: u64, found: Found) -> Found
     requires { SearchReady tables.now a found.upto × (first < tables.now.count) × (last < tables.now.count) }
     ensures { Grown tables.now a found result × ((e : ℕ) (bs es : ℕ → ℕ) → Masked tables.now a e bs es → InTables tables.now a bs es → BoundsHave tables.now.count tables.now.bounds bs es → e ≤ found.upto → bs first ≡ a → es last ≡ e → In goal e → In result.ends e) }

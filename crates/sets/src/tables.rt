@@ -1,5 +1,8 @@
 // The tables of a set for the moments a..z: the masks of its conditions, and by pairs of members the ends of i where j begins at y, the begins
 // of j where i begins at x, and the ends of i begun at x or later. They leave out what no placement has.
+// A function asks that its members are below 4, its conditions below 8 and its moments within the span or below 64: a type for them would be taken
+// apart again at each table entry.
+// Sets have u32 members and arrays usize indices; no From joins them, so both are cast.
 ghost use Rattle.std.specs.Prelude.{◌≡◌, true, ◌↔◌, ℕ, ◌+◌, ◌*◌, ◌<◌, ◌≤◌, length, get_or, MatchOption};
 ghost use Rattle.bitset.specs.Code.Members.{In};
 ghost use Rattle.words.specs.Fields.{member_node, condition_i, condition_j};

@@ -16,7 +16,7 @@ asked HoldsAfter x e = e
 asked HoldsBetween x e = e
 asked ReservedCondition x e = e
 
--- and of member j its begin, or nothing: its partner is j, or i itself
+-- the member whose begin a condition asks beside member i: j, or i itself where it asks nothing of j
 abbrev pub partner : ConditionForm → ℕ → ℕ → ℕ
 partner BeginAfterBegin i j = j
 partner BeginAfterEnd i j = j

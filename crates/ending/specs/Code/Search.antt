@@ -45,7 +45,7 @@ pub record ReadsTo (t : Tables) (b e : ℕ) : Type 0 where
   pub es : ℕ → ℕ
   pub masked : Masked t b e bs es
 
--- it does so with these begins
+-- the set reads b to e with the begins bs
 pub record ReadsWith (t : Tables) (b e : ℕ) (bs : ℕ → ℕ) : Type 0 where
   pub es : ℕ → ℕ
   pub masked : Masked t b e bs es
@@ -71,6 +71,6 @@ pub record SoughtPlacement (t : Tables) (o : Open) (e : ℕ) (bs es : ℕ → �
   pub fits : InDomains t.count o bs es
   pub final : es o.last ≡ e
 
--- and what a search must find: each end of such a placement
+-- what a search must find: each end of a placement that the open set still has
 abbrev pub FindsAll : Tables → Open → Found → Type 0
 FindsAll t o r = (e : ℕ) (bs es : ℕ → ℕ) → e ≤ r.upto → SoughtPlacement t o e bs es → In r.ends e

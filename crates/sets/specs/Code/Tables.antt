@@ -45,7 +45,7 @@ pub record OwnRow (R : ℕ → ℕ → Type 0) (goes : List ℕ) (i a z : ℕ) (
   pub others : (q : ℕ) → q < (i * 4 + i) * 64 → get_or new q 0 ≡ get_or old q 0
   pub kept : (count : ℕ) (bs es : ℕ → ℕ) → i < count → count ≤ 4 → InSpan count a z bs es → R (bs i) (es i) → GoesHave count goes bs → EndsHave count old bs es → EndsHave count new bs es
 
--- the same for the first k members
+-- the own rows of the first k members, from a to z, have ends that the table has, not before the begin nor after z; what a placement has is in them
 pub record OwnRows (members table goes : List ℕ) (a z : ℕ) (old new : List ℕ) (k : ℕ) : Type 0 where
   pub own : (i x e : ℕ) → i < k → a ≤ x → x ≤ z → In (pair_at new i i x) e → InTable table (member_node (get_or members i 0)) x e × (x ≤ e) × (e ≤ z)
   pub kept : (bs es : ℕ → ℕ) → InSpan (length members) a z bs es → ((i : ℕ) → i < length members → InTable table (member_node (get_or members i 0)) (bs i) (es i))

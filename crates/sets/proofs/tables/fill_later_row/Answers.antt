@@ -15,7 +15,7 @@ use Rattle.words.proofs.Entries.{entry_set}
 use Rattle.sets.proofs.tables.fill_later_row.Goals as goal
 use Rattle.sets.proofs.tables.fill_later_row.Goals.{After-union-all}
 
--- and so do `all` and the masks from x on
+-- `all` and the masks from x on have the ends begun from there on
 module _ (c : After-union-all) where
   abbrev new : List ℕ
   new = set c.loop-x.later (c.args.i * 64 + c.loop-x.x) c.union-all.result

@@ -9,7 +9,7 @@ use Rattle.sets.proofs.Pairs.{own_more, same_more, same_parts}
 use Rattle.sets.proofs.tables.fill_own_row.Goals as goal
 use Rattle.sets.proofs.tables.fill_own_row.Goals.{After-pair_index}
 
--- and at x
+-- the row is right at x too
 stepped : (c : After-pair_index) → let a = c.args in
     OwnRow (InTable a.table.now a.m) c.loop-x.tables.goes a.i a.span.a a.span.z a.tables.now.ends (set c.loop-x.tables.ends c.pair_index.result c.own_row.result) (c.loop-x.x + 1)
 stepped c =
