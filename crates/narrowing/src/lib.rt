@@ -81,8 +81,8 @@ pub fn gaps(tables: &Tables, state: Open) -> u64
 }
 
 // A member that is left: the one that ends last, or one with the fewest begins.
-pub fn choose(tables: &Tables, state: Open) -> usize
-    requires { (state.last < tables.now.count) × (0 < state.left) × ((i : ℕ) → In state.left i → i < tables.now.count) }
+pub fn choose(state: Open) -> usize
+    requires { (state.last < 4) × (0 < state.left) × ((i : ℕ) → In state.left i → i < 4) }
     ensures { In state.left result }
 {
     if bitset::has(state.left, state.last as u32) {
@@ -90,11 +90,10 @@ pub fn choose(tables: &Tables, state: Open) -> usize
     }
     let members = state.members;
     let mut best = bitset::lowest(state.left) as usize;
-    for i in 0..tables.count {
-        if bitset::has(state.left, i as u32) {
-            if u64::count_ones(members[i].begins) < u64::count_ones(members[best].begins) {
-                best = i;
-            }
+    for i in bitset::members(state.left) {
+        let i = i as usize;
+        if u64::count_ones(members[i].begins) < u64::count_ones(members[best].begins) {
+            best = i;
         }
     }
     best

@@ -19,7 +19,7 @@ pub fn search(tables: &Tables, state: Open, found: Found) -> Found
     }
     let gaps = narrowing::gaps(tables, state);
     if gaps == 0 {
-        let i = narrowing::choose(tables, state);
+        let i = narrowing::choose(state);
         return tries(tables, state, i, found);
     }
     let g = bitset::lowest(gaps);
