@@ -25,10 +25,13 @@ pub fn search(tables: &Tables, state: Open, found: Found) -> Found
     let g = bitset::lowest(gaps);
     let h = narrowing::last_gap(state.left, gaps, g);
     let mut r = found;
-    for i in bitset::members(state.left) {
-        let i = i as usize;
+    // A `for` over the members takes up to 0.3 % more instructions: two words for what is left are then kept over each call.
+    let mut rest = state.left;
+    while rest != 0 {
+        let i = bitset::lowest(rest) as usize;
         let with = narrowing::over(state, i, g, h);
         r = tries(tables, with, i, r);
+        rest = bitset::drop_lowest(rest);
     }
     r
 }

@@ -15,8 +15,8 @@ use Rattle.searching.proofs.+search_tries.Goals as goal
 pub search-returns-then-state-eq0 : goal.search-returns-then-state-eq0
 search-returns-then-state-eq0 t c = let e = c.leaf.ensures in (e.0, e.1)
 
-pub search-loop-i-init : goal.search-loop-i-init
-search-loop-i-init t c =
+pub search-loop-rest-init : goal.search-loop-rest-init
+search-loop-rest-init t c =
     let a = c.args in
     let h = c.last_gap-h.ensures in
     -- some member that is left covers a gap
@@ -27,26 +27,26 @@ search-loop-i-init t c =
     let o = c.gaps-gaps.ensures g bs es u s.fits in
     let k = s.masked.covers g o.0 (omega (arith, o.1, s.final)) in
     (k.0, o.2 k.0 k.1 k.2 k.3, k.2, k.3) in
-    rw (c.into_iter-i-iterator.ensures.into_iter_gives, c.members-i-items.ensures) (record {
+    record {
       grown = grown_none;
       untried = record { each = λ e bs es m s. inr (over_both h.2 (over _ e bs es (record { yes = c.lowest-g.ensures.member }) s) (over _ e bs es h.0 s)) };
       left = λ i u. u;
-    })
+    }
 
-pub search-loop-i-preserved : goal.search-loop-i-preserved
-search-loop-i-preserved t c =
-    let v = c.loop-i.invariant in
+pub search-loop-rest-preserved : goal.search-loop-rest-preserved
+search-loop-rest-preserved t c =
+    let v = c.loop-rest.invariant in
     let w = c.over-with.ensures in
     let n = c.tries-r.ensures in
     let grown = grown_as w.0 n.0 in
     record {
       grown = grown_more v.grown grown;
-      left = λ i u. v.left i ((in_dropped c.in-Some.ensures.steps.0 c.in-Some.ensures.steps.1 i).0 u).0;
-      untried = tried_over w.0 w.1 c.in-Some.ensures.steps.0 c.in-Some.ensures.steps.1 (w.3 c.args.tables.now.count) grown n.1 v.untried;
+      left = λ i u. v.left i ((in_dropped c.lowest-i.ensures c.drop_lowest-rest.ensures i).0 u).0;
+      untried = tried_over w.0 w.1 c.lowest-i.ensures c.drop_lowest-rest.ensures (w.3 c.args.tables.now.count) grown n.1 v.untried;
     }
 
 pub search-returns : goal.search-returns
-search-returns t c = let v = c.loop-i.invariant in (v.grown, all_tried (λ bs es p. in_zero c.in-None.ensures.steps.0 p.1) v.untried)
+search-returns t c = let v = c.loop-rest.invariant in (v.grown, all_tried (λ bs es p. in_zero (omega (arith, c.loop-rest-test.false)) p.1) v.untried)
 
 -- a begin from which the member has no end
 pub tries-loop-x-preserved-then-inter-eq0 : goal.tries-loop-x-preserved-then-inter-eq0

@@ -21,8 +21,11 @@ pub record Gapped (t : Tables) (state : Open) (g h : ℕ) (old r : Found) (rest 
   pub untried : Untried t state r (Over rest g h)
   pub left : (i : ℕ) → In rest i → In state.left i
 
-abbrev pub invariant-search-loop-i : goal.invariant-search-loop-i
-invariant-search-loop-i l = Gapped l.tables l.state l.g l.h l.initial.r l.r l.i-iterator.left
+abbrev pub invariant-search-loop-rest : goal.invariant-search-loop-rest
+invariant-search-loop-rest l = Gapped l.tables l.state l.g l.h l.initial.r l.r l.rest
+
+abbrev pub decreases-search-loop-rest : goal.decreases-search-loop-rest
+decreases-search-loop-rest l = pop_count l.rest
 
 abbrev pub invariant-tries-loop-x : goal.invariant-tries-loop-x
 invariant-tries-loop-x l =
