@@ -19,11 +19,3 @@ loop-c-preserved c =
           (λ e. in_both c.inter.ensures e)
           k.invariant.masks;
     }
-
-pub returns : goal.returns
-returns c = let h = c.loop-c.invariant.masks in record {
-  mask = λ i e. (
-    λ t. let o = (h.mask i e).0 t in (o.0, λ d l. o.1 d (omega arith)),
-    λ o. (h.mask i e).1 (o.0, λ d l. o.1 d (omega arith)),
-  );
-}
