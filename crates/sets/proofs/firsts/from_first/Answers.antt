@@ -1,14 +1,13 @@
 -- `sets::firsts::from_first` meets its contract: a placement in which `first` begins at the first moment is found, or the set that is searched still
 -- has it. Assumes nothing.
 use Prim.Native.Nat.{ℕ}
-use mathlib.Core.Path.{◌≡◌, refl, sym, subst}
+use mathlib.Core.Path.{◌≡◌, sym, subst}
 use mathlib.Core.Logic.{◌⊎◌, inl, inr, ⊎_elim}
 use native.Mathlib.Omega.{arith}
 use Rattle.bitset.specs.Code.Members.{In}
-use Rattle.bitset.proofs.In.{in_without}
 use Rattle.narrowing.specs.Code.Open.{choice_at}
 use Rattle.ending.specs.Code.Search.{SoughtPlacement}
-use Rattle.searching.proofs.Growth.{grown_none, grown_as, ready_as, sought_as, finds_none}
+use Rattle.searching.proofs.Growth.{grown_none, sought_as, finds_none}
 use Rattle.sets.proofs.firsts.from_first.Goals as goal
 use Rattle.sets.proofs.firsts.from_first.Goals.{After-placed-next}
 
@@ -17,16 +16,6 @@ sought : (c : After-placed-next) (e : ℕ) (bs es : ℕ → ℕ) → let a = c.a
     SoughtPlacement a.tables.now a.state e bs es → bs a.first ≡ a.state.from → In a.found.ends e ⊎ SoughtPlacement a.tables.now c.placed-next.result e bs es
 sought c e bs es s q = let w = c.placed-next.ensures in
     ⊎_elim (λ k. inl (subst (λ (x : ℕ). In c.args.found.ends x) s.final k)) (λ k. inr (sought_as w.0 w.1 s k)) (w.3 bs es s.tables s.bounded s.fits q)
-
-pub search-requires : goal.search-requires
-search-requires c =
-    let p = c.requires.0 in
-    let w = c.placed-next.ensures in
-    record {
-      ready = ready_as (sym w.0) refl p.ready;
-      last = omega (arith, w.1, p.last);
-      left = λ j u. p.left j ((in_without w.2 j).0 u).0;
-    }
 
 pub returns-then-next-state-eq0 : goal.returns-then-next-state-eq0
 returns-then-next-state-eq0 c =
@@ -38,9 +27,3 @@ returns-then-next-state-eq0 c =
           (finds_none c.placed-next.result c.args.found (omega (arith, w.1, c.requires.0.last)) none e bs es l)
           (sought (goal.at.returns-then-next-state-eq0 c).After-placed-next e bs es s q),
     )
-
-pub returns : goal.returns
-returns c = let n = c.search.ensures in (
-  grown_as c.placed-next.ensures.0 n.0,
-  λ e bs es l s q. ⊎_elim (λ h. n.0.kept e h) (λ h. n.1 e bs es (omega (arith, l, n.0.upto)) h) (sought (goal.at.returns c).After-placed-next e bs es s q),
-)
