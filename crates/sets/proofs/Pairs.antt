@@ -168,7 +168,7 @@ fewer_more old E k v both h p e t = by_cases (ℕ_discrete p k)
     ((both e).0 (stored_in E k v (subst (λ (p : ℕ). In (get_or (set E k v) p 0) e) q t))).0))
     (λ q. h p e (rw (get_or-set_other E k p v 0 q) at t))
 
--- one step after the other, and a step that stores both tables
+-- one step after the other leaves all else as it was
 pub same_more : {t u v : Tables} → SameElse t u → SameElse u v → SameElse t v
 same_more g h = record {
   masks = record { conditions = h.masks.conditions ∙ g.masks.conditions; count = h.masks.count ∙ g.masks.count; allow = h.masks.allow ∙ g.masks.allow };
@@ -180,11 +180,7 @@ same_more g h = record {
 pub same_parts : {u v : Tables} → (v.conditions ≡ u.conditions) × (v.count ≡ u.count) × (v.allow ≡ u.allow) × (v.later ≡ u.later) × (v.bounds ≡ u.bounds) → SameElse u v
 same_parts q = record { masks = record { conditions = q.0; count = q.1; allow = q.2 }; later = q.3; bounds = q.4 }
 
--- nothing is left out
-pub left_none : {count a z : ℕ} {E G : List ℕ} → LeftOut count a z E G E G
-left_none = record { fewer = λ p e t. t; kept = λ bs es w h. h }
-
--- one step after the other
+-- what one step after the other leaves out
 pub left_more : {count a z : ℕ} {E G E' G' E₂ G₂ : List ℕ} → LeftOut count a z E G E' G' → LeftOut count a z E' G' E₂ G₂ → LeftOut count a z E G E₂ G₂
 left_more v o = record { fewer = λ p e t. v.fewer p e (o.fewer p e t); kept = λ bs es w h. o.kept bs es w (v.kept bs es w h) }
 
