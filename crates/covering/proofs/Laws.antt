@@ -1,12 +1,9 @@
 -- `SomeBelow` over one number more, and what a loop gains. Assumes nothing.
 use Prim.Native.Nat.{ℕ, ◌+◌, ◌<◌}
 use mathlib.Core.Path.{◌≡◌, subst}
-use mathlib.Core.Bool.{◌||◌}
 use mathlib.Core.Logic.{◌↔◌, ◌⊎◌, inl, inr, by_cases, ⊎_elim}
 use native.Mathlib.Decide.{dec_lt}
 use native.Mathlib.Omega.{arith}
-use Rattle.bitset.specs.Code.Members.{has, IsSetOf, In}
-use Rattle.bitset.proofs.In.{in_union}
 use Rattle.covering.specs.Code.Cover.{SomeBelow}
 
 pub some_none : {P : ℕ → Type 0} → SomeBelow 0 P → ⊥
@@ -24,9 +21,6 @@ some_more {P} k = (
 -- the gain in other words
 pub gain_as : {A B C D : Type 0} → C ↔ D → A ↔ (B ⊎ C) → A ↔ (B ⊎ D)
 gain_as c h = (λ t. ⊎_elim inl (λ p. inr (c.0 p)) (h.0 t), ⊎_elim (λ p. h.1 (inl p)) (λ q. h.1 (inr (c.1 q))))
-
-pub gain : {r x e : ℕ} {C : Type 0} (y : ℕ) → IsSetOf r (λ k. has x k || has y k) → In y e ↔ C → In r e ↔ (In x e ⊎ C)
-gain {r} {x} {e} y h c = let u : In r e ↔ (In x e ⊎ In y e) = in_union h e in gain_as c u
 
 pub no_gain : {B C : Type 0} → (C → ⊥) → B ↔ (B ⊎ C)
 no_gain n = (inl, ⊎_elim (λ b. b) (λ c. absurd (n c)))

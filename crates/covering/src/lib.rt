@@ -1,4 +1,5 @@
 // The ends of a set whose members' begins are fixed, by the masks of the members' ends, with no search.
+// A function asks that its moments are below 64: they are members of sets, and a type for them would be taken apart again at each operation on sets.
 #![tactic(auto)]
 
 ghost use Rattle.std.specs.Prelude.{◌≡◌, true, ◌↔◌, ℕ, ◌<◌, ◌≤◌, length, IfSome, IsSomeAnd};

@@ -1,6 +1,6 @@
 -- The conditions on members whose begins are fixed, and the masks of the members' ends as the conditions narrow them. Assumes nothing.
-use Prim.Native.Nat.{ℕ, zero, suc, ◌+◌, ◌*◌, ◌<◌}
-use mathlib.Core.Path.{◌≡◌, refl, sym, ◌∙◌}
+use Prim.Native.Nat.{ℕ, ◌+◌, ◌*◌, ◌<◌}
+use mathlib.Core.Path.{◌≡◌, sym, ◌∙◌}
 use mathlib.Core.Logic.{◌↔◌}
 use mathlib.Core.List.{List}
 use native.Mathlib.Omega.{arith}
@@ -13,15 +13,6 @@ use Rattle.model.specs.Forms.{ConditionForm, BeginAfterBegin, BeginAfterEnd, Hol
 use Rattle.covering.specs.Code.Cover.{entry_at}
 use Rattle.keeping.specs.declared.Tables.{Tables}
 use Rattle.ending.specs.Code.Ends.{asked, partner, MetByMask, Narrowed}
-
--- whatever form is neither 0 nor 2 asks the end
-pub end_asked : (f x e : ℕ) → (f ≡ 0 → ⊥) → (f ≡ 2 → ⊥) → asked (condition_number f) x e ≡ e
-end_asked zero x e g h = absurd (g refl)
-end_asked (suc zero) x e g h = refl
-end_asked (suc (suc zero)) x e g h = absurd (h refl)
-end_asked (suc (suc (suc zero))) x e g h = refl
-end_asked (suc (suc (suc (suc zero)))) x e g h = refl
-end_asked (suc (suc (suc (suc (suc f))))) x e g h = refl
 
 pub partner-less : (f : ConditionForm) {i j m : ℕ} → i < m → j < m → partner f i j < m
 partner-less BeginAfterBegin g h = h

@@ -14,7 +14,7 @@ use Rattle.bitset.proofs.Bools.{not_both, either}
 use Rattle.words.specs.Fields.{condition_i}
 use Rattle.model.specs.Forms.{condition_form}
 use Rattle.covering.specs.Code.Cover.{entry_at, Coverable}
-use Rattle.ending.specs.Code.Ends.{EndsReady, asked, partner_of, MetByMask, EndAt}
+use Rattle.ending.specs.Code.Ends.{asked, partner_of, MetByMask, EndAt}
 use Rattle.keeping.specs.Code.Tables.{pair_at}
 use Rattle.keeping.specs.declared.Tables.{Tables}
 use Rattle.ending.specs.Code.Search.{Masked, SearchReady, ReadsWith}
@@ -49,15 +49,6 @@ module _ (l m : List ℕ) (n : ℕ) (few : n ≤ length l) (few' : n ≤ length 
 
 -- ---- the ends depend on the begins of the members alone
 
--- what the ends with given begins need, of a search
-pub ends_ready : {t : Tables} {begins : List ℕ} {lo hi : ℕ} → SearchReady t lo hi → ((i : ℕ) → entry_at begins i < 64) → EndsReady t begins
-ends_ready r moments = record {
-  few = r.few;
-  conditions = r.conditions;
-  named = λ d l. let n = r.named d l in (omega (arith, n.0, r.few), omega (arith, n.1, r.few));
-  moments = moments;
-}
-
 met_same : (cs allow : List ℕ) (bs bs' : ℕ → ℕ) (c e : ℕ) → let w = get_or cs c 0 in bs (partner_of w) ≡ bs' (partner_of w) → bs (condition_i w) ≡ bs' (condition_i w)
     → MetByMask cs allow bs c e → MetByMask cs allow bs' c e
 met_same cs allow bs bs' c e p q h = let f = condition_form (get_or cs c 0) in
@@ -68,7 +59,7 @@ pub end_same : {t : Tables} {lo hi : ℕ} {bs bs' : ℕ → ℕ} → SearchReady
     → (i e : ℕ) → i < t.count → EndAt t bs i e → EndAt t bs' i e
 end_same {t} {bs = bs} {bs' = bs'} r q i e l h = record {
   reads = subst (λ (x : ℕ). In (pair_at t.ends i i x) e) (q i l) h.reads;
-  met = λ c m f. let n = r.named c m in
+  met = λ c m f. let n = t.named c m in
       met_same t.conditions.now t.allow bs bs' c e (q _ (partner-less (condition_form (get_or t.conditions.now c 0)) n.0 n.1)) (q _ n.0) (h.met c m f);
 }
 
@@ -91,7 +82,7 @@ module _ {t : Tables} {b hi : ℕ} {bs Es : ℕ → ℕ} (ready : SearchReady t 
       = λ i. ⊎_elim (λ t. (t.0, λ l. t.1)) (λ n. (0, λ l. let r = (h.needs i l).each in not_both r.member.yes (n r.end r.upto))) (greatest (Es i) e) in
       record { es = λ i. (top i).0; masked = masked_top h (λ i l. (top i).1 l) }
 
-  -- and no others
+  -- the ends of all placements with these begins are covered
   pub covers_all : {e : ℕ} {bs' es : ℕ → ℕ} → ((i : ℕ) → i < t.count → bs' i ≡ bs i) → Masked t b e bs' es → Coverable t.count bs Es b e
   covers_all q m = coverable ready.some (λ i l. (range i l).0) (λ i x l t. (onward i x l t).0) (record {
     chosen = λ i l. ((sets i _ l).1 (end_same ready q i _ l (m.lawful i l)), (m.inside i l).2);

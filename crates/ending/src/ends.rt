@@ -1,9 +1,10 @@
 // The ends that the conditions of a set leave to members whose begins are fixed.
+// A function asks that begins are below 64: they come as members of sets, and a type for them would be taken apart again at each table entry.
 ghost use Rattle.std.specs.Prelude.{◌≡◌, ◌↔◌, ℕ, ◌<◌, ◌≤◌, length};
 ghost use Rattle.bitset.specs.Code.Members.{has, In};
 ghost use Rattle.model.specs.Forms.{condition_number};
 ghost use Rattle.covering.specs.Code.Cover.{entry_at};
-ghost use Rattle.ending.specs.Code.Ends.{asked, partner, EndAt, EndsReady, Narrowable, Narrowed};
+ghost use Rattle.ending.specs.Code.Ends.{asked, partner, EndAt, Narrowable, Narrowed};
 ghost use Rattle.keeping.specs.Code.Tables.{pair_at};
 
 use keeping::{Tables, pair_at};
@@ -42,7 +43,7 @@ fn end_mask(form: u32, m: u64, x: u32) -> u64
 
 // The ends of each member in its own row.
 fn own_ends(tables: &Tables, begins: [u32; MEMBERS]) -> [u64; MEMBERS]
-    requires { (tables.now.count ≤ 4) × ((i : ℕ) → entry_at begins i < 64) }
+    requires { (i : ℕ) → entry_at begins i < 64 }
     ensures { ((i : ℕ) → i < tables.now.count → entry_at result i ≡ pair_at tables.now.ends i i (entry_at begins i)) × ((i e : ℕ) → In (entry_at result i) e → e < 64) }
 {
     let mut r = [0u64; MEMBERS];
@@ -54,7 +55,7 @@ fn own_ends(tables: &Tables, begins: [u32; MEMBERS]) -> [u64; MEMBERS]
 
 // The masks with all conditions.
 fn narrow(tables: &Tables, begins: [u32; MEMBERS], ends: [u64; MEMBERS]) -> [u64; MEMBERS]
-    requires { Narrowable tables.now begins ends }
+    requires { Narrowable begins ends }
     ensures { Narrowed tables.now begins ends (length tables.now.conditions.now) result }
 {
     let mut next = ends;
@@ -71,7 +72,7 @@ fn narrow(tables: &Tables, begins: [u32; MEMBERS], ends: [u64; MEMBERS]) -> [u64
 
 // The ends that each member may have with these begins.
 pub fn ends_at(tables: &Tables, begins: [u32; MEMBERS]) -> [u64; MEMBERS]
-    requires { EndsReady tables.now begins }
+    requires { (i : ℕ) → entry_at begins i < 64 }
     ensures { (i e : ℕ) → i < tables.now.count → In (entry_at result i) e ↔ EndAt tables.now (entry_at begins) i e }
 {
     narrow(tables, begins, own_ends(tables, begins))

@@ -23,13 +23,13 @@ pub struct Found {
 }
 
 // The first begin that each member may have in a..z, and a where there is none.
-fn first_begins(members: &[Choice; MEMBERS], count: usize, a: u32, z: u32) -> [u32; MEMBERS]
-    requires { (count ≤ 4) × (a ≤ z) × (z < 64) }
-    ensures { ((i : ℕ) → i < count → (a ≤ entry_at result i) × (entry_at result i ≤ z)) × ((i : ℕ) → entry_at result i < 64) × ((i x : ℕ) → i < count → In (choice_at members.now i).begins x → a ≤ x → x ≤ z → In (choice_at members.now i).begins (entry_at result i)) }
+fn first_begins(tables: &Tables, members: &[Choice; MEMBERS], a: u32, z: u32) -> [u32; MEMBERS]
+    requires { (a ≤ z) × (z < 64) }
+    ensures { ((i : ℕ) → i < tables.now.count → (a ≤ entry_at result i) × (entry_at result i ≤ z)) × ((i : ℕ) → entry_at result i < 64) × ((i x : ℕ) → i < tables.now.count → In (choice_at members.now i).begins x → a ≤ x → x ≤ z → In (choice_at members.now i).begins (entry_at result i)) }
 {
     let window = bitset::between(a, z);
     let mut r = [a; MEMBERS];
-    for i in 0..count {
+    for i in 0..tables.count {
         let mask = bitset::inter(members[i].begins, window);
         if mask != 0 {
             r[i] = bitset::lowest(mask);
@@ -43,7 +43,7 @@ pub fn leaf(tables: &Tables, state: Open, found: Found) -> Found
     requires { LeafReady tables.now state found.upto }
     ensures { Grown tables.now state.from found result × FindsAll tables.now state result }
 {
-    let begins = first_begins(&state.members, tables.count, state.from, found.upto);
+    let begins = first_begins(tables, &state.members, state.from, found.upto);
     let masks = ends::ends_at(tables, begins);
     let count = tables.count;
     let got = covering::covered(&begins[..count], &masks[..count], state.from);

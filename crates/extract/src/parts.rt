@@ -105,15 +105,7 @@ fn set_parts(source: &Source, place: usize, b: usize, e: usize) -> Parts
     ensures { PlacedParts (task_set_of (members_at source.now.words.now place) (conditions_at source.now.words.now place) source.now.arrays.now.values source.now.arrays.now.last) source.now.table.now b e result }
 {
     let set = model::set_words(source.words, place);
-    let placed = sets::placing::place(
-        set.members,
-        set.conditions,
-        &source.arrays.values,
-        source.table,
-        b as u32,
-        e as u32,
-        source.arrays.last as u32,
-    );
+    let placed = sets::placing::place(set, source.arrays, source.table, b as u32, e as u32);
     placed_parts(set.members, &placed)
 }
 

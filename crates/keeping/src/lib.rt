@@ -1,9 +1,12 @@
-// The tables of a task set, their entries by pairs of members, and what one member keeps where another begins.
+// The tables of a task set; entries (by pairs of members, and what one member keeps where another begins).
 #![tactic(auto)]
 
-ghost use Rattle.std.specs.Prelude.{◌≡◌, ◌+◌, ◌*◌, ◌<◌};
-ghost use Rattle.keeping.specs.Code.Tables.{pair_at, Narrows};
+ghost use Rattle.std.specs.Prelude.{ℕ, ◌<◌, ◌≤◌, length, get_or};
+ghost use Rattle.words.specs.Fields.{condition_i, condition_j};
 
+mod entries;
+
+pub use entries::{narrowed, pair_at, pair_index};
 use words::{CONDITIONS, MEMBERS, MOMENTS};
 
 // The sizes of a task set's tables: masks by condition and begin, entries by two members and a moment, rows by member and moment.
@@ -20,8 +23,9 @@ pub const FILLED: usize = 2 * PAIRS;
 
 pub const BOUNDS: usize = FILLED + MEMBERS;
 
-// What a search knows of a task set of `count` members: the masks that each condition allows, by pairs of members the ends of i where j begins and
-// the begins of j where i begins, the ends of i begun at a moment or later, and bounds on begins by ends.
+// What a search knows of a task set of `count` members, four at most, and conditions on them, eight at most: the masks that each condition allows,
+// by pairs of members the ends of i where j begins and the begins of j where i begins, the ends of i begun at a moment or later, and bounds on
+// begins by ends.
 #[derive(Drop)]
 pub struct Tables<'a> {
     pub conditions: &'a [u32],
@@ -31,6 +35,9 @@ pub struct Tables<'a> {
     pub goes: [u64; PAIRS],
     pub later: [u64; ROWS],
     pub bounds: [u64; BOUNDS],
+    pub ghost few: { count ≤ 4 },
+    pub ghost listed: { length conditions.now ≤ 8 },
+    pub ghost named: { (c : ℕ) → c < length conditions.now → (condition_i (get_or conditions.now c 0) < count) × (condition_j (get_or conditions.now c 0) < count) },
 }
 
 // The begins and ends that one member may still have.
@@ -38,39 +45,4 @@ pub struct Tables<'a> {
 pub struct Choice {
     pub begins: u64,
     pub ends: u64,
-}
-
-// Where a table by pairs has the entry of the members i and j at moment x.
-pub fn pair_index(i: usize, j: usize, x: u32) -> usize
-    requires { (i < 4) × (j < 4) × (x < 64) }
-    ensures { (result ≡ (i * 4 + j) * 64 + x) × (result < 1024) }
-{
-    (i * MEMBERS + j) * MOMENTS + x as usize
-}
-
-// Reads the table entry of members i and j at moment x.
-pub fn pair_at(table: &[u64; PAIRS], i: usize, j: usize, x: u32) -> u64
-    requires { (i < 4) × (j < 4) × (x < 64) }
-    ensures { result ≡ pair_at table.now i j x }
-{
-    table[pair_index(i, j, x)]
-}
-
-// What member j keeps where member i begins at x, within a window of moments.
-pub fn narrowed(tables: &Tables, i: usize, x: u32, j: usize, old: Choice, window: u64) -> Choice
-    requires { (i < 4) × (j < 4) × (x < 64) }
-    ensures { Narrows tables.now i x j window old result }
-{
-    let there = bitset::inter(pair_at(&tables.goes, i, j, x), window);
-    let begins = bitset::inter(old.begins, there);
-    if begins == 0 {
-        return Choice { begins, ends: 0 };
-    }
-    let low = bitset::lowest(begins) as usize;
-    let then = bitset::inter(pair_at(&tables.ends, j, i, x), window);
-    let after = bitset::inter(then, tables.later[j * MOMENTS + low]);
-    Choice {
-        begins,
-        ends: bitset::inter(old.ends, after),
-    }
 }

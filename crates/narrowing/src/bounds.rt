@@ -1,5 +1,6 @@
 // Bounds on begins by ends: where a condition ties the end of member w to the begin of member j, the begins of j with which w may still end at a
 // moment or later, and at a moment or sooner.
+// Sets have u32 members and arrays usize indices; no From joins them, so both are cast.
 ghost use Rattle.std.specs.Prelude.{◌≡◌, ℕ, ◌<◌, ◌≤◌};
 ghost use Rattle.bitset.specs.Code.Members.{In};
 ghost use Rattle.narrowing.specs.Code.Tables.{BoundsHave, Bounded};
@@ -24,24 +25,22 @@ fn beside(bounds: &[u64; BOUNDS], p: usize, ends: u64) -> u64
 
 // What the ends of all members leave of the begins of member j.
 fn bounded(tables: &Tables, members: &[Choice; MEMBERS], j: usize) -> u64
-    requires { (tables.now.count ≤ 4) × (j < tables.now.count) }
+    requires { j < tables.now.count }
     ensures { ((bs es : ℕ → ℕ) → BoundsHave tables.now.count tables.now.bounds bs es → In (choice_at members.now j).begins (bs j) → ((i : ℕ) → i < tables.now.count → In (choice_at members.now i).ends (es i)) → In result (bs j)) × ((x : ℕ) → In result x → In (choice_at members.now j).begins x) }
 {
     let mut r = members[j].begins;
     let all = bitset::upto(tables.count as u32 - 1);
-    let mut rest = bitset::inter(tables.bounds[FILLED + j], all);
-    while rest != 0 {
-        let w = bitset::lowest(rest) as usize;
+    for w in bitset::members(bitset::inter(tables.bounds[FILLED + j], all)) {
+        let w = w as usize;
         let kept = beside(&tables.bounds, w * MEMBERS + j, members[w].ends);
         r = bitset::inter(r, kept);
-        rest = bitset::drop_lowest(rest);
     }
     r
 }
 
 // The set with the begins that the bounds leave. It has no ends where they leave none.
 pub fn tighten(tables: &Tables, state: Open) -> Open
-    requires { (tables.now.count ≤ 4) × (state.last < tables.now.count) }
+    requires { state.last < tables.now.count }
     ensures { (result.from ≡ state.from) × (result.last ≡ state.last) × (result.left ≡ state.left) × ((bs es : ℕ → ℕ) → BoundsHave tables.now.count tables.now.bounds bs es → InDomains tables.now.count state bs es → InDomains tables.now.count result bs es) }
 {
     let mut members = state.members;

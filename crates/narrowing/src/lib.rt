@@ -1,5 +1,8 @@
 // Open sets: the begins and ends that each member of a set may still have, and what is left of them as one member is placed; bounds (on begins,
 // by the ends of others).
+// A function asks of a member or a moment that it is in range, below the tables' number of members or below 64, since its callers have it as a plain
+// index or a set's member: a type for it would be made and taken apart again at each call.
+// Sets have u32 members and arrays usize indices; no From joins them, so both are cast.
 #![tactic(auto)]
 
 ghost use Rattle.std.specs.Prelude.{◌≡◌, ◌↔◌, ◌⊎◌, not, ◌&&◌, ℕ, ◌<◌, ◌≤◌, eqb};
@@ -56,9 +59,9 @@ fn reach(begins: u64, ends: u64) -> u64
 }
 
 // Moments up to the first end of `last` that no member that is placed covers; none while `last` is left.
-pub fn gaps(count: usize, state: Open) -> u64
-    requires { (count ≤ 4) × (state.last < count) × (state.from < 64) }
-    ensures { (g : ℕ) (bs es : ℕ → ℕ) → In result g → InDomains count state bs es → (state.from ≤ g) × (g ≤ es state.last) × ((i : ℕ) → i < count → bs i ≤ g → g ≤ es i → In state.left i) }
+pub fn gaps(tables: &Tables, state: Open) -> u64
+    requires { (state.last < tables.now.count) × (state.from < 64) }
+    ensures { (g : ℕ) (bs es : ℕ → ℕ) → In result g → InDomains tables.now.count state bs es → (state.from ≤ g) × (g ≤ es state.last) × ((i : ℕ) → i < tables.now.count → bs i ≤ g → g ≤ es i → In state.left i) }
 {
     if bitset::has(state.left, state.last as u32) {
         return 0;
@@ -68,7 +71,7 @@ pub fn gaps(count: usize, state: Open) -> u64
         return 0;
     }
     let mut r = bitset::between(state.from, bitset::lowest(ends));
-    for i in 0..count {
+    for i in 0..tables.count {
         if !bitset::has(state.left, i as u32) {
             let member = state.members[i];
             r = bitset::minus(r, reach(member.begins, member.ends));
@@ -78,8 +81,8 @@ pub fn gaps(count: usize, state: Open) -> u64
 }
 
 // A member that is left: the one that ends last, or one with the fewest begins.
-pub fn choose(count: usize, state: Open) -> usize
-    requires { (count ≤ 4) × (state.last < count) × (0 < state.left) × ((i : ℕ) → In state.left i → i < count) }
+pub fn choose(state: Open) -> usize
+    requires { (state.last < 4) × (0 < state.left) × ((i : ℕ) → In state.left i → i < 4) }
     ensures { In state.left result }
 {
     if bitset::has(state.left, state.last as u32) {
@@ -87,11 +90,10 @@ pub fn choose(count: usize, state: Open) -> usize
     }
     let members = state.members;
     let mut best = bitset::lowest(state.left) as usize;
-    for i in 0..count {
-        if bitset::has(state.left, i as u32) {
-            if u64::count_ones(members[i].begins) < u64::count_ones(members[best].begins) {
-                best = i;
-            }
+    for i in bitset::members(state.left) {
+        let i = i as usize;
+        if u64::count_ones(members[i].begins) < u64::count_ones(members[best].begins) {
+            best = i;
         }
     }
     best

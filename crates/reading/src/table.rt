@@ -30,8 +30,7 @@ fn fill_set(words: &[u32], arrays: &Arrays, p: usize, table: &mut [u64])
     ensures { SetRows (set_at (procedure_in words.now arrays.now) (trajectory_in arrays.now) p) p table.old table.new }
 {
     let set = model::set_words(words, arrays.places[p]);
-    let last = arrays.last as u32;
-    sets::rows::set_rows(set.members, set.conditions, &arrays.values, p, last, table);
+    sets::rows::set_rows(set, arrays, p, table);
 }
 
 // Fills the rows of node p.

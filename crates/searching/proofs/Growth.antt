@@ -52,7 +52,7 @@ abbrev pub Over : ℕ → ℕ → ℕ → (ℕ → ℕ) → (ℕ → ℕ) → Ty
 Over rest g h bs es = (i : ℕ) × In rest i × (bs i ≤ g) × (h ≤ es i)
 
 module _ {t : Tables} where
-  -- the same placement in a set from the same moment with the same last member
+  -- a placement that is sought is sought in each set from the same moment, with the same last member, in which it fits
   pub sought_as : {o o' : Open} {e : ℕ} {bs es : ℕ → ℕ} → o'.from ≡ o.from → o'.last ≡ o.last → SoughtPlacement t o e bs es
       → InDomains t.count o' bs es → SoughtPlacement t o' e bs es
   sought_as {e = e} {bs = bs} {es = es} p q h f = record {

@@ -17,14 +17,15 @@ pub fn search(tables: &Tables, state: Open, found: Found) -> Found
     if state.left == 0 {
         return ending::leaf(tables, state, found);
     }
-    let gaps = narrowing::gaps(tables.count, state);
+    let gaps = narrowing::gaps(tables, state);
     if gaps == 0 {
-        let i = narrowing::choose(tables.count, state);
+        let i = narrowing::choose(state);
         return tries(tables, state, i, found);
     }
     let g = bitset::lowest(gaps);
     let h = narrowing::last_gap(state.left, gaps, g);
     let mut r = found;
+    // A `for` over the members takes up to 0.3 % more instructions: two words for what is left are then kept over each call.
     let mut rest = state.left;
     while rest != 0 {
         let i = bitset::lowest(rest) as usize;
@@ -35,7 +36,7 @@ pub fn search(tables: &Tables, state: Open, found: Found) -> Found
     r
 }
 
-// The same, where member i, which is left, is placed next: at each begin that it may have.
+// `found` with the ends to which the set reads where member i, which is left, is placed next: at each begin that it may have.
 #[cycle(search_tries)]
 fn tries(tables: &Tables, state: Open, i: usize, found: Found) -> Found
     requires { TryReady tables.now state i found.upto }
@@ -43,11 +44,8 @@ fn tries(tables: &Tables, state: Open, i: usize, found: Found) -> Found
 {
     let may = state.members[i];
     let mut r = found;
-    let mut rest = may.begins;
-    while rest != 0 {
-        let x = bitset::lowest(rest);
+    for x in bitset::members(may.begins) {
         let row = keeping::pair_at(&tables.ends, i, i, x);
-        rest = bitset::drop_lowest(rest);
         if bitset::inter(may.ends, row) == 0 {
             continue;
         }

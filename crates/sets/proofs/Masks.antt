@@ -1,19 +1,19 @@
 -- The moments at which a formula fails, the masks that the conditions allow, and the masks of the members' ends as the conditions narrow them. Assumes nothing.
 use Prim.Native.Nat.{ℕ, ◌+◌, ◌*◌, ◌^◌, ◌≤◌, ◌<◌}
 use mathlib.Core.Path.{◌≡◌, refl, sym, subst}
-use mathlib.Core.Bool.{Bool, true, false, ◌&&◌, ◌||◌}
+use mathlib.Core.Bool.{Bool, true, false, ◌||◌}
 use mathlib.Core.Logic.{◌↔◌, inl, inr, ⊎_elim, by_cases}
 use mathlib.Core.List.{List}
 use native.Mathlib.Decide.{dec_lt, ℕ_discrete}
 use native.Mathlib.Omega.{arith}
-use lib.Dec.{eqb, leb}
+use lib.Dec.{eqb}
 use lib.ListN.{get_or}
 use lib.Count.{count_trailing_zeros}
 use borrow.Author.Tests.{eqb-true, eq-eqb}
 use Rattle.bitset.specs.Code.Members.{has, IsSetOf, In}
 use Rattle.bitset.proofs.Bools.{not_both}
 use Rattle.bitset.proofs.Ends.{lowest}
-use Rattle.bitset.proofs.In.{in_zero, in_both, in_between, in_single, in_union}
+use Rattle.bitset.proofs.In.{in_zero, in_single, in_union}
 use Rattle.words.specs.Fields.{form, holds, condition_formula, condition_m, condition_n}
 use Rattle.model.specs.Forms.{condition_number}
 use Rattle.sets.specs.Set.{MetAt}
@@ -87,15 +87,6 @@ module _ (value : ℕ → ℕ → ℕ) (k : ℕ) {fails : ℕ} (P : ℕ → Type
     λ z t g h. held t (seen t g h) (λ u. in_zero (eqb-true r 0 z) ((is t).1 (u, (g, h)))),
     λ h. eq-eqb r 0 (empty_zero b (λ t u. let o = (is t).0 u in (f t (seen t o.1.0 o.1.1)).0 o.0 (h t o.1.0 o.1.1))),
   )
-
--- ---- a mask cut to a..z
-
-pub cut : {r p a z : ℕ} (q : ℕ) {P : ℕ → Type 0} → IsSetOf r (λ k. has p k && has q k) → IsSetOf q (λ k. leb a k && leb k z)
-    → ((y : ℕ) → y ≤ z → In p y ↔ P y) → (y : ℕ) → In r y ↔ ((a ≤ y) × (y ≤ z) × P y)
-cut q h b p y = (
-  λ t. let o = (in_both h y).0 t in let w = (in_between b y).0 o.1 in (w.0, w.1, (p y w.1).0 o.0),
-  λ o. (in_both h y).1 ((p y o.1).1 o.2, (in_between b y).1 (o.0, o.1)),
-)
 
 -- ---- the mask of a condition word
 

@@ -168,18 +168,19 @@ fewer_more old E k v both h p e t = by_cases (ℕ_discrete p k)
     ((both e).0 (stored_in E k v (subst (λ (p : ℕ). In (get_or (set E k v) p 0) e) q t))).0))
     (λ q. h p e (rw (get_or-set_other E k p v 0 q) at t))
 
--- one step after the other, and a step that stores both tables
-pub same_more : (t : Tables) {u v : Tables} → SameElse t u → SameElse u v → SameElse t v
-same_more t {v = v} g h = h ∙ ap (λ (t : Tables). record t { ends = v.ends; goes = v.goes }) g
+-- one step after the other leaves all else as it was
+pub same_more : {t u v : Tables} → SameElse t u → SameElse u v → SameElse t v
+same_more g h = record {
+  masks = record { conditions = h.masks.conditions ∙ g.masks.conditions; count = h.masks.count ∙ g.masks.count; allow = h.masks.allow ∙ g.masks.allow };
+  later = h.later ∙ g.later;
+  bounds = h.bounds ∙ g.bounds;
+}
 
-pub same_set : (t : Tables) {u : Tables} (E G : List ℕ) → SameElse t u → SameElse t (record u { ends = E; goes = G })
-same_set t E G g = ap (λ (t : Tables). record t { ends = E; goes = G }) g
+-- a store into the ends or the begins leaves all else as it was
+pub same_parts : {u v : Tables} → (v.conditions ≡ u.conditions) × (v.count ≡ u.count) × (v.allow ≡ u.allow) × (v.later ≡ u.later) × (v.bounds ≡ u.bounds) → SameElse u v
+same_parts q = record { masks = record { conditions = q.0; count = q.1; allow = q.2 }; later = q.3; bounds = q.4 }
 
--- nothing is left out
-pub left_none : {count a z : ℕ} {E G : List ℕ} → LeftOut count a z E G E G
-left_none = record { fewer = λ p e t. t; kept = λ bs es w h. h }
-
--- one step after the other
+-- what one step after the other leaves out
 pub left_more : {count a z : ℕ} {E G E' G' E₂ G₂ : List ℕ} → LeftOut count a z E G E' G' → LeftOut count a z E' G' E₂ G₂ → LeftOut count a z E G E₂ G₂
 left_more v o = record { fewer = λ p e t. v.fewer p e (o.fewer p e t); kept = λ bs es w h. o.kept bs es w (v.kept bs es w h) }
 
@@ -190,7 +191,6 @@ pub record TablesFilled (s : TaskSet) (R : ℕ → ℕ → ℕ → Type 0) (a z 
   pub formed : Formed s
   pub forward : a ≤ z
   pub upto : z ≤ s.last
-  pub conditions : t.conditions.now ≡ s.conditions
   pub count : t.count ≡ member_count s
   pub allowed : Allowed s.value s.conditions s.last a z (length s.conditions) t.allow
   pub own : (i x e : ℕ) → i < member_count s → a ≤ x → x ≤ z → In (pair_at t.ends i i x) e → R (member s i) x e × (x ≤ e) × (e ≤ z)
@@ -200,27 +200,35 @@ pub record TablesFilled (s : TaskSet) (R : ℕ → ℕ → ℕ → Type 0) (a z 
   pub after : (i x y e : ℕ) → i < member_count s → a ≤ x → x ≤ y → y ≤ z → In (pair_at t.ends i i y) e → In (get_or t.later (i * 64 + x) 0) e
   pub bounded : (bs es : ℕ → ℕ) → InSpan (member_count s) a z bs es → EndsHave (member_count s) t.ends bs es → BoundsHave (member_count s) t.bounds bs es
 
-module _ {s : TaskSet} {R : ℕ → ℕ → ℕ → Type 0} {a z : ℕ} {t : Tables} (f : TablesFilled s R a z t) where
-  -- the tables with these conditions and this count
-  abbrev with_words : List ℕ → ℕ → Tables
-  with_words cs k = record t { conditions = record t.conditions { now = cs }; count = k }
+-- the set with the conditions of the tables
+abbrev of_tables : TaskSet → Tables → TaskSet
+of_tables s t = record s { conditions = t.conditions.now }
 
-  abbrev own_words : Tables
-  own_words = with_words s.conditions (member_count s)
+module _ (s₀ : TaskSet) {R : ℕ → ℕ → ℕ → Type 0} {a z : ℕ} {t : Tables} (f : TablesFilled (of_tables s₀ t) R a z t) where
+  abbrev s : TaskSet
+  s = of_tables s₀ t
 
-  reads : (b e : ℕ) (bs es : ℕ → ℕ) → a ≤ b → e ≤ z → Masked own_words b e bs es → Placed s R b e bs es
+  -- a member of the set is one of the tables', and one of the tables' is one of the set
+  inner : {i : ℕ} → i < member_count s → i < t.count
+  inner l = omega (arith, f.count)
+
+  outer : {i : ℕ} → i < t.count → i < member_count s
+  outer l = omega (arith, f.count)
+
+  reads : (b e : ℕ) (bs es : ℕ → ℕ) → a ≤ b → e ≤ z → Masked t b e bs es → Placed s R b e bs es
   reads b e bs es l m h =
-      let first = h.inside 0 f.formed.some in
-      let inside : InSpan (member_count s) a z bs es = λ i g. let k = h.inside i g in (omega arith, k.1, omega arith) in
+      let first = h.inside 0 (inner f.formed.some) in
+      let within : (i : ℕ) → i < member_count s → (b ≤ bs i) × (bs i ≤ es i) × (es i ≤ e) = λ i g. h.inside i (inner g) in
+      let inside : InSpan (member_count s) a z bs es = λ i g. let k = within i g in (omega arith, k.1, omega arith) in
       record {
-        reads = λ i g. let o = inside i g in (f.own i (bs i) (es i) g o.0 (omega arith) (h.lawful i g).reads).0;
+        reads = λ i g. let o = inside i g in (f.own i (bs i) (es i) g o.0 (omega arith) (h.lawful i (inner g)).reads).0;
         placing = record {
           onward = omega arith;
           within = omega (arith, f.upto);
-          inside = h.inside;
-          covers = h.covers;
+          inside = within;
+          covers = λ m g u. let k = h.covers m g u in (k.0, outer k.1, k.2, k.3);
           met = λ c g. (mask_met f.allowed f.formed.named inside c g).0
-              ((h.lawful (condition_i (get_or s.conditions c 0)) (f.formed.named c g).0).met c g refl);
+              ((h.lawful (condition_i (get_or s.conditions c 0)) (inner (f.formed.named c g).0)).met c g refl);
         };
       }
 
@@ -231,41 +239,38 @@ module _ {s : TaskSet} {R : ℕ → ℕ → ℕ → Type 0} {a z : ℕ} {t : Tab
   placed_have {bs = bs} {es = es} l g h = let w = placed_within l g h in
       f.have bs es w (λ c m. (mask_met f.allowed f.formed.named w c m).1 (h.placing.met c m)) h.reads
 
-  masked : (b e : ℕ) (bs es : ℕ → ℕ) → a ≤ b → e ≤ z → Placed s R b e bs es → Masked own_words b e bs es
+  masked : (b e : ℕ) (bs es : ℕ → ℕ) → a ≤ b → e ≤ z → Placed s R b e bs es → Masked t b e bs es
   masked b e bs es l g h = record {
-    inside = h.placing.inside;
-    covers = h.placing.covers;
+    inside = λ i m. h.placing.inside i (outer m);
+    covers = λ m g u. let k = h.placing.covers m g u in (k.0, inner k.1, k.2, k.3);
     lawful = λ i m. record {
-      reads = (placed_have l g h).ends i i m m;
+      reads = (placed_have l g h).ends i i (outer m) (outer m);
       met = λ c k q. subst (λ (j : ℕ). MetByMask s.conditions t.allow bs c (es j)) q
           ((mask_met f.allowed f.formed.named (placed_within l g h) c k).1 (h.placing.met c k));
     };
   }
 
-  kept : (b e : ℕ) (bs es : ℕ → ℕ) → a ≤ b → e ≤ z → Placed s R b e bs es → InTables own_words a bs es
+  kept : (b e : ℕ) (bs es : ℕ → ℕ) → a ≤ b → e ≤ z → Placed s R b e bs es → InTables t a bs es
   kept b e bs es l g h = let p = placed_have l g h in record {
-    ends = p.ends;
-    goes = p.goes;
-    later = λ i x m k j. let w = placed_within l g h i m in f.after i x (bs i) (es i) m k j (omega arith) (p.ends i i m m);
+    ends = λ i j m k. p.ends i j (outer m) (outer k);
+    goes = λ i j m k. p.goes i j (outer m) (outer k);
+    later = λ i x m k j. let w = placed_within l g h i (outer m) in f.after i x (bs i) (es i) (outer m) k j (omega arith) (p.ends i i (outer m) (outer m));
   }
 
   pub tables : TablesOf s R a z t
-  tables = subst (λ (cs : List ℕ). TablesOf s R a z (with_words cs t.count)) (sym f.conditions) (subst (λ (k : ℕ). TablesOf s R a z (with_words s.conditions k)) (sym f.count) (record {
-    count = refl;
+  tables = record {
+    count = f.count;
     ready = record {
-      some = f.formed.some;
-      few = f.formed.few;
-      conditions = f.formed.conditions;
-      named = f.formed.named;
+      some = inner f.formed.some;
       forward = f.forward;
       moments = omega (arith, f.formed.moments, f.upto);
-      onward = λ i x e l g m t. let o = f.own i x e l g m t in (o.1, o.2);
+      onward = λ i x e l g m k. let o = f.own i x e (outer l) g m k in (o.1, o.2);
     };
     reads = reads;
     masked = masked;
     kept = kept;
-    bounded = λ b e bs es l g h. f.bounded bs es (placed_within l g h) (placed_have l g h).ends;
-  }))
+    bounded = λ b e bs es l g h w j m k. f.bounded bs es (placed_within l g h) (placed_have l g h).ends w j (outer m) (outer k);
+  }
 
 -- the nodes of the member words
 node_at : (ms : List ℕ) (i : ℕ) → get_or (map member_node ms) i 0 ≡ member_node (get_or ms i 0)
@@ -306,11 +311,10 @@ module _ (ms vs table : List ℕ) {E G E₁ G₁ E₂ : List ℕ} (n a z : ℕ) 
   pub filled : t.count ≡ length ms → ((i x y e : ℕ) → i < length ms → a ≤ x → x ≤ y → y ≤ z → In (pair_at t.ends i i y) e → In (get_or t.later (i * 64 + x) 0) e)
       → ((bs es : ℕ → ℕ) → InSpan (length ms) a z bs es → EndsHave (length ms) t.ends bs es → BoundsHave (length ms) t.bounds bs es)
       → TablesOf (task_set_of ms t.conditions.now vs n) (InTable table) a z t
-  filled count after bounded = tables (record {
+  filled count after bounded = tables (task_set_of ms t.conditions.now vs n) (record {
     formed = formed;
     forward = forward;
     upto = upto;
-    conditions = refl;
     count = count ∙ sym (counted ms);
     allowed = allowed;
     own = λ i x e l g m k. subst (λ (m : ℕ). InTable table m x e × (x ≤ e) × (e ≤ z)) (sym (node_at ms i))

@@ -59,9 +59,6 @@ rows_done l h = record { rows = λ c e g. h.rows c (omega arith) e; others = h.o
 pub ready_from : {t : Tables} {a b z : ℕ} → a ≤ b → b ≤ z → SearchReady t a z → SearchReady t b z
 ready_from l g h = record {
   some = h.some;
-  few = h.few;
-  conditions = h.conditions;
-  named = h.named;
   forward = g;
   moments = h.moments;
   onward = λ i x e k m. h.onward i x e k (omega arith);
@@ -89,14 +86,12 @@ row-found {s} {R} {b = b} f r goal t from none last g all = record {
 }
 
 -- the tables of a set's members and conditions, before and after they are filled
-pub unpruned_of : (ms vs table : List ℕ) {cs : List ℕ} {n a z : ℕ} {t : Tables} → UnprunedTables cs (length ms) t → Formed (task_set_of ms cs vs n)
-    → ((i : ℕ) → i < length (map member_node ms) → get_or (map member_node ms) i 0 * 64 + 64 ≤ length table) → a ≤ z → z ≤ n
-    → TablesReady (task_set_of ms t.conditions.now vs n) table a z t
-unpruned_of ms vs table {n = n} {a} {z} {t} u formed rows forward upto = subst (λ (k : List ℕ). TablesReady (task_set_of ms k vs n) table a z t) (sym u.conditions) (record {
+pub unpruned_of : (ms vs table : List ℕ) {cs : List ℕ} {n : ℕ} {t : Tables} → UnprunedTables cs (length ms) t → Formed (task_set_of ms cs vs n)
+    → ((i : ℕ) → i < length (map member_node ms) → get_or (map member_node ms) i 0 * 64 + 64 ≤ length table)
+    → TablesReady (task_set_of ms t.conditions.now vs n) table t
+unpruned_of ms vs table {n = n} {t} u formed rows = subst (λ (k : List ℕ). TablesReady (task_set_of ms k vs n) table t) (sym u.conditions) (record {
   formed = formed;
   rows = rows;
-  forward = forward;
-  upto = upto;
   unpruned = record { conditions = u.conditions; count = u.count ∙ sym (length-map ms member_node); ends = u.ends; goes = u.goes; bounds = u.bounds };
 })
 

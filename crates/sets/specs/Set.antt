@@ -27,7 +27,7 @@ MetAs ReservedCondition value n k M N bi ei bj = ⊥
 abbrev pub MetAt : (ℕ → ℕ → ℕ) → ℕ → ℕ → ℕ → ℕ → ℕ → Type 0
 MetAt value n w bi ei bj = MetAs (condition_form w) value n (condition_formula w) (condition_m w) (condition_n w) bi ei bj
 
--- the same where member i begins at bs i and ends at es i
+-- the condition word w is met where each member i begins at bs i and ends at es i
 abbrev pub Met : TaskSet → ℕ → (ℕ → ℕ) → (ℕ → ℕ) → Type 0
 Met s w bs es = MetAt s.value s.last w (bs (condition_i w)) (es (condition_i w)) (bs (condition_j w))
 

@@ -1,14 +1,17 @@
 // Bounds on begins by ends: where a condition ties the end of member w to the begin of member j, the begins of j with which w may still end at a
 // moment or later, and at a moment or sooner.
+// A function asks that its members are below 4, its rows below 16 and its moments below 64: a type for them would be taken apart again at each
+// table entry.
+// Sets have u32 members and arrays usize indices; no From joins them, so both are cast.
 ghost use Rattle.std.specs.Prelude.{◌≡◌, ℕ, ◌+◌, ◌*◌, ◌<◌, ◌≤◌, length, get_or};
 ghost use Rattle.bitset.specs.Code.Members.{In};
 ghost use Rattle.narrowing.specs.Code.Tables.{EndsHave, BoundsHave, Bounded};
-ghost use Rattle.sets.specs.Code.Tables.{InSpan};
+ghost use Rattle.sets.specs.Code.Tables.{InSpan, BoundsFilled};
 ghost use Rattle.sets.specs.Code.Bounds.{Grows, EndMarked};
 
 use crate::span::Span;
 use crate::tables::{members_of, pair};
-use keeping::{BOUNDS, FILLED, PAIRS, SOONER};
+use keeping::{BOUNDS, FILLED, PAIRS, SOONER, Tables};
 use words::forms::{BEGIN_AFTER_END, HOLDS_BETWEEN};
 use words::{MEMBERS, MOMENTS};
 
@@ -27,7 +30,7 @@ fn mark(p: usize, y: u32, mask: u64, bounds: &mut [u64; BOUNDS])
     bounds[soon] = bitset::union(bounds[soon], begin);
 }
 
-// Does so for the begins in the span, by the ends in row p of the table.
+// Marks each begin in the span in row p at the last and at the first of its ends in the span, by row p of the table of ends.
 fn mark_pair(ends: &[u64; PAIRS], p: usize, span: Span, bounds: &mut [u64; BOUNDS])
     requires { p < 16 }
     ensures { Grows bounds.old bounds.new × ((y e : ℕ) → span.a ≤ y → y ≤ span.z → span.a ≤ e → e ≤ span.z → In (get_or ends.now (p * 64 + y) 0) e → EndMarked bounds.new p y e) }
@@ -92,22 +95,17 @@ fn fill_members(ends: &[u64; PAIRS], w: usize, j: usize, span: Span, bounds: &mu
 }
 
 // The bounds of all pairs that are tied, but none where the span is short.
-pub fn fill(
-    conds: &[u32],
-    ends: &[u64; PAIRS],
-    count: usize,
-    span: Span,
-    bounds: &mut [u64; BOUNDS],
-)
-    requires { (count ≤ 4) × ((q : ℕ) → get_or bounds.old q 0 ≡ 0) }
-    ensures { (bs es : ℕ → ℕ) → InSpan count span.a span.z bs es → EndsHave count ends.now bs es → BoundsHave count bounds.new bs es }
+pub fn fill(span: Span, tables: &mut Tables)
+    requires { (q : ℕ) → get_or tables.old.bounds q 0 ≡ 0 }
+    ensures { BoundsFilled tables.old tables.new span.a span.z }
 {
     if span.is_short() {
         return;
     }
-    for p in bitset::members(tied(conds)) {
+    let count = tables.count;
+    for p in bitset::members(tied(tables.conditions)) {
         if let Some((w, j)) = members_of(p, count) {
-            fill_members(ends, w, j, span, bounds);
+            fill_members(&tables.ends, w, j, span, &mut tables.bounds);
         }
     }
 }

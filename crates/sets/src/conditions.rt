@@ -1,4 +1,7 @@
 // Conditions: the moments that each allows, as masks.
+// A function asks that its formulas and moments are below 64: they come as a word's fields and as members of sets, and a type for them would be
+// taken apart again at each entry.
+// Sets have u32 members, arrays and a word's fields are usize; no From joins them, so they are cast.
 ghost use Rattle.std.specs.Prelude.{◌≡◌, ◌↔◌, ℕ, ◌+◌, ◌*◌, ◌<◌, ◌≤◌, length, get_or};
 ghost use Rattle.bitset.specs.Code.Members.{In};
 ghost use Rattle.words.specs.Fields.{holds};
@@ -45,25 +48,28 @@ fn failing(values: &[u8; FORMULA_VALUES], k: usize, span: Span) -> u64
 }
 
 // The moments at which formula k does not hold, of those at which a condition of this form asks for it where it asks of moments of the span.
-fn failing_for(
-    values: &[u8; FORMULA_VALUES],
-    form: u32,
-    k: usize,
-    last: u32,
-    span: Span,
-    n: u32,
-) -> u64
-    requires { (k < 64) × (last < 64) × (span.z ≤ n) × (n < 64) }
-    ensures { Failing (condition_number form) (value_in values.now) n k last span.a span.z result }
+fn failing_for(values: &[u8; FORMULA_VALUES], form: u32, k: usize, last: u32, span: Span) -> u64
+    requires { (k < 64) × (last < 64) }
+    ensures { Failing (condition_number form) (value_in values.now) span.last k last span.a span.z result }
 {
     match form {
         HOLDS_BEFORE => {
             let a = span.a.saturating_sub(last);
-            failing(values, k, Span { a, z: span.z })
+            let early = Span {
+                a,
+                z: span.z,
+                last: span.last,
+            };
+            failing(values, k, early)
         }
         HOLDS_AFTER => {
-            let z = n.min(span.z + last);
-            failing(values, k, Span { a: span.a, z })
+            let z = span.last.min(span.z + last);
+            let late = Span {
+                a: span.a,
+                z,
+                last: span.last,
+            };
+            failing(values, k, late)
         }
         HOLDS_BETWEEN => failing(values, k, span),
         _ => 0,
@@ -87,12 +93,12 @@ fn holds_before(asked: Asked, y: u32) -> bool
     ) == 0
 }
 
-// Whether it holds through y + first to y + last, which is at most n.
-fn holds_after(asked: Asked, y: u32, n: u32) -> bool
-    requires { (y < 64) × (n < 64) }
-    ensures { Tells HoldsAfter n asked.first asked.last asked.fails y result }
+// Whether the formula holds through y + first to y + last, which is no moment after the span's last one.
+fn holds_after(asked: Asked, y: u32, span: Span) -> bool
+    requires { y < 64 }
+    ensures { Tells HoldsAfter span.last asked.first asked.last asked.fails y result }
 {
-    if n < y + asked.last {
+    if span.last < y + asked.last {
         return false;
     }
     if asked.last < asked.first {
@@ -106,13 +112,12 @@ fn holds_after(asked: Asked, y: u32, n: u32) -> bool
 
 // The moments of the span at which a condition of the form HOLDS_BEFORE or HOLDS_AFTER is met, and none for another form, whose mask depends
 // on the begin of member j.
-fn own_mask(form: u32, asked: Asked, span: Span, n: u32) -> u64
-    requires { n < 64 }
-    ensures { OwnMask form n asked.first asked.last span.a span.z asked.fails result }
+fn own_mask(form: u32, asked: Asked, span: Span) -> u64
+    ensures { OwnMask form span.last asked.first asked.last span.a span.z asked.fails result }
 {
     match form {
         HOLDS_BEFORE => moments_where(span, |y| holds_before(asked, y)),
-        HOLDS_AFTER => moments_where(span, |y| holds_after(asked, y, n)),
+        HOLDS_AFTER => moments_where(span, |y| holds_after(asked, y, span)),
         _ => 0,
     }
 }
@@ -160,23 +165,16 @@ fn mask_at(form: u32, asked: Asked, own: u64, x: u32, span: Span) -> u64
 }
 
 // The masks of condition w, number c, for each begin in the span.
-fn fill_masks(
-    values: &[u8; FORMULA_VALUES],
-    w: u32,
-    c: usize,
-    span: Span,
-    n: u32,
-    allow: &mut [u64; MASKS],
-)
-    requires { (c < 8) × (span.z ≤ n) × (n < 64) }
-    ensures { ((x y : ℕ) → span.a ≤ x → x ≤ span.z → In (get_or allow.new (c * 64 + x) 0) y ↔ ((span.a ≤ y) × (y ≤ span.z) × MetAt (value_in values.now) n w y y x)) × ((p : ℕ) → p < c * 64 → get_or allow.new p 0 ≡ get_or allow.old p 0) }
+fn fill_masks(values: &[u8; FORMULA_VALUES], w: u32, c: usize, span: Span, allow: &mut [u64; MASKS])
+    requires { c < 8 }
+    ensures { ((x y : ℕ) → span.a ≤ x → x ≤ span.z → In (get_or allow.new (c * 64 + x) 0) y ↔ ((span.a ≤ y) × (y ≤ span.z) × MetAt (value_in values.now) span.last w y y x)) × ((p : ℕ) → p < c * 64 → get_or allow.new p 0 ≡ get_or allow.old p 0) }
 {
     let form = words::form_of(w);
     let first = words::condition_m(w) as u32;
     let last = words::condition_n(w) as u32;
-    let fails = failing_for(values, form, words::condition_formula(w), last, span, n);
+    let fails = failing_for(values, form, words::condition_formula(w), last, span);
     let asked = Asked { first, last, fails };
-    let own = own_mask(form, asked, span, n);
+    let own = own_mask(form, asked, span);
     for x in span.a..=span.z {
         allow[c * MOMENTS + x as usize] = mask_at(form, asked, own, x, span);
     }
@@ -187,13 +185,12 @@ pub fn fill_allowed(
     values: &[u8; FORMULA_VALUES],
     conds: &[u32],
     span: Span,
-    n: u32,
     allow: &mut [u64; MASKS],
 )
-    requires { (length conds.now ≤ 8) × (span.z ≤ n) × (n < 64) }
-    ensures { Allowed (value_in values.now) conds.now n span.a span.z (length conds.now) allow.new }
+    requires { length conds.now ≤ 8 }
+    ensures { Allowed (value_in values.now) conds.now span.last span.a span.z (length conds.now) allow.new }
 {
     for (c, &w) in conds.iter().enumerate() {
-        fill_masks(values, w, c, span, n, allow);
+        fill_masks(values, w, c, span, allow);
     }
 }

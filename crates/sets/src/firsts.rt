@@ -2,31 +2,27 @@
 ghost use Rattle.std.specs.Prelude.{◌≡◌, [], ◌∷◌, ℕ, ◌<◌, ◌≤◌};
 ghost use Rattle.bitset.specs.Code.Members.{In};
 ghost use Rattle.narrowing.specs.Code.Tables.{InTables, BoundsHave};
-ghost use Rattle.ending.specs.Code.Search.{Masked, SearchReady, Grown};
+ghost use Rattle.ending.specs.Code.Search.{Masked, SearchReady, OpenReady, SoughtPlacement, Grown};
 
 use ending::Found;
 use keeping::Tables;
+use narrowing::Open;
 use words::{MEMBERS, MOMENTS};
 
-// `found` with the ends of `goal` from a where member `first` begins at a and `last` ends last. Nothing is placed where `last` has none that is
-// not found yet.
-fn from_first(tables: &Tables, a: u32, first: usize, last: usize, goal: u64, found: Found) -> Found
-    requires { SearchReady tables.now a found.upto × (first < tables.now.count) × (last < tables.now.count) }
-    ensures { Grown tables.now a found result × ((e : ℕ) (bs es : ℕ → ℕ) → Masked tables.now a e bs es → InTables tables.now a bs es → BoundsHave tables.now.count tables.now.bounds bs es → e ≤ found.upto → bs first ≡ a → es last ≡ e → In goal e → In result.ends e) }
+// `found` with the ends to which the open set reads where member `first` begins at the first moment.
+fn from_first(tables: &Tables, state: Open, first: usize, found: Found) -> Found
+    requires { OpenReady tables.now state found.upto × (first < tables.now.count) }
+    ensures { Grown tables.now state.from found result × ((e : ℕ) (bs es : ℕ → ℕ) → e ≤ found.upto → SoughtPlacement tables.now state e bs es → bs first ≡ state.from → In result.ends e) }
 {
-    let sought = bitset::minus(goal, found.ends);
-    if bitset::inter(tables.later[last * MOMENTS + a as usize], sought) == 0 {
-        return found;
-    }
-    let state = narrowing::unplaced(tables, a, found.upto, last, goal);
-    let next = narrowing::placed(tables, state, first, a, found.ends);
-    if next.members[last].ends == 0 {
+    let next = narrowing::placed(tables, state, first, state.from, found.ends);
+    if next.members[state.last].ends == 0 {
         return found;
     }
     searching::search(tables, next, found)
 }
 
-// The same for each member that may end last.
+// `found` with the ends of `goal` from a where member `first` begins at a, whichever member ends last. Nothing is placed for a last member that
+// has no end of `goal` that is not found yet.
 fn from_each(tables: &Tables, a: u32, first: usize, goal: u64, found: Found) -> Found
     requires { SearchReady tables.now a found.upto × (first < tables.now.count) }
     ensures { Grown tables.now a found result × ((e : ℕ) (bs es : ℕ → ℕ) → Masked tables.now a e bs es → InTables tables.now a bs es → BoundsHave tables.now.count tables.now.bounds bs es → e ≤ found.upto → bs first ≡ a → In goal e → In result.ends e) }
@@ -36,7 +32,11 @@ fn from_each(tables: &Tables, a: u32, first: usize, goal: u64, found: Found) -> 
     }
     let mut r = found;
     for last in 0..tables.count {
-        r = from_first(tables, a, first, last, goal, r);
+        let sought = bitset::minus(goal, r.ends);
+        if bitset::inter(tables.later[last * MOMENTS + a as usize], sought) != 0 {
+            let state = narrowing::unplaced(tables, a, r.upto, last, goal);
+            r = from_first(tables, state, first, r);
+        }
     }
     r
 }

@@ -2,26 +2,27 @@
 ghost use Rattle.std.specs.Prelude.{length};
 ghost use Rattle.sets.specs.Code.Rows.{task_set_of, SetReady, SetRows};
 
+use crate::span::Span;
 use crate::{firsts, tables};
-use words::{FORMULA_VALUES, MOMENTS};
+use model::{Arrays, SetWords};
+use words::MOMENTS;
 
 // The rows of the task set at node p.
-pub fn set_rows(
-    members: &[u32],
-    conds: &[u32],
-    values: &[u8; FORMULA_VALUES],
-    p: usize,
-    n: u32,
-    table: &mut [u64],
-)
-    requires { SetReady (task_set_of members.now conds.now values.now n) p (length table.old) }
-    ensures { SetRows (task_set_of members.now conds.now values.now n) p table.old table.new }
+pub fn set_rows(set: SetWords, arrays: &Arrays, p: usize, table: &mut [u64])
+    requires { SetReady (task_set_of set.members.now set.conditions.now arrays.now.values arrays.now.last) p (length table.old) }
+    ensures { SetRows (task_set_of set.entry.members.now set.entry.conditions.now arrays.now.values arrays.now.last) p table.old table.new }
 {
-    let mut tables = tables::unpruned(conds, members.len());
-    tables::fill(members, values, table, 0, n, n, &mut tables);
-    for b in 0..=n {
-        let goal = bitset::between(b, n);
-        let found = firsts::row(&tables, b, n, goal);
+    let last = arrays.last as u32;
+    let span = Span {
+        a: 0,
+        z: last,
+        last,
+    };
+    let mut tables = tables::unpruned(set);
+    tables::fill(set.members, &arrays.values, table, span, &mut tables);
+    for b in 0..=last {
+        let goal = bitset::between(b, last);
+        let found = firsts::row(&tables, b, last, goal);
         table[p * MOMENTS + b as usize] = found.ends;
     }
 }

@@ -2,13 +2,15 @@
 ghost use Rattle.std.specs.Prelude.{◌<◌, ◌≤◌, leb, ◌&&◌};
 ghost use Rattle.bitset.specs.Code.Members.{IsSetOf};
 
-// The moments from a to z.
+// The moments from a to z, of all moments up to `last`.
 #[derive(Clone, Copy)]
 pub struct Span {
     pub a: u32,
     pub z: u32,
+    pub last: u32,
     pub ghost forward: { a ≤ z },
-    pub ghost moments: { z < 64 },
+    pub ghost within: { z ≤ last },
+    pub ghost moments: { last < 64 },
 }
 
 // Up to so many moments no pairs are cut and no bounds filled, since a search is quicker without.

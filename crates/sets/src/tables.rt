@@ -1,5 +1,8 @@
 // The tables of a set for the moments a..z: the masks of its conditions, and by pairs of members the ends of i where j begins at y, the begins
 // of j where i begins at x, and the ends of i begun at x or later. They leave out what no placement has.
+// A function asks that its members are below 4, its conditions below 8 and its moments within the span or below 64: a type for them would be taken
+// apart again at each table entry.
+// Sets have u32 members and arrays usize indices; no From joins them, so both are cast.
 ghost use Rattle.std.specs.Prelude.{◌≡◌, true, ◌↔◌, ℕ, ◌+◌, ◌*◌, ◌<◌, ◌≤◌, length, get_or, MatchOption};
 ghost use Rattle.bitset.specs.Code.Members.{In};
 ghost use Rattle.words.specs.Fields.{member_node, condition_i, condition_j};
@@ -7,11 +10,12 @@ ghost use Rattle.sets.specs.Code.Rows.{task_set_of};
 ghost use Rattle.model.specs.Code.Table.{InTable};
 ghost use Rattle.keeping.specs.Code.Tables.{pair_at};
 ghost use Rattle.ending.specs.Code.Ends.{MetAtMask, MetByMask};
-ghost use Rattle.sets.specs.Code.Tables.{Have, LeftOut, Cut, InSpan, OwnRow, OwnRows, SameElse, UnprunedTables, TablesReady, TablesOf};
+ghost use Rattle.sets.specs.Code.Tables.{Have, LeftOut, Cut, InSpan, OwnRow, OwnRows, SameElse, LaterFilled, UnprunedTables, TablesReady, TablesOf};
 
 use crate::span::Span;
 use crate::{bounds, conditions};
 use keeping::{BOUNDS, MASKS, PAIRS, ROWS, Tables, pair_at, pair_index};
+use model::SetWords;
 use words::forms::{BEGIN_AFTER_BEGIN, HOLDS_BEFORE};
 use words::{FORMULA_VALUES, MEMBERS, MOMENTS};
 
@@ -43,7 +47,6 @@ fn cut_for(w: u32, c: usize, span: Span, tables: &mut Tables)
 
 // Leaves out what the conditions leave out.
 fn cut_all(span: Span, tables: &mut Tables)
-    requires { (length tables.old.conditions.now ≤ 8) × ((c : ℕ) → c < length tables.old.conditions.now → (condition_i (get_or tables.old.conditions.now c 0) < 4) × (condition_j (get_or tables.old.conditions.now c 0) < 4)) }
     ensures { SameElse tables.old tables.new × ((count : ℕ) (bs es : ℕ → ℕ) → InSpan count span.a span.z bs es → count ≤ 4 → ((c : ℕ) → c < length tables.old.conditions.now → (condition_i (get_or tables.old.conditions.now c 0) < count) × (condition_j (get_or tables.old.conditions.now c 0) < count) × MetByMask tables.old.conditions.now tables.old.allow bs c (es (condition_i (get_or tables.old.conditions.now c 0)))) → Have tables.old.ends tables.old.goes count bs es → Have tables.new.ends tables.new.goes count bs es) }
 {
     let conds = tables.conditions;
@@ -52,16 +55,16 @@ fn cut_all(span: Span, tables: &mut Tables)
     }
 }
 
-// The row of member i, of node m, from x, as far as the tables and the span allow.
-fn own_row(table: &[u64], m: usize, i: usize, x: u32, span: Span, tables: &Tables) -> u64
-    requires { (m * 64 + 64 ≤ length table.now) × (i < 4) × (x ≤ span.z) }
-    ensures { (e : ℕ) → In result e ↔ (InTable table.now m x e × (x ≤ e) × (e ≤ span.z) × In (pair_at tables.now.ends i i x) e × In (pair_at tables.now.goes i i x) x) }
+// The ends of `row` that member i, begun at x, may have, as far as the tables and the span allow.
+fn own_row(row: u64, i: usize, x: u32, span: Span, tables: &Tables) -> u64
+    requires { (i < 4) × (x ≤ span.z) }
+    ensures { (e : ℕ) → In result e ↔ (In row e × (x ≤ e) × (e ≤ span.z) × In (pair_at tables.now.ends i i x) e × In (pair_at tables.now.goes i i x) x) }
 {
     if !bitset::has(pair_at(&tables.goes, i, i, x), x) {
         return 0;
     }
-    let row = bitset::inter(table[m * MOMENTS + x as usize], bitset::between(x, span.z));
-    bitset::inter(row, pair_at(&tables.ends, i, i, x))
+    let after = bitset::inter(row, bitset::between(x, span.z));
+    bitset::inter(after, pair_at(&tables.ends, i, i, x))
 }
 
 // Puts the row of member i, of node m, on the diagonal of `ends`, for its begins in the span.
@@ -70,11 +73,12 @@ fn fill_own_row(table: &[u64], m: usize, i: usize, span: Span, tables: &mut Tabl
     ensures { OwnRow (InTable table.now m) tables.old.goes i span.a span.z tables.old.ends tables.new.ends (span.z + 1) × SameElse tables.old tables.new × (tables.new.goes ≡ tables.old.goes) }
 {
     for x in span.a..=span.z {
-        tables.ends[pair_index(i, i, x)] = own_row(table, m, i, x, span, tables);
+        let row = table[m * MOMENTS + x as usize];
+        tables.ends[pair_index(i, i, x)] = own_row(row, i, x, span, tables);
     }
 }
 
-// Does so for each member.
+// Puts the row of each member on the diagonal of `ends`, for its begins in the span.
 fn fill_own(members: &[u32], table: &[u64], span: Span, tables: &mut Tables)
     requires { (length members.now ≤ 4) × ((i : ℕ) → i < length members.now → member_node (get_or members.now i 0) * 64 + 64 ≤ length table.now) }
     ensures { OwnRows members.now table.now tables.old.goes span.a span.z tables.old.ends tables.new.ends (length members.now) × SameElse tables.old tables.new × (tables.new.goes ≡ tables.old.goes) }
@@ -172,9 +176,8 @@ fn constrained(conds: &[u32]) -> u64 {
         .fold(0, |pairs, &w| bitset::union(pairs, pairs_of(w)))
 }
 
-// Cuts each of these pairs of different members.
+// Cuts each pair of different members among `pairs`.
 fn cut_pairs(pairs: u64, span: Span, tables: &mut Tables)
-    requires { tables.old.count ≤ 4 }
     ensures { SameElse tables.old tables.new × LeftOut tables.old.count span.a span.z tables.old.ends tables.old.goes tables.new.ends tables.new.goes }
 {
     let count = tables.count;
@@ -187,7 +190,6 @@ fn cut_pairs(pairs: u64, span: Span, tables: &mut Tables)
 
 // Cuts each pair that some condition is on, but none where the span is short.
 fn cut_constrained(span: Span, tables: &mut Tables)
-    requires { tables.old.count ≤ 4 }
     ensures { SameElse tables.old tables.new × LeftOut tables.old.count span.a span.z tables.old.ends tables.old.goes tables.new.ends tables.new.goes }
 {
     if span.is_short() {
@@ -208,23 +210,24 @@ fn fill_later_row(ends: &[u64; PAIRS], i: usize, span: Span, later: &mut [u64; R
     }
 }
 
-fn fill_later(ends: &[u64; PAIRS], count: usize, span: Span, later: &mut [u64; ROWS])
-    requires { count ≤ 4 }
-    ensures { (i x y e : ℕ) → i < count → span.a ≤ x → x ≤ y → y ≤ span.z → In (pair_at ends.now i i y) e → In (get_or later.new (i * 64 + x) 0) e }
+// The ends of each member begun at x or later, for each x of the span.
+fn fill_later(span: Span, tables: &mut Tables)
+    ensures { LaterFilled tables.old tables.new span.a span.z }
 {
-    for i in 0..count {
-        fill_later_row(ends, i, span, later);
+    for i in 0..tables.count {
+        fill_later_row(&tables.ends, i, span, &mut tables.later);
     }
 }
 
-// Tables that nothing is left out of, with no bounds.
-pub fn unpruned(conditions: &[u32], count: usize) -> Tables
-    ensures { UnprunedTables conditions.now count result }
+// Tables of the set that nothing is left out of, with no bounds.
+pub fn unpruned(set: SetWords) -> Tables
+    requires { (length set.members.now ≤ 4) × (length set.conditions.now ≤ 8) × ((c : ℕ) → c < length set.conditions.now → (condition_i (get_or set.conditions.now c 0) < length set.members.now) × (condition_j (get_or set.conditions.now c 0) < length set.members.now)) }
+    ensures { UnprunedTables set.entry.conditions.now (length set.entry.members.now) result }
 {
     let every = bitset::from(0);
     Tables {
-        conditions,
-        count,
+        conditions: set.conditions,
+        count: set.members.len(),
         allow: [0; MASKS],
         ends: [every; PAIRS],
         goes: [every; PAIRS],
@@ -238,21 +241,16 @@ pub fn fill(
     members: &[u32],
     values: &[u8; FORMULA_VALUES],
     table: &[u64],
-    a: u32,
-    z: u32,
-    n: u32,
+    span: Span,
     tables: &mut Tables,
 )
-    requires { TablesReady (task_set_of members.now tables.old.conditions.now values.now n) table.now a z tables.old }
-    ensures { TablesOf (task_set_of members.now tables.old.conditions.now values.now n) (InTable table.now) a z tables.new }
+    requires { TablesReady (task_set_of members.now tables.old.conditions.now values.now span.last) table.now tables.old }
+    ensures { TablesOf (task_set_of members.now tables.old.conditions.now values.now span.last) (InTable table.now) span.a span.z tables.new }
 {
-    let span = Span { a, z };
-    let conds = tables.conditions;
-    let count = members.len();
-    conditions::fill_allowed(values, conds, span, n, &mut tables.allow);
+    conditions::fill_allowed(values, tables.conditions, span, &mut tables.allow);
     cut_all(span, tables);
     fill_own(members, table, span, tables);
     cut_constrained(span, tables);
-    fill_later(&tables.ends, count, span, &mut tables.later);
-    bounds::fill(conds, &tables.ends, count, span, &mut tables.bounds);
+    fill_later(span, tables);
+    bounds::fill(span, tables);
 }

@@ -56,7 +56,7 @@ masked h k x = (
 )
 
 pub loop-i-init : goal.loop-i-init
-loop-i-init c = none _ _ _ c.requires.1
+loop-i-init c = none _ _ _ c.requires.0
 
 pub loop-i-preserved : goal.loop-i-preserved
 loop-i-preserved c =
@@ -65,7 +65,7 @@ loop-i-preserved c =
     let m = masked (in_both n.ensures) (in_between c.between-window.ensures) in
     let t = c.loop-i-test.true in
     elim c.if-mask-ne0.branch [
-      | then-mask-ne0 y ↦ rw y.r-is (turn c.args.members.now c.args.a c.args.z k.r k.i y.lowest.result (omega (arith, c.requires.0))
+      | then-mask-ne0 y ↦ rw y.r-is (turn c.args.members.now c.args.a c.args.z k.r k.i y.lowest.result (omega (arith, c.args.tables.now.few))
           ((m y.lowest.result).0 (record { yes = y.lowest.ensures.member })) k.invariant)
       | else-mask-ne0 y ↦ rw y.r-is (skip c.args.members.now c.args.a c.args.z k.r k.i
           (λ x v g h. in_zero y.if-mask-ne0.false ((m x).1 (v, g, h))) k.invariant)
@@ -74,6 +74,6 @@ loop-i-preserved c =
 pub returns : goal.returns
 returns c = let f = c.loop-i.invariant in (
   λ i l. (f.after i (omega arith), f.upto i),
-  λ i. omega (arith, f.upto i, c.requires.2),
+  λ i. omega (arith, f.upto i, c.requires.1),
   λ i x l t g h. f.members i (omega arith) x t g h,
 )

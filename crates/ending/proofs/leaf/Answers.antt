@@ -18,7 +18,7 @@ use Rattle.ending.proofs.leaf.Goals.{After-covered-got}
 
 -- the lists have a begin and a mask for each member
 long : (c : After-covered-got) → let n = c.args.tables.now.count in (n ≤ length c.first_begins-begins.result) × (n ≤ length c.ends_at-masks.result)
-long c = let few = c.requires.state.ready.few in let four : length c.first_begins-begins.result ≡ 4 = search rules in let four' : length c.ends_at-masks.result ≡ 4 = search rules in (omega arith, omega arith)
+long c = let few = c.args.tables.now.few in let four : length c.first_begins-begins.result ≡ 4 = search rules in let four' : length c.ends_at-masks.result ≡ 4 = search rules in (omega arith, omega arith)
 
 -- what is covered, by the begins and masks of the members
 covers : (c : After-covered-got) (e : ℕ) → let a = c.args in
@@ -33,7 +33,7 @@ reads : (c : After-covered-got) (e : ℕ) → let a = c.args in
     In c.covered-got.result e → ReadsWith a.tables.now a.state.from e (entry_at c.first_begins-begins.result)
 reads c e t = reads_with c.requires.state.ready c.ends_at-masks.ensures c.first_begins-begins.ensures.0 ((covers c e).0 t)
 
--- and what is sought is covered
+-- the end of each placement that is sought is covered
 finds : (c : After-covered-got) (e : ℕ) (bs es : ℕ → ℕ) → let a = c.args in e ≤ a.found.upto
     → SoughtPlacement a.tables.now a.state e bs es → In c.covered-got.result e
 finds c e bs es u h =
@@ -42,7 +42,7 @@ finds c e bs es u h =
     sym (h.fits.fixed i _ l (λ t. in_zero c.requires.placed t) (c.first_begins-begins.ensures.2 i (bs i) l (h.fits.begins i l) o.0 (omega (arith, o, u)))) in
     (covers c e).1 (covers_all c.requires.state.ready c.ends_at-masks.ensures c.first_begins-begins.ensures.0 same h.masked)
 
--- which is not after the last moment
+-- what is covered is not after the last moment
 within : (c : After-covered-got) (e : ℕ) → In c.covered-got.result e → e ≤ c.args.found.upto
 within c e t =
     let k = ((covers c e).0 t).last in

@@ -1,5 +1,5 @@
 -- Between functions: the masks of a set's conditions, and the ends that they leave to members whose begins are fixed.
-use Rattle.std.specs.Prelude.{ℕ, ◌+◌, ◌*◌, ◌≤◌, ◌<◌, ◌≡◌, ◌↔◌, List, length, get_or}
+use Rattle.std.specs.Prelude.{ℕ, ◌+◌, ◌*◌, ◌<◌, ◌≡◌, ◌↔◌, List, length, get_or}
 use Rattle.bitset.specs.Code.Members.{In}
 use Rattle.words.specs.Fields.{condition_i, condition_j}
 use Rattle.model.specs.Forms.{ConditionForm, BeginAfterBegin, BeginAfterEnd, HoldsBefore, HoldsAfter, HoldsBetween, ReservedCondition, condition_form}
@@ -16,7 +16,7 @@ asked HoldsAfter x e = e
 asked HoldsBetween x e = e
 asked ReservedCondition x e = e
 
--- and of member j its begin, or nothing: its partner is j, or i itself
+-- the member whose begin a condition asks beside member i: j, or i itself where it asks nothing of j
 abbrev pub partner : ConditionForm → ℕ → ℕ → ℕ
 partner BeginAfterBegin i j = j
 partner BeginAfterEnd i j = j
@@ -40,17 +40,8 @@ pub record EndAt (t : Tables) (bs : ℕ → ℕ) (i e : ℕ) : Type 0 where
   pub reads : In (pair_at t.ends i i (bs i)) e
   pub met : (c : ℕ) → c < length t.conditions.now → condition_i (get_or t.conditions.now c 0) ≡ i → MetByMask t.conditions.now t.allow bs c e
 
--- what the ends of members with these begins need
-pub record EndsReady (t : Tables) (begins : List ℕ) : Type 0 where
-  pub few : t.count ≤ 4
-  pub conditions : length t.conditions.now ≤ 8
-  pub named : (c : ℕ) → c < length t.conditions.now → (condition_i (get_or t.conditions.now c 0) < 4) × (condition_j (get_or t.conditions.now c 0) < 4)
-  pub moments : (i : ℕ) → entry_at begins i < 64
-
 -- what the conditions need of the begins and masks of the members
-pub record Narrowable (t : Tables) (begins ends : List ℕ) : Type 0 where
-  pub few : length t.conditions.now ≤ 8
-  pub named : (c : ℕ) → c < length t.conditions.now → (condition_i (get_or t.conditions.now c 0) < 4) × (condition_j (get_or t.conditions.now c 0) < 4)
+pub record Narrowable (begins ends : List ℕ) : Type 0 where
   pub moments : (i : ℕ) → entry_at begins i < 64
   pub small : (i e : ℕ) → In (entry_at ends i) e → e < 64
 

@@ -1,7 +1,6 @@
 -- Between functions: the search for the begins of a set's members. bs and es are begins and ends of all members.
-use Rattle.std.specs.Prelude.{ℕ, ◌≤◌, ◌<◌, ◌≡◌, ◌⊎◌, length, get_or}
+use Rattle.std.specs.Prelude.{ℕ, ◌≤◌, ◌<◌, ◌≡◌, ◌⊎◌}
 use Rattle.bitset.specs.Code.Members.{In}
-use Rattle.words.specs.Fields.{condition_i, condition_j}
 use Rattle.covering.specs.Cover.{Covers}
 use Rattle.covering.specs.Code.Cover.{entry_at}
 use Rattle.keeping.specs.Code.Tables.{pair_at}
@@ -18,12 +17,9 @@ pub record Masked (t : Tables) (b e : ℕ) (bs es : ℕ → ℕ) : Type 0 where
   pub covers : Covers t.count bs es b e
   pub lawful : (i : ℕ) → i < t.count → EndAt t bs i (es i)
 
--- what a search needs: few members and conditions, moments of a word, and own rows with no end before the begin or after hi
+-- what a search needs: a member, moments of a word, and own rows with no end before the begin or after hi
 pub record SearchReady (t : Tables) (lo hi : ℕ) : Type 0 where
   pub some : 0 < t.count
-  pub few : t.count ≤ 4
-  pub conditions : length t.conditions.now ≤ 8
-  pub named : (c : ℕ) → c < length t.conditions.now → (condition_i (get_or t.conditions.now c 0) < t.count) × (condition_j (get_or t.conditions.now c 0) < t.count)
   pub forward : lo ≤ hi
   pub moments : hi < 64
   pub onward : (i x e : ℕ) → i < t.count → lo ≤ x → x ≤ hi → In (pair_at t.ends i i x) e → (x ≤ e) × (e ≤ hi)
@@ -49,7 +45,7 @@ pub record ReadsTo (t : Tables) (b e : ℕ) : Type 0 where
   pub es : ℕ → ℕ
   pub masked : Masked t b e bs es
 
--- it does so with these begins
+-- the set reads b to e with the begins bs
 pub record ReadsWith (t : Tables) (b e : ℕ) (bs : ℕ → ℕ) : Type 0 where
   pub es : ℕ → ℕ
   pub masked : Masked t b e bs es
@@ -75,6 +71,6 @@ pub record SoughtPlacement (t : Tables) (o : Open) (e : ℕ) (bs es : ℕ → �
   pub fits : InDomains t.count o bs es
   pub final : es o.last ≡ e
 
--- and what a search must find: each end of such a placement
+-- what a search must find: each end of a placement that the open set still has
 abbrev pub FindsAll : Tables → Open → Found → Type 0
 FindsAll t o r = (e : ℕ) (bs es : ℕ → ℕ) → e ≤ r.upto → SoughtPlacement t o e bs es → In r.ends e

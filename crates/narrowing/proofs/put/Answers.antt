@@ -34,7 +34,7 @@ module _ (c : After-inter-window) (members : List Choice) (sought j : ℕ) (new 
     (keeps : Narrows c.args.tables.now c.args.i c.args.x j c.inter-window.result (choice_at members j) new)
     (late : (k : ℕ) → In m k ↔ FromSome new.ends k) (both : IsSetOf s (λ k. has sought k && has m k)) (so_far : SoFar c members sought) where
   room : j < length members
-  room = omega (arith, so_far.four, c.requires.few, inner)
+  room = omega (arith, so_far.four, c.args.tables.now.few, inner)
 
   next : (bs es : ℕ → ℕ) → let a = c.args in let o = a.state in
       InTables a.tables.now o.from bs es → Ordered a.tables.now.count o.from o.last bs es → bs a.i ≡ a.x → In (choice_at o.members o.last).ends (es o.last)
@@ -85,6 +85,6 @@ returns c =
           = record { begin = f.begins; end = f.ends; fixed = f.fixed; final = f.ends o.last c.requires.last } in
           let start = has-start o.members a.i _ a.x room (in_single c.single.ensures) (in_without c.without-left.ensures) q old in
           let h = e.kept bs es tab f.inside q start in
-          fits-set _ o.last _ (omega (arith, e.four, c.requires.few, c.requires.last)) (has_fit f.inside h)
+          fits-set _ o.last _ (omega (arith, e.four, c.args.tables.now.few, c.requires.last)) (has_fit f.inside h)
           (h.begin o.last) (λ l. (in_both c.inter.ensures (es o.last)).1 (h.end o.last l, h.final)) (λ x t. t),
     )

@@ -10,15 +10,12 @@ choice_at l i = get_or l i (record { begins = 0; ends = 0 })
 
 -- what a set needs before any member is placed: `last`, which ends last, is a member
 pub record UnplacedReady (count last lo hi : ℕ) : Type 0 where
-  pub some : 0 < count
-  pub few : count ≤ 4
   pub member : last < count
   pub forward : lo ≤ hi
   pub moments : hi < 64
 
 -- what placing member i at x needs
 pub record PutReady (count : ℕ) (o : Open) (i x : ℕ) : Type 0 where
-  pub few : count ≤ 4
   pub member : i < count
   pub moment : x < 64
   pub last : o.last < count

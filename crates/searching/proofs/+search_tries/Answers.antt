@@ -49,13 +49,13 @@ pub search-returns : goal.search-returns
 search-returns t c = let v = c.loop-rest.invariant in (v.grown, all_tried (λ bs es p. in_zero (omega (arith, c.loop-rest-test.false)) p.1) v.untried)
 
 -- a begin from which the member has no end
-pub tries-loop-rest-preserved-then-inter-eq0 : goal.tries-loop-rest-preserved-then-inter-eq0
-tries-loop-rest-preserved-then-inter-eq0 t c =
+pub tries-loop-x-preserved-then-inter-eq0 : goal.tries-loop-x-preserved-then-inter-eq0
+tries-loop-x-preserved-then-inter-eq0 t c =
     let a = c.args in
     let l = c.requires.state.left _ c.requires.next in
-    let v = c.loop-rest.invariant in (
+    let v = c.loop-x.invariant in (
       v.0,
-      skipped c.lowest-x.ensures c.drop_lowest-rest.ensures
+      skipped c.in-Some.ensures.steps.0 c.in-Some.ensures.steps.1
           (λ bs es h f q. in_zero c.if-inter-eq0.true ((in_both c.inter.ensures (es a.i)).1 (
             f.ends a.i l,
             subst (λ (m : ℕ). In m (es a.i)) (sym c.pair_at-row.ensures)
@@ -67,34 +67,34 @@ pub tries-search-r-requires : goal.tries-search-r-requires
 tries-search-r-requires t c =
     let p = c.requires in
     let w = c.placed-next.ensures in
-    let f = fewer c.args.state.left c.placed-next.result.left c.args.i w.2 p.next (omega (arith, p.state.left _ p.next, p.state.ready.few)) in (
+    let f = fewer c.args.state.left c.placed-next.result.left c.args.i w.2 p.next (omega (arith, p.state.left _ p.next, c.args.tables.now.few)) in (
       omega (arith, c.decreases, f),
       record {
-        ready = ready_as (sym w.0) (sym c.loop-rest.invariant.0.upto) p.state.ready;
+        ready = ready_as (sym w.0) (sym c.loop-x.invariant.0.upto) p.state.ready;
         last = omega (arith, w.1, p.state.last);
         left = λ j u. p.state.left j ((in_without w.2 j).0 u).0;
       },
     )
 
 -- a begin that is tried
-pub tries-loop-rest-preserved-then-next-state-ne0 : goal.tries-loop-rest-preserved-then-next-state-ne0
-tries-loop-rest-preserved-then-next-state-ne0 t c =
-    let v = c.loop-rest.invariant in
+pub tries-loop-x-preserved-then-next-state-ne0 : goal.tries-loop-x-preserved-then-next-state-ne0
+tries-loop-x-preserved-then-next-state-ne0 t c =
+    let v = c.loop-x.invariant in
     let w = c.placed-next.ensures in
     let g = grown_as w.0 c.search-r.ensures.0 in
-    (grown_more v.0 g, tried w.0 w.1 c.lowest-x.ensures c.drop_lowest-rest.ensures w.3 g c.search-r.ensures.1 v.1)
+    (grown_more v.0 g, tried w.0 w.1 c.in-Some.ensures.steps.0 c.in-Some.ensures.steps.1 w.3 g c.search-r.ensures.1 v.1)
 
 -- a begin with which nothing is left
-pub tries-loop-rest-preserved : goal.tries-loop-rest-preserved
-tries-loop-rest-preserved t c =
-    let v = c.loop-rest.invariant in
+pub tries-loop-x-preserved : goal.tries-loop-x-preserved
+tries-loop-x-preserved t c =
+    let v = c.loop-x.invariant in
     let w = c.placed-next.ensures in
     let none : (choice_at c.placed-next.result.members c.placed-next.result.last).ends ≡ 0
     = subst (λ (x : ℕ). (choice_at c.placed-next.result.members x).ends ≡ 0) (sym w.1) (omega (arith, c.if-next-state-ne0.false)) in (
       v.0,
-      tried w.0 w.1 c.lowest-x.ensures c.drop_lowest-rest.ensures w.3 grown_none
-          (finds_none c.placed-next.result c.loop-rest.r (omega (arith, w.1, c.requires.state.last)) none) v.1,
+      tried w.0 w.1 c.in-Some.ensures.steps.0 c.in-Some.ensures.steps.1 w.3 grown_none
+          (finds_none c.placed-next.result c.loop-x.r (omega (arith, w.1, c.requires.state.last)) none) v.1,
     )
 
 pub tries-returns : goal.tries-returns
-tries-returns t c = let v = c.loop-rest.invariant in (v.0, all_tried (λ bs es p. in_zero (omega (arith, c.loop-rest-test.false)) p) v.1)
+tries-returns t c = let v = c.loop-x.invariant in (v.0, all_tried (λ bs es p. in_zero c.in-None.ensures.steps.0 p) v.1)

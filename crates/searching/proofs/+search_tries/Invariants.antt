@@ -27,9 +27,6 @@ invariant-search-loop-rest l = Gapped l.tables l.state l.g l.h l.initial.r l.r l
 abbrev pub decreases-search-loop-rest : goal.decreases-search-loop-rest
 decreases-search-loop-rest l = pop_count l.rest
 
-abbrev pub invariant-tries-loop-rest : goal.invariant-tries-loop-rest
-invariant-tries-loop-rest l =
-    Grown l.tables l.state.from l.initial.r l.r × Untried l.tables l.state l.r (Begin l.rest l.i)
-
-abbrev pub decreases-tries-loop-rest : goal.decreases-tries-loop-rest
-decreases-tries-loop-rest l = pop_count l.rest
+abbrev pub invariant-tries-loop-x : goal.invariant-tries-loop-x
+invariant-tries-loop-x l =
+    Grown l.tables l.state.from l.initial.r l.r × Untried l.tables l.state l.r (Begin l.x-iterator.left l.i)

@@ -45,7 +45,7 @@ pub record OwnRow (R : ℕ → ℕ → Type 0) (goes : List ℕ) (i a z : ℕ) (
   pub others : (q : ℕ) → q < (i * 4 + i) * 64 → get_or new q 0 ≡ get_or old q 0
   pub kept : (count : ℕ) (bs es : ℕ → ℕ) → i < count → count ≤ 4 → InSpan count a z bs es → R (bs i) (es i) → GoesHave count goes bs → EndsHave count old bs es → EndsHave count new bs es
 
--- the same for the first k members
+-- the own rows of the first k members, from a to z, have ends that the table has, not before the begin nor after z; what a placement has is in them
 pub record OwnRows (members table goes : List ℕ) (a z : ℕ) (old new : List ℕ) (k : ℕ) : Type 0 where
   pub own : (i x e : ℕ) → i < k → a ≤ x → x ≤ z → In (pair_at new i i x) e → InTable table (member_node (get_or members i 0)) x e × (x ≤ e) × (e ≤ z)
   pub kept : (bs es : ℕ → ℕ) → InSpan (length members) a z bs es → ((i : ℕ) → i < length members → InTable table (member_node (get_or members i 0)) (bs i) (es i))
@@ -59,16 +59,38 @@ pub record UnprunedTables (cs : List ℕ) (members : ℕ) (t : Tables) : Type 0 
   pub goes : Unpruned t.goes
   pub bounds : (q : ℕ) → get_or t.bounds q 0 ≡ 0
 
--- but for the ends of i where j begins, and the begins of j where i begins, the tables are as they were
-abbrev pub SameElse : Tables → Tables → Type 0
-SameElse old new = new ≡ record old { ends = new.ends; goes = new.goes }
+-- the conditions, the number of members and the masks are as they were
+pub record SameMasks (old new : Tables) : Type 0 where
+  pub conditions : new.conditions ≡ old.conditions
+  pub count : new.count ≡ old.count
+  pub allow : new.allow ≡ old.allow
 
--- what filling the tables of a set for the moments a..z needs
-pub record TablesReady (s : TaskSet) (table : List ℕ) (a z : ℕ) (t : Tables) : Type 0 where
+-- but for the ends of i where j begins, and the begins of j where i begins, the tables are as they were
+pub record SameElse (old new : Tables) : Type 0 where
+  pub masks : SameMasks old new
+  pub later : new.later ≡ old.later
+  pub bounds : new.bounds ≡ old.bounds
+
+-- the tables `new` have the ends of i begun at a moment of a..z or later, and are the tables `old` in all else
+pub record LaterFilled (old new : Tables) (a z : ℕ) : Type 0 where
+  pub after : (i x y e : ℕ) → i < old.count → a ≤ x → x ≤ y → y ≤ z → In (pair_at old.ends i i y) e → In (get_or new.later (i * 64 + x) 0) e
+  pub masks : SameMasks old new
+  pub ends : new.ends ≡ old.ends
+  pub goes : new.goes ≡ old.goes
+  pub bounds : new.bounds ≡ old.bounds
+
+-- the tables `new` have bounds that leave out no placement within a..z, and are the tables `old` in all else
+pub record BoundsFilled (old new : Tables) (a z : ℕ) : Type 0 where
+  pub bounded : (bs es : ℕ → ℕ) → InSpan old.count a z bs es → EndsHave old.count old.ends bs es → BoundsHave old.count new.bounds bs es
+  pub masks : SameMasks old new
+  pub ends : new.ends ≡ old.ends
+  pub goes : new.goes ≡ old.goes
+  pub later : new.later ≡ old.later
+
+-- what filling the tables of a set needs
+pub record TablesReady (s : TaskSet) (table : List ℕ) (t : Tables) : Type 0 where
   pub formed : Formed s
   pub rows : (i : ℕ) → i < member_count s → member s i * 64 + 64 ≤ length table
-  pub forward : a ≤ z
-  pub upto : z ≤ s.last
   pub unpruned : UnprunedTables s.conditions (member_count s) t
 
 -- what the tables of a set for the moments a..z say: by the masks and own rows the set reads as it does by R, and they have the begins and

@@ -10,20 +10,12 @@ loop-c-preserved c =
     let k = c.loop-c in
     let a = c.args in
     let qi = c.condition_i-i.ensures.0 in
-    let n = c.requires.named k.c c.loop-c-test.true in
+    let n = a.tables.now.named k.c c.loop-c-test.true in
     record {
       four = simp length-set k.invariant.four;
-      masks = narrow_more c.condition_i-i.result c.end_mask-mask.result c.inter.result qi k.invariant.four (omega (arith, n.0, qi)) c.requires.small
+      masks = narrow_more c.condition_i-i.result c.end_mask-mask.result c.inter.result qi k.invariant.four (omega (arith, n.0, qi, a.tables.now.few)) c.requires.small
           (λ e l. met_mask a.tables.now.conditions.now a.tables.now.allow a.begins k.c c.form_of-form.ensures.0 qi c.condition_j.ensures.0 c.partner-j.ensures
           (c.end_mask-mask.ensures e l))
           (λ e. in_both c.inter.ensures e)
           k.invariant.masks;
     }
-
-pub returns : goal.returns
-returns c = let h = c.loop-c.invariant.masks in record {
-  mask = λ i e. (
-    λ t. let o = (h.mask i e).0 t in (o.0, λ d l. o.1 d (omega arith)),
-    λ o. (h.mask i e).1 (o.0, λ d l. o.1 d (omega arith)),
-  );
-}

@@ -20,6 +20,3 @@ loop-i-preserved c = let l = c.loop-i in
       rows = entries_more (λ j. j) (λ j w. w ≡ pair_at c.args.tables.now.ends j j (entry_at c.args.begins j)) l.r l.i c.pair_at.result (omega arith) (λ j g q. omega arith) l.invariant.rows c.pair_at.ensures;
       small = entries_set (λ j w. (e : ℕ) → In w e → e < 64) l.r l.i c.pair_at.result (omega arith) (λ e. in_below c.pair_at.type_inv) l.invariant.small;
     }
-
-pub returns : goal.returns
-returns c = let l = c.loop-i in (λ i g. l.invariant.rows i (omega arith), l.invariant.small)

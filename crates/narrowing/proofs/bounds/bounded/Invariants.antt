@@ -1,17 +1,13 @@
--- The invariant: r keeps the begin of each placement, and what is left are members of the set that are tied to member j; the measure is how many
--- are left. Assumes nothing.
+-- The invariant: r keeps the begin of each placement, and what is left are members of the set that are tied to member j. Assumes nothing.
 use Rattle.std.proofs.Common.{ℕ, ◌+◌, ◌<◌, get_or}
-use Rattle.bitset.specs.Code.Members.{In, pop_count}
+use Rattle.bitset.specs.Code.Members.{In}
 use Rattle.narrowing.specs.Code.Open.{choice_at}
 use Rattle.narrowing.specs.Code.Tables.{BoundsHave}
 use Rattle.narrowing.proofs.bounds.bounded.Given as goal
 
-abbrev pub invariant-loop-rest : goal.invariant-loop-rest
-invariant-loop-rest l = record {
-  tied : (w : ℕ) → In l.rest w → (w < l.tables.count) × In (get_or l.tables.bounds (2048 + l.j) 0) w;
+abbrev pub invariant-loop-w : goal.invariant-loop-w
+invariant-loop-w l = record {
+  tied : (w : ℕ) → In l.w-iterator.left w → (w < l.tables.count) × In (get_or l.tables.bounds (2048 + l.j) 0) w;
   kept : (bs es : ℕ → ℕ) → BoundsHave l.tables.count l.tables.bounds bs es → In (choice_at l.members l.j).begins (bs l.j) → ((i : ℕ) → i < l.tables.count → In (choice_at l.members i).ends (es i)) → In l.r (bs l.j);
   fewer : (x : ℕ) → In l.r x → In (choice_at l.members l.j).begins x;
 }
-
-abbrev pub decreases-loop-rest : goal.decreases-loop-rest
-decreases-loop-rest l = pop_count l.rest

@@ -27,7 +27,7 @@ loop-j-preserved c =
         fits = λ bs es b f.
             let t = v.fits bs es b f in
             let n = w.bounded-kept.ensures in
-            fits-set _ l.j _ (omega (arith, v.four, c.requires.0, c.loop-j-test.true)) t (λ g. n.0 bs es b (t.begins l.j g) t.ends) (t.ends l.j) n.1;
+            fits-set _ l.j _ (omega (arith, v.four, c.args.tables.now.few, c.loop-j-test.true)) t (λ g. n.0 bs es b (t.begins l.j g) t.ends) (t.ends l.j) n.1;
       })
       | else-tables-j-ne0 w ↦ rw w.members-is v
     ]

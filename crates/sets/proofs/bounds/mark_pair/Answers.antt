@@ -12,7 +12,7 @@ use Rattle.sets.proofs.bounds.mark_pair.Invariants.{MarkedTo}
 use Rattle.sets.proofs.bounds.mark_pair.Goals as goal
 use Rattle.sets.proofs.bounds.mark_pair.Goals.{After-mark}
 
--- and so is y
+-- begin y is marked too
 stepped : (c : After-mark) → let a = c.args in MarkedTo a.ends.now a.p a.span.a a.span.z a.bounds.now c.mark.new.bounds (c.loop-y.y + 1)
 stepped c =
     let l = c.loop-y in

@@ -16,4 +16,4 @@ pub record MasksTo (values : List ℕ) (w c a z n : ℕ) (old allow : List ℕ) 
   pub others : (p : ℕ) → p < c * 64 → get_or allow p 0 ≡ get_or old p 0
 
 abbrev pub invariant-loop-x : goal.invariant-loop-x
-invariant-loop-x l = MasksTo l.values l.w l.c l.span.a l.span.z l.n l.initial.allow l.allow l.x
+invariant-loop-x l = MasksTo l.values l.w l.c l.span.a l.span.z l.span.last l.initial.allow l.allow l.x

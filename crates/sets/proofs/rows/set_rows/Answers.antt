@@ -3,7 +3,6 @@ use Prim.Native.Nat.{ℕ, ◌+◌, ◌*◌, ◌≤◌, ◌<◌}
 use mathlib.Core.Path.{refl}
 use mathlib.Core.Logic.{◌↔◌}
 use native.Mathlib.Omega.{arith}
-use native.Mathlib.Nat.{le_refl}
 use lib.ListN.{length, set}
 use Rattle.bitset.specs.Code.Members.{In}
 use Rattle.bitset.proofs.In.{in_between}
@@ -16,9 +15,9 @@ use Rattle.sets.proofs.rows.set_rows.Goals.{After-row-found}
 
 -- what is found is what the set reads to
 found : (c : After-row-found) (e : ℕ) → let a = c.args in
-    In c.row-found.result.ends e ↔ SetRule (task_set_of a.members.now a.conds.now a.values.now a.n) (InTable a.table.now) c.loop-b.b e
+    In c.row-found.result.ends e ↔ SetRule (task_set_of a.set.members.now a.set.conditions.now a.arrays.now.values a.arrays.now.last) (InTable a.table.now) c.loop-b.b e
 found c e =
-    let r = row-found _ c.row-found.result _ (filled_of c.args.members.now c.args.values.now c.args.table.now c.unpruned-tables.ensures c.fill.ensures) (omega arith) refl refl c.row-found.ensures.0 c.row-found.ensures.1 in
+    let r = row-found _ c.row-found.result _ (filled_of c.args.set.members.now c.args.arrays.now.values c.args.table.now c.unpruned-tables.ensures c.fill.ensures) (omega arith) refl refl c.row-found.ensures.0 c.row-found.ensures.1 in
     (r.reads e, λ h. let p = h.placing in r.finds e p.within ((in_between c.between-goal.ensures e).1 (p.onward, p.within)) h)
 
 -- the place of the row in the table
@@ -31,7 +30,7 @@ room c =
 pub fill-requires : goal.fill-requires
 fill-requires c =
     let g = c.requires in
-    unpruned_of c.args.members.now c.args.values.now c.args.table.now c.unpruned-tables.ensures g.formed (λ i l. omega (arith, g.lower i l, g.room)) (omega arith) (le_refl _)
+    unpruned_of c.args.set.members.now c.args.arrays.now.values c.args.table.now c.unpruned-tables.ensures g.formed (λ i l. omega (arith, g.lower i l, g.room))
 
 pub loop-b-init : goal.loop-b-init
 loop-b-init c = no_rows_yet
@@ -47,11 +46,11 @@ bounds-table-p c = room (goal.at.bounds-table-p c).After-row-found
 
 -- one row more
 more : (c : After-row-found) → let a = c.args in
-    RowsTo (task_set_of a.members.now a.conds.now a.values.now a.n) a.p a.table.now (set c.loop-b.table (a.p * 64 + c.loop-b.b) c.row-found.result.ends) (c.loop-b.b + 1)
+    RowsTo (task_set_of a.set.members.now a.set.conditions.now a.arrays.now.values a.arrays.now.last) a.p a.table.now (set c.loop-b.table (a.p * 64 + c.loop-b.b) c.row-found.result.ends) (c.loop-b.b + 1)
 more c =
     let g = c.requires in
     let v = c.loop-b.invariant in
-    let up : c.loop-b.b ≤ c.args.n = omega (arith, c.loop-b-test.true) in
+    let up : c.loop-b.b ≤ c.args.arrays.now.last = omega (arith, c.loop-b-test.true) in
     rows_more c.loop-b.b c.row-found.result.ends v (omega (arith, g.room, v.long)) up g.formed.moments (found c)
 
 pub loop-b-preserved : goal.loop-b-preserved

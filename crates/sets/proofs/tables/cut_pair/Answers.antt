@@ -1,13 +1,13 @@
 -- `sets::tables::cut_pair` meets its contract. The invariant: the tables have what they had of each placement, and no end more. Assumes nothing.
 use Prim.Native.Nat.{ℕ, ◌+◌, ◌*◌, ◌≤◌, ◌<◌}
-use mathlib.Core.Path.{subst}
+use mathlib.Core.Path.{refl, subst}
 use mathlib.Core.Logic.{◌↔◌}
 use native.Mathlib.Omega.{arith}
 use lib.ListN.{get_or, set}
 use Rattle.bitset.specs.Code.Members.{In}
 use Rattle.bitset.proofs.In.{in_both}
 use Rattle.sets.specs.Code.Tables.{LeftOut}
-use Rattle.sets.proofs.Pairs.{pair_more, fewer_more, same_set}
+use Rattle.sets.proofs.Pairs.{pair_more, fewer_more, same_more, same_parts}
 use Rattle.sets.proofs.tables.cut_pair.Goals as goal
 use Rattle.sets.proofs.tables.cut_pair.Goals.{After-inter}
 
@@ -28,12 +28,12 @@ stepped c count first second few =
     record {
       fewer = rw ends_at (fewer_more c.args.tables.now.ends l.tables.ends k c.inter.result both h.fewer);
       kept = λ bs es within have. rw (Goes-at, ends_at) (pair_more i j l.x c.args.span.a c.args.span.z r.result
-          c.some_ends.result c.inter.result few c.args.span.moments
+          c.some_ends.result c.inter.result few (omega (arith, c.args.span.within, c.args.span.moments))
           (omega arith) first second within r.ensures c.some_ends.ensures both (h.kept bs es within have));
     }
 
 pub loop-x-preserved : goal.loop-x-preserved
-loop-x-preserved c = (same_set c.args.tables.now _ _ c.loop-x.invariant.0, stepped (goal.at.loop-x-preserved c).After-inter)
+loop-x-preserved c = (same_more c.loop-x.invariant.0 (same_parts (refl, refl, refl, refl, refl)), stepped (goal.at.loop-x-preserved c).After-inter)
 
 pub returns-2 : goal.returns-2
-returns-2 c = (same_set c.args.tables.now _ _ c.loop-x.invariant.0, stepped (goal.at.returns-2 c).After-inter)
+returns-2 c = (same_more c.loop-x.invariant.0 (same_parts (refl, refl, refl, refl, refl)), stepped (goal.at.returns-2 c).After-inter)

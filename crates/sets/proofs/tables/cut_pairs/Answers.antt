@@ -8,4 +8,4 @@ loop-p-preserved-in-Some-members_of c =
     let h = c.loop-p.invariant in
     let o = c.cut_pair.ensures in
     let m = c.in-Some-members_of.ensures in
-    (same_more c.args.tables.now h.0 o.0, left_more h.1 (o.1 c.args.tables.now.count m.0 m.1 c.requires))
+    (same_more h.0 o.0, left_more h.1 (o.1 c.args.tables.now.count m.0 m.1 c.args.tables.now.few))

@@ -9,8 +9,8 @@ loop-i-preserved c =
     let l = c.loop-i in
     let h = l.invariant in
     let o = c.fill_own_row.ensures in (
-      own_rows_more l.i c.member_node.result c.requires.0 (omega arith) c.args.span.moments c.member_node.ensures.0 h.0 (rw h.2 at o.0),
-      same_more c.args.tables.now h.1 o.1,
+      own_rows_more l.i c.member_node.result c.requires.0 (omega arith) (omega (arith, c.args.span.within, c.args.span.moments)) c.member_node.ensures.0 h.0 (rw h.2 at o.0),
+      same_more h.1 o.1,
       o.2 ∙ h.2,
     )
 

@@ -5,7 +5,7 @@ use Rattle.bitset.specs.Code.Members.{In, has, IsSetOf}
 use mathlib.Core.Bool.{◌&&◌}
 use Rattle.bitset.proofs.Ends.{lowest_le}
 use Rattle.bitset.proofs.In.{in_both, in_zero}
-use Rattle.keeping.proofs.narrowed.Goals as goal
+use Rattle.keeping.proofs.entries.narrowed.Goals as goal
 
 -- the begins that member j keeps
 kept : (old table window there begins at : ℕ) → at ≡ table → IsSetOf there (λ k. has at k && has window k) → IsSetOf begins (λ k. has old k && has there k) → (y : ℕ) →
