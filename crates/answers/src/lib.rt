@@ -48,7 +48,8 @@ const POSITION_UNIT: u64 = 1 << 40;
 
 const LENGTH_UNIT: u64 = 1 << 24;
 
-// A refusal's number and position; 0 and 0 for none.
+// A refusal's number and position; 0 and 0 for none. The definitions of the rows compare this record by its number, 0 for none, as a host in C
+// compares an answer's. What may be refused here gives a `Result` with it as the error; only `Moved` has one that may be none.
 #[derive(Clone, Copy)]
 pub struct Refusal {
     pub number: u32,
@@ -103,7 +104,7 @@ pub fn answered(outcome: Result<usize, Refusal>) -> Answer
     match outcome {
         Ok(length) => Answer::Accepted { length, count: 0 },
         Err(refusal) => Answer::Refused {
-            number: refusal.number as u64,
+            number: u64::from(refusal.number),
             position: refusal.position,
             count: 0,
         },
@@ -125,6 +126,7 @@ pub fn pack(a: Answer) -> u64
     }
 }
 
+// The four fields side by side. The position and the length are cast, since there is no `u64::from` of a usize.
 fn join(number: u64, position: usize, length: usize, count: u64) -> u64
     requires { Fits number position length count }
     ensures { result ≡ fields number position length count }

@@ -1,13 +1,12 @@
 -- The members of the sets that the operations make, by the relation `In`. Assumes nothing.
-use Prim.Native.Nat.{ℕ, zero, ◌+◌, ◌^◌, ◌≤◌, ◌<◌}
+use Prim.Native.Nat.{ℕ, zero, ◌^◌, ◌≤◌, ◌<◌}
 use mathlib.Core.Path.{◌≡◌, refl, sym, ap, ◌∙◌}
-use mathlib.Core.Bool.{true, not, ◌&&◌, ◌||◌}
+use mathlib.Core.Bool.{not, ◌&&◌, ◌||◌}
 use mathlib.Core.Logic.{◌↔◌, ◌⊎◌, inl, inr, ⊎_elim}
-use mathlib.Core.List.{List}
 use lib.Dec.{leb, ltb, eqb}
 use lib.ListN.{get_or, replicate}
 use borrow.Author.Tests.{leb-true, ltb-true, eqb-true, le-leb, lt-ltb, eq-eqb, ne_eqb}
-use Rattle.bitset.specs.Code.Members.{has, IsSetOf, In, Lowest, Dropped, InSomeRow}
+use Rattle.bitset.specs.Code.Members.{has, IsSetOf, In, Lowest, Dropped}
 use Rattle.words.proofs.Choices.{both_true}
 use Rattle.words.proofs.Entries.{entries_alike}
 use Rattle.bitset.proofs.Bools.{not_both, either, or_cases, or_left, or_right, both}
@@ -75,13 +74,6 @@ pub in_more : {r x : ℕ} {P P' Q : ℕ → Type 0} → ((e : ℕ) → In r e �
 in_more new turn old e = (
   λ t. (turn e).1 (⊎_elim (λ p. inl ((old e).0 p)) inr ((new e).0 t)),
   λ p. (new e).1 (⊎_elim (λ q. inl ((old e).1 q)) inr ((turn e).0 p)),
-)
-
-pub in_joined : {r x base : ℕ} {rows : List ℕ} → ((k : ℕ) → (has r k ≡ true) ↔ InSomeRow x rows base k)
-    → (k : ℕ) → In r k ↔ ((m : ℕ) × In x m × In (get_or rows (base + m) 0) k)
-in_joined h k = (
-  λ t. let j = (h k).0 t.yes in (j.m, record { yes = j.in_x }, record { yes = j.in_row }),
-  λ j. record { yes = (h k).1 (record { m = j.0; in_x = j.1.yes; in_row = j.2.yes }) },
 )
 
 -- an array of empty sets

@@ -1,18 +1,18 @@
 -- The parts of a node of each form: by the table there are such, and with them the node is read. Assumes nothing.
 use Prim.Native.Nat.{ℕ, zero, suc, ◌+◌, ◌≤◌, ◌<◌}
-use mathlib.Core.Path.{◌≡◌, sym, ◌∙◌}
+use mathlib.Core.Path.{◌≡◌, ◌∙◌}
 use mathlib.Core.Logic.{◌⊎◌, inl, inr, ⊎_elim}
 use mathlib.Core.List.{List, [], ◌∷◌, ◌++◌}
 use native.Mathlib.Omega.{arith}
-use lib.ListN.{length, length-map, get_or-map, length-take}
+use lib.ListN.{length, length-take}
 use lib.Seq.{get_or-take}
 use Rattle.words.specs.Scan.{concat_below}
-use Rattle.words.specs.Fields.{holds, member_node, reading_word}
+use Rattle.words.specs.Fields.{holds, reading_word}
 use Rattle.model.specs.Trajectory.{Trajectory}
 use Rattle.model.specs.Procedure.{Procedure}
 use Rattle.sets.specs.Set.{member_count}
 use Rattle.sets.specs.Code.Set.{member}
-use Rattle.sets.specs.Code.Rows.{task_set_of, entry_at, Placeable, Placed}
+use Rattle.sets.specs.Code.Rows.{Placeable}
 use Rattle.model.specs.Code.Table.{InTable}
 use Rattle.model.specs.declared.Triple.{Triple}
 use Rattle.model.specs.Forms.{Form, Act, Test, Sequence, Choice, If, StartWindow, EndWindow, Set, Reserved, form_at, field_x, field_y, field_m, field_n}
@@ -25,9 +25,8 @@ use Rattle.reading.proofs.Nodes.{members_lower}
 use Rattle.reading.proofs.Quiet.{quiet_law}
 use Rattle.reading.specs.Code.Quiet.{pause_of, at_once}
 use Rattle.extract.specs.Code.Search.{CutAt, StartAt}
-use Rattle.sets.specs.declared.placing.Placement.{Placement}
 use Rattle.extract.specs.declared.parts.Parts.{Parts}
-use Rattle.extract.specs.Code.Parts.{triple_of, parts_in, part_of, IsPlaced, PlacedParts, Prepared, Chosen}
+use Rattle.extract.specs.Code.Parts.{triple_of, parts_in, part_of, PlacedParts, Prepared, Chosen}
 
 -- what holds of 0 and of 1 holds of each number below 2
 below_two : (F : ℕ → Type 0) → F 0 → F 1 → (i : ℕ) → i < 2 → F i
@@ -206,15 +205,3 @@ module _ {P : Procedure} {T : Trajectory} {started size : ℕ} {places table : L
             reads = λ us rs. rw size (set f (λ i h. rw (part i h) at (rs i (rw size h))) pl);
           },
         )
-
--- the members' nodes with a placement
-pub set_placed : (ms cs vs table : List ℕ) (n b e : ℕ) (placed : Placement) {r : Parts} → IsPlaced ms placed r
-    → Placed (task_set_of ms cs vs n) (InTable table) b e (entry_at placed.begins) (entry_at placed.ends) → PlacedParts (task_set_of ms cs vs n) table b e r
-set_placed ms cs vs table n b e placed h pl =
-    record {
-      begins = entry_at placed.begins;
-      ends = entry_at placed.ends;
-      count = h.0 ∙ sym (length-map ms member_node);
-      parts = λ i l. rw (get_or-map member_node ms i 0) (h.1 i (rw (length-map ms member_node) at l));
-      placed = pl;
-    }

@@ -1,4 +1,5 @@
-// The parts that a reading of a node is made of, by the table of ends: which children are read, and between which moments.
+// The parts that a reading of a node is made of, by the table of ends: which children are read, and between which moments. Moments are usize here
+// and u32 in the search of a task set: they are cast, since there is no `From` between the two.
 ghost use Rattle.std.specs.Prelude.{◌≡◌, ◌⊎◌, ℕ, ◌<◌, ◌≤◌, List, [], ◌∷◌, length};
 ghost use Rattle.words.specs.Fields.{holds};
 ghost use Rattle.model.specs.Code.Arrays.{members_at, conditions_at};
@@ -7,8 +8,9 @@ ghost use Rattle.sets.specs.Code.Rows.{task_set_of, Placeable};
 ghost use Rattle.extract.specs.Code.Search.{Within, CutAt, CutReady, StartAt, StartReady};
 ghost use Rattle.extract.specs.Code.Parts.{triple_of, parts_from, IsPlaced, PlacedParts, ChoosableBy, ChosenBy};
 
+use crate::search::TwoNodes;
 use crate::{Source, search};
-use model::{Node, Triple};
+use model::Triple;
 use reading::pauses::{Pause, at_once, pause_of};
 use sets::placing::Placement;
 use words::forms::{
@@ -51,26 +53,26 @@ fn parts_of(list: &[Triple]) -> Parts
 }
 
 // Forms 2 and 7: x, and y a pause after its end, in form 2 none.
-fn end_window_parts(table: &[u64], x: usize, y: usize, pause: Pause, b: usize, e: usize) -> Parts
-    requires { CutReady table.now x y b e pause b }
-    ensures { (k : ℕ) × (m : ℕ) × CutAt table.now x y b e pause b k m × (result ≡ parts_from (triple_of x b k ∷ triple_of y m e ∷ [])) }
+fn end_window_parts(table: &[u64], two: TwoNodes, pause: Pause) -> Parts
+    requires { CutReady table.now two.x two.y two.begin two.end pause two.begin }
+    ensures { (k : ℕ) × (m : ℕ) × CutAt table.now two.x two.y two.begin two.end pause two.begin k m × (result ≡ parts_from (triple_of two.x two.begin k ∷ triple_of two.y m two.end ∷ [])) }
 {
-    let (k, m) = search::cut(table, x, y, b, e, pause, b);
-    parts_of(&[part(x, b, k), part(y, m, e)])
+    let (k, m) = search::cut(table, two, pause, two.begin);
+    parts_of(&[part(two.x, two.begin, k), part(two.y, m, two.end)])
 }
 
-// Form 6: X, and M to N after its begin Y.
-fn start_window_parts(table: &[u64], node: Node, b: usize, e: usize) -> Parts
-    requires { StartReady table.now node.x node.y b e node.m node.n }
-    ensures { (k : ℕ) × (m : ℕ) × (l : ℕ) × StartAt table.now node.x node.y b e node.m node.n k m l × (result ≡ parts_from (triple_of node.x b k ∷ triple_of node.y m l ∷ [])) }
+// Form 6: x, and y `least` to `most` after its begin.
+fn start_window_parts(table: &[u64], two: TwoNodes, least: usize, most: usize) -> Parts
+    requires { StartReady table.now two.x two.y two.begin two.end least most }
+    ensures { (k : ℕ) × (m : ℕ) × (l : ℕ) × StartAt table.now two.x two.y two.begin two.end least most k m l × (result ≡ parts_from (triple_of two.x two.begin k ∷ triple_of two.y m l ∷ [])) }
 {
-    let (x, y) = (node.x, node.y);
-    let xs = table[x * MOMENTS + b];
-    let Some(m) = search::meeting(xs, table, y, b + node.m, b + node.n, e) else {
+    let b = two.begin;
+    let xs = table[two.x * MOMENTS + b];
+    let Some(m) = search::meeting(xs, table, two, b + least, b + most) else {
         unreachable!();
     };
-    let (k, l) = search::ends(xs, table[y * MOMENTS + m], e);
-    parts_of(&[part(x, b, k), part(y, m, l)])
+    let (k, l) = search::ends(xs, table[two.y * MOMENTS + m], two.end);
+    parts_of(&[part(two.x, b, k), part(two.y, m, l)])
 }
 
 // Form 4: y where the formula's value is that it holds, and else m.
@@ -120,17 +122,22 @@ pub fn choose_parts(source: &Source, triple: Triple) -> Parts
     let place = source.arrays.places[triple.node];
     let word = source.words[place];
     let node = model::node_of(word);
-    let (x, y) = (node.x, node.y);
+    let two = TwoNodes {
+        x: node.x,
+        y: node.y,
+        begin: b,
+        end: e,
+    };
     match node.form {
         ACT => parts_of(&[]),
         TEST => parts_of(&[]),
-        SEQUENCE => end_window_parts(table, x, y, at_once(), b, e),
-        CHOICE => parts_of(&[part(search::choose(table, x, y, b, e), b, e)]),
-        IF => parts_of(&[part(taken(source.arrays.value(x, b), y, node.m), b, e)]),
+        SEQUENCE => end_window_parts(table, two, at_once()),
+        CHOICE => parts_of(&[part(search::choose(table, two), b, e)]),
+        IF => parts_of(&[part(taken(source.arrays.value(node.x, b), node.y, node.m), b, e)]),
         // The passes of a loop are found one at a time.
         WHILE => parts_of(&[]),
-        START_WINDOW => start_window_parts(table, node, b, e),
-        END_WINDOW => end_window_parts(table, x, y, pause_of(word, source.started), b, e),
+        START_WINDOW => start_window_parts(table, two, node.m, node.n),
+        END_WINDOW => end_window_parts(table, two, pause_of(word, source.started)),
         TASK_SET => set_parts(source, place, b, e),
         // A job with a reserved form is refused, and nothing reads such a node.
         RESERVED.. => parts_of(&[]),

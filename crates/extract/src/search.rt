@@ -1,4 +1,5 @@
-// The searches for the moments of two parts, by the table of ends: a loop's passes are found one at a time, by `cut`.
+// The searches for the moments of two parts, by the table of ends: a loop's passes are found one at a time, by `cut`. Moments are usize, and a set's
+// members u32: they are cast, since there is no `From` between the two.
 ghost use Rattle.std.specs.Prelude.{◌≡◌, ◌⊎◌, ◌<◌};
 ghost use Rattle.bitset.specs.Code.Members.{Max};
 ghost use Rattle.model.specs.Code.Table.{InTable};
@@ -7,47 +8,39 @@ ghost use Rattle.extract.specs.Code.Search.{Within, MeetReady, FirstMeets, CutAt
 use reading::pauses::{Pause, quiet_upto};
 use words::MOMENTS;
 
-// The first moment from `first` to `end` at which y can begin so that the greater of its end and one of the ends `xs` is e.
-pub fn meeting(
-    xs: u64,
-    table: &[u64],
-    y: usize,
-    first: usize,
-    end: usize,
-    e: usize,
-) -> Option<usize>
-    requires { MeetReady table.now y end e }
-    ensures { FirstMeets xs table.now y first end e result }
+// Two nodes, of which another is made that is read from the moment `begin` to the moment `end`.
+#[derive(Clone, Copy)]
+pub struct TwoNodes {
+    pub x: usize,
+    pub y: usize,
+    pub begin: usize,
+    pub end: usize,
+}
+
+// The first moment from `first` to `last` at which y can begin so that the greater of its end and one of the ends `xs` is the end of both.
+pub fn meeting(xs: u64, table: &[u64], two: TwoNodes, first: usize, last: usize) -> Option<usize>
+    requires { MeetReady table.now two.y last two.end }
+    ensures { FirstMeets xs table.now two.y first last two.end result }
 {
-    (first..=end.min(MOMENTS - 1)).find(|&m| bitset::has(
-        bitset::max_of(xs, table[y * MOMENTS + m]),
-        e as u32,
+    (first..=last.min(MOMENTS - 1)).find(|&m| bitset::has(
+        bitset::max_of(xs, table[two.y * MOMENTS + m]),
+        two.end as u32,
     ))
 }
 
-// The first end of x, begun at b, from `from` on, after which y can begin, a pause later, and end at e, and the first such begin. There is
-// one. The ends of x are walked by trailing zeros, the lowest first.
-pub fn cut(
-    table: &[u64],
-    x: usize,
-    y: usize,
-    b: usize,
-    e: usize,
-    pause: Pause,
-    from: usize,
-) -> (usize, usize)
-    requires { CutReady table.now x y b e pause from }
-    ensures { CutAt table.now x y b e pause from result.0 result.1 }
+// The first end of x from `from` on after which y can begin, a pause later, and end at the end of both, and the first such begin. There is one.
+pub fn cut(table: &[u64], two: TwoNodes, pause: Pause, from: usize) -> (usize, usize)
+    requires { CutReady table.now two.x two.y two.begin two.end pause from }
+    ensures { CutAt table.now two.x two.y two.begin two.end pause from result.0 result.1 }
 {
-    let mut left = bitset::inter(table[x * MOMENTS + b], bitset::from(from as u32));
-    while left != 0 {
-        let k = bitset::lowest(left) as usize;
-        let end = quiet_upto(pause, k);
+    let row = table[two.x * MOMENTS + two.begin];
+    for end in bitset::members(bitset::inter(row, bitset::from(from as u32))) {
+        let k = end as usize;
+        let last = quiet_upto(pause, k);
         // the set of 0 alone: y's end is the greater one
-        if let Some(m) = meeting(1, table, y, k + pause.least, end, e) {
+        if let Some(m) = meeting(1, table, two, k + pause.least, last) {
             return (k, m);
         }
-        left = bitset::drop_lowest(left);
     }
     unreachable!()
 }
@@ -63,15 +56,15 @@ pub fn ends(xs: u64, ys: u64, e: usize) -> (usize, usize)
     (bitset::lowest(xs) as usize, e)
 }
 
-// Whichever of x and y reads b to e: x where both do. One of them does.
-pub fn choose(table: &[u64], x: usize, y: usize, b: usize, e: usize) -> usize
-    requires within { Within table.now x y b e }
-    requires in_table { InTable table.now x b e ⊎ InTable table.now y b e }
-    ensures { ((result ≡ x) ⊎ (result ≡ y)) × InTable table.now result b e }
+// Whichever of the two reads from begin to end: x where both do. One of them does.
+pub fn choose(table: &[u64], two: TwoNodes) -> usize
+    requires within { Within table.now two.x two.y two.begin two.end }
+    requires in_table { InTable table.now two.x two.begin two.end ⊎ InTable table.now two.y two.begin two.end }
+    ensures { ((result ≡ two.x) ⊎ (result ≡ two.y)) × InTable table.now result two.begin two.end }
 {
-    if bitset::has(table[x * MOMENTS + b], e as u32) {
-        x
+    if bitset::has(table[two.x * MOMENTS + two.begin], two.end as u32) {
+        two.x
     } else {
-        y
+        two.y
     }
 }

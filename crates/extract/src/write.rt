@@ -5,6 +5,7 @@ ghost use Rattle.model.specs.Forms.{While, form_at};
 ghost use Rattle.extract.specs.Code.Source.{procedure_of, trajectory_of};
 ghost use Rattle.extract.specs.Code.Contract.{Full, Rest, WritableBy, ReadingWritten};
 
+use crate::search::TwoNodes;
 use crate::{Source, parts, search};
 use model::Triple;
 use reading::pauses::at_once;
@@ -54,7 +55,13 @@ fn write_passes(source: &Source, triple: Triple, at: usize, buffer: &mut [u32]) 
     let mut m = triple.begin;
     let mut end = at;
     while m < e {
-        let (k, _) = search::cut(source.table, y, p, m, e, at_once(), m + 1);
+        let two = TwoNodes {
+            x: y,
+            y: p,
+            begin: m,
+            end: e,
+        };
+        let (k, _) = search::cut(source.table, two, at_once(), m + 1);
         let pass = Triple {
             node: y,
             begin: m,

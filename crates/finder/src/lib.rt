@@ -7,16 +7,13 @@ ghost use Rattle.answers.specs.Code.Packed.{InRange};
 ghost use Rattle.finder.specs.Find.{Searched, Outcome};
 ghost use Rattle.finder.specs.Code.Seek.{Seekable, Readied};
 
-use answers::{Answer, Refusal, answered};
+use answers::{Answer, NO_READING, Refusal, answered};
 use extract::Source;
 use job::check_job;
 use model::Arrays;
 use reading::pauses::all_starts;
 use theory::{arrays_of, buffer_refusal, compare_facts, judge};
 use words::ENDS;
-
-// The number of the refusal that there is no reading, as an answer has it.
-const NO_READING: u64 = answers::NO_READING as u64;
 
 // Seeks a reading of a plan that passes: fills the table, counts the triples, and writes a reading of the root if there is one.
 // It is not inlined, so that its tables are on the stack while it runs, and not all the time that its caller does.
@@ -41,7 +38,7 @@ fn seek(job: &[u32], starts: &[u32], arrays: &Arrays, buffer: &mut [u32]) -> Ans
         return Answer::Accepted { length, count };
     }
     Answer::Refused {
-        number: NO_READING,
+        number: u64::from(NO_READING),
         position: 0,
         count,
     }

@@ -7,6 +7,8 @@ use Prim.Native.Nat.{ℕ, zero, suc, ◌≤◌, ◌<◌}
 use native.Mathlib.Omega.{arith}
 use borrow.Author.Tests.{eqb-true, eqb-false, eq-eqb}
 use lib.Dec.{eqb}
+use lib.ListN.{length, get_or, take}
+use Rattle.std.proofs.lemmas.List.{get_or-take, length-take-le}
 use Rattle.words.proofs.Choices.{cond-when, cond-all, cond_same}
 use Rattle.words.specs.Fields.{form, formula_x, formula_y, atom_fluent}
 use Rattle.job.specs.Parts.{head_word, last_moment, formula_word}
@@ -114,13 +116,16 @@ module _ (conj disj : List ℕ) {job : List ℕ} (p : WellFormed job) where
             (λ u x a b e. h.entry u _ a ((p.formula x (omega arith)).fluent e)) k t m;
       }
 
--- the history of a plan serves
-pub grounds : {job places starts history : List ℕ} {count : ℕ} → WellFormed job → Indexed job 5 places → count ≡ formula_count job → History job starts history
-    → Grounds job places count history
-grounds {job} {starts = starts} w p c h =
+-- the history of a plan serves, and the first `count` places, where there are so many formulas
+pub grounds : {job places starts history : List ℕ} {count : ℕ} → WellFormed job → Indexed job 5 places → count ≡ formula_count job → count ≤ length places
+    → History job starts history → Grounds job (take count places) (length (take count places)) history
+grounds {job} {places} {starts} {count = n} w p c fits h =
     record {
       well = w;
-      indexed = p;
-      counted = c;
+      indexed = record { inside = λ j l. rw (front j l) (p.inside j l); words = λ j l. rw (front j l) (p.words j l) };
+      counted = length-take-le n places fits ∙ c;
       valued = record { most = λ t f l m. rw (h.entry t f l m) (value_most job starts t f) };
     }
+  where
+    front : (j : ℕ) → j < formula_count job → get_or (take n places) j 0 ≡ get_or places j 0
+    front j l = get_or-take n places j 0 (omega arith)

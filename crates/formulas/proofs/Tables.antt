@@ -3,15 +3,13 @@
 use mathlib.Core.Bool.{true}
 use mathlib.Core.List.{List}
 use mathlib.Core.Path.{◌≡◌, refl}
-use Prim.Native.Nat.{ℕ, ◌+◌, ◌*◌, ◌/◌, ◌%◌, ◌≤◌, ◌<◌, min, max}
-use native.Mathlib.Decide.{dec_lt}
+use Prim.Native.Nat.{ℕ, ◌+◌, ◌*◌, ◌/◌, ◌%◌, ◌≤◌, min, max}
 use native.Mathlib.Omega.{arith}
-use borrow.Author.Tests.{eqb-true, leb-true}
-use lib.Dec.{eqb, leb}
-use lib.ListN.{length, get_or, get_or-eq_default}
+use borrow.Author.Tests.{eqb-true}
+use lib.Dec.{eqb}
+use lib.ListN.{get_or}
 use Rattle.words.proofs.AllBelow.{all_below, all_law}
 use Rattle.formulas.specs.Values.{and_table, or_table, by_table, AndLesser, OrGreater}
-use Rattle.formulas.specs.Code.Table.{Small, Connectives}
 
 -- a table of three by three that passes is that operation
 tabled : (op : ℕ → ℕ → ℕ) (table : List ℕ) → all_below (λ i. eqb (get_or table i 0) (op (i / 3) (i % 3))) 9 ≡ true
@@ -28,14 +26,3 @@ and_lesser = tabled min and_table refl
 pub or_greater : OrGreater
 unfolding all_below
 or_greater = tabled max or_table refl
-
-small : (table : List ℕ) → length table ≡ 9 → all_below (λ i. leb (get_or table i 0) 2) 9 ≡ true → Small table
-small table s e = record { most = λ i. cases i (dec_lt i 9) }
-  where
-    cases : (i : ℕ) → Dec (i < 9) → get_or table i 0 ≤ 2
-    cases i (yes h) = leb-true (get_or table i 0) 2 ((all_law (λ i. leb (get_or table i 0) 2) 9).0 e i h)
-    cases i (no h) = omega (arith, get_or-eq_default table 0 {n = i} (omega arith))
-
-pub connectives : Connectives and_table or_table
-unfolding all_below
-connectives = record { conjunction = small and_table refl refl; disjunction = small or_table refl refl }

@@ -1,4 +1,5 @@
 // The values of all formulas at all moments, as a table, by the history of a plan.
+// Formulas and moments are numbers below 64: each function asks it of them, since a type for such a number would be taken apart at every index.
 #![tactic(auto)]
 
 ghost use Rattle.std.specs.Prelude.{List, ◌≡◌, ℕ, ◌+◌, ◌*◌, ◌<◌, ◌≤◌, length};
@@ -10,8 +11,8 @@ ghost use Rattle.formulas.specs.Code.Lent.{GroundsOf, FillableBy};
 ghost use Rattle.job.specs.Parts.{head_word};
 
 use words::{
-    FAILS, FLUENTS, FORMULA_VALUES, FORMULAS, HOLDS, MOMENTS, OPEN, STATES, atom_fluent, form_of,
-    forms, formula_x, formula_y, last_of,
+    FAILS, FLUENTS, FORMULA_VALUES, HOLDS, MOMENTS, OPEN, STATES, atom_fluent, form_of, forms,
+    formula_x, formula_y, last_of,
 };
 
 // The tables of 'and' and 'or' have an entry for each two values: how many values there are, and how many entries.
@@ -114,11 +115,10 @@ pub fn formula_values(formulas: &Formulas<'_>) -> [u8; FORMULA_VALUES]
 // The table of all formulas by the two constant tables.
 pub fn standard_values(
     job: &[u32],
-    formulas: &[usize; FORMULAS],
-    count: usize,
+    places: &[usize],
     history: &[u8; STATES],
 ) -> [u8; FORMULA_VALUES]
-    requires { Grounds job.now formulas.now count history.now }
+    requires { Grounds job.now places.now (length places.now) history.now }
     ensures { (starts : List ℕ) → History job.now starts history.now
         → FormulaTable and_table or_table job.now (value_at job.now starts) result }
 {
@@ -126,7 +126,7 @@ pub fn standard_values(
         and: &AND,
         or: &OR,
         job,
-        places: &formulas[..count],
+        places,
         history,
     })
 }

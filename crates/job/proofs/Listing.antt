@@ -10,15 +10,13 @@ use native.Mathlib.Decide.{ℕ_discrete}
 use native.Mathlib.Omega.{arith}
 use borrow.Author.Tests.{eqb-true, eq-eqb, ne_eqb}
 use lib.Dec.{eqb}
-use lib.ListN.{length, get_or, set, replicate, length-set}
-use lib.Seq.{get_or-set_same, get_or-set_other}
+use lib.ListN.{get_or, replicate}
 use Rattle.words.specs.Tests.{within}
 use Rattle.words.specs.Fields.{kind, wide, role_of, fluent_of, group_number, group_action}
 use Rattle.words.specs.Scan.{any}
 use Rattle.words.proofs.Choices.{is_false, both_true, cond-all, same_test, eqb_swap, within-true}
 use Rattle.words.proofs.Lists.{each_of}
 use Rattle.words.proofs.Scan.{any-agree}
-use Rattle.bitset.specs.Code.Members.{has, IsSetOf}
 use Rattle.bitset.proofs.Bools.{or_cases}
 use Rattle.bitset.proofs.Digits.{has-zero}
 use Rattle.bitset.proofs.In.{empty_entry}
@@ -72,9 +70,6 @@ module _ (head w : ℕ) (S : List ℕ) where
 abbrev Kinds : ℕ → Type 0
 Kinds k = (k ≡ 2) ⊎ ((k ≡ 4) ⊎ (k ≡ 14))
 
-pub lists-true : (k : ℕ) → Kinds k → lists k ≡ true
-lists-true k = ⊎_elim (λ e. rw e) (⊎_elim (λ e. rw e) (λ e. rw e))
-
 true_lists : (k : ℕ) → lists k ≡ true → Kinds k
 true_lists k l =
     ⊎_elim (⊎_elim (λ e. inl (eqb-true k 2 e)) (λ e. inr (inl (eqb-true k 4 e)))) (λ e. inr (inr (eqb-true k 14 e)))
@@ -122,20 +117,6 @@ module _ {head v : ℕ} {p old new : List ℕ} where
       cases w l r (no n) =
           let e : kind v ≡ kind w - 1 = ⊎_elim (λ z. omega arith) (λ z. absurd (let s = r.high in let t = r.few in omega arith)) (word_before v p) in
           rw (eq-eqb (kind v) (kind w - 1) e, ap lists e ∙ r.opened)
-
--- what a word stores in the set: its entry, or nothing
-pub stored_entry : {head v e : ℕ} {old : List ℕ} (x : ℕ) → lists (kind v) ≡ true → length old ≡ 16 → e ≡ entry_of head v → e < 1024
-    → IsSetOf x (λ k. eqb k (e % 64) || has (get_or old (e / 64) 0) k) → Stored head v old (set old (e / 64) x)
-stored_entry {head} {v} {e} {old} x l size is-entry small is =
-    record { size = length-set old (e / 64) x ∙ size; entry = λ n. rw (l, ← is-entry) (cases n (ℕ_discrete (n / 64) (e / 64))) }
-  where
-    cases : (n : ℕ) → Dec (n / 64 ≡ e / 64) → has_entry (set old (e / 64) x) n ≡ (eqb n e || has_entry old n)
-    cases n (yes q) =
-        rw (q, get_or-set_same old (e / 64) x 0 (omega arith), is (n % 64))
-        (ap (λ (t : Bool). t || has (get_or old (e / 64) 0) (n % 64))
-        (same_test (eqb (n % 64) (e % 64)) (eqb n e) (λ h. let r = eqb-true (n % 64) (e % 64) h in eq-eqb n e (omega arith))
-        (λ h. let r = eqb-true n e h in eq-eqb (n % 64) (e % 64) (omega arith))))
-    cases n (no q) = rw (get_or-set_other old (e / 64) (n / 64) x 0 q, ne_eqb n e (λ z. q (ap (λ (m : ℕ). m / 64) z)))
 
 pub stored_none : {head v : ℕ} {old : List ℕ} → lists (kind v) ≡ false → Stored head v old (replicate 16 0)
 stored_none l = record { size = refl; entry = λ n. rw (l, empty_entry 16 (n / 64)) (has-zero (n % 64)) }

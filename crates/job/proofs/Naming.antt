@@ -1,12 +1,11 @@
 -- Laws of the two sets of nodes that are named: one name more, and which nodes are named exactly once. Assumes nothing.
-use mathlib.Core.Bool.{Bool, true, false, not, cond, ◌&&◌, ◌||◌, or-true, or-false, and-false}
+use mathlib.Core.Bool.{Bool, not, cond, ◌&&◌}
 use mathlib.Core.List.{List}
 use mathlib.Core.Path.{◌≡◌, refl, ap, ◌∙◌}
-use Prim.Native.Nat.{ℕ, zero, suc, ◌+◌}
+use Prim.Native.Nat.{ℕ, zero, suc}
 use native.Mathlib.Omega.{arith}
 use borrow.Author.Tests.{le-leb, ne_eqb}
 use lib.Dec.{eqb, leb}
-use Rattle.words.specs.Tests.{indicator}
 use Rattle.bitset.specs.Code.Members.{has, IsSetOf}
 use Rattle.job.specs.Before.{named}
 use Rattle.job.specs.Refusal.{name_refusal}
@@ -16,17 +15,6 @@ use Rattle.job.specs.Code.Names.{NamedTimes}
 -- two tellings of how often each node is named
 pub named-same : {n m : ℕ → ℕ} {s : Names} → NamedTimes n s → ((v : ℕ) → n v ≡ m v) → NamedTimes m s
 named-same h e = record { named = λ v. h.named v ∙ ap (leb 1) (e v); again = λ v. h.again v ∙ ap (leb 2) (e v) }
-
--- one name more, if t
-pub named_more : (n : ℕ) (t : Bool) → (leb 1 n || t) ≡ leb 1 (n + indicator t)
-named_more n false = let e : n + 0 ≡ n = omega arith in rw (e, or-false (leb 1 n))
-named_more n true = rw (or-true (leb 1 n), le-leb 1 (n + 1) (omega arith))
-
-pub again_more : (n : ℕ) (t : Bool) → (leb 2 n || (leb 1 n && t)) ≡ leb 2 (n + indicator t)
-again_more n false = let e : n + 0 ≡ n = omega arith in rw (e, and-false (leb 1 n), or-false (leb 2 n))
-again_more zero true = refl
-again_more (suc zero) true = refl
-again_more (suc (suc n)) true = rw (le-leb 2 (suc (suc n)) (omega arith), le-leb 2 (suc (suc n) + 1) (omega arith))
 
 exactly_once : (n : ℕ) → (leb 1 n && not (leb 2 n)) ≡ eqb n 1
 exactly_once zero = refl

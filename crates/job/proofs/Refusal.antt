@@ -11,9 +11,8 @@ use borrow.Author.Tests.{ne_eqb, eq-eqb, ltb-true, eqb-true, not-false}
 use Rattle.words.specs.Tests.{indicator, within}
 use Rattle.words.specs.Fields.{kind, action_number, actions_of}
 use Rattle.words.proofs.Choices.{both_true}
-use Rattle.answers.specs.declared.Refusal.{Refusal}
 use Rattle.answers.specs.Rows.{refusal, row, first_refusal, first_of}
-use Rattle.answers.proofs.Rows.{first_none, or_none, or_refused, or_passed, or_assoc, row-none}
+use Rattle.answers.proofs.Rows.{first_none, or_none, row-none}
 use Rattle.job.specs.Rules.{word_refusal_of, limited}
 use Rattle.job.specs.Before.{before, count_of_kind}
 use Rattle.job.specs.Follow.{by_kind, predecessor, may_follow}
@@ -123,28 +122,6 @@ clear job ok =
     let a = or_none (row (not (within 1 2048 (length job))) 1 0) _ ok in
     let b = or_none (first_of (refusal_of job) (length job)) (end_refusal (get_or job 0 0) (length job) (before job (length job))) a.1 in
     record { size = a.0; words = b.0; end = b.1 }
-
--- the rows of the job end: those before the one on names, and that one
-abbrev pub earlier_rows : ℕ → ℕ → List ℕ → Refusal
-earlier_rows head len p =
-    first_refusal (row (not (eqb (count_of_kind 3 p) (actions_of head))) 3 len)
-    (first_refusal (row (eqb (count_of_kind 6 p) 0) 5 0) (row (empty_set p) 5 (count_of_kind 6 p - 1)))
-
-module _ (head len : ℕ) (p : List ℕ) where
-  end_rows : end_refusal head len p ≡ first_refusal (earlier_rows head len p) (first_of (name_refusal p) (count_of_kind 6 p - 1))
-  unfolding end_refusal
-  end_rows =
-      let counted = row (not (eqb (count_of_kind 3 p) (actions_of head))) 3 len in
-      let none = row (eqb (count_of_kind 6 p) 0) 5 0 in
-      let empty = row (empty_set p) 5 (count_of_kind 6 p - 1) in
-      let names = first_of (name_refusal p) (count_of_kind 6 p - 1) in
-      ap (first_refusal counted) (or_assoc none empty names) ∙ or_assoc counted (first_refusal none empty) names
-
-  pub by_earlier : ((earlier_rows head len p).number ≡ 0 → ⊥) → earlier_rows head len p ≡ end_refusal head len p
-  by_earlier h = or_refused _ _ h ∙ sym end_rows
-
-  pub by_names : (earlier_rows head len p).number ≡ 0 → first_of (name_refusal p) (count_of_kind 6 p - 1) ≡ end_refusal head len p
-  by_names h = or_passed _ _ h ∙ sym end_rows
 
 -- the rows of its end, one by one
 pub record EndClear (job : List ℕ) : Type 0 where

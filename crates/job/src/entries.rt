@@ -5,7 +5,7 @@ ghost use Rattle.job.specs.Code.Entries.{entry_of, has_entry, Stored};
 use words::{ACTIONS, FLUENTS, GROUP_MEMBER, KNOWN, LAW};
 
 // The numbers are below 1,024: a group's number has four bits and an action's six; two pairs of roles have 256 fluents each. The set is kept
-// in rows of 64 numbers, one bit each.
+// in rows of 64 numbers, one bit each. Indexes are usize, and a set's members u32: numbers are cast, since there is no `From` between the two.
 const ENTRIES: usize = 1024;
 
 const ROW: usize = 64;

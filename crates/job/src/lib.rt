@@ -20,7 +20,8 @@ pub mod positions;
 pub mod rules;
 pub mod scan;
 
-// What may stand before a word besides a kind of words: the node of a task set, or nothing.
+// What may stand before a word besides a kind of words: the node of a task set, or nothing. They are numbers and no enum, as `predecessor` gives
+// them: `may_follow` compares them with the kinds by their order.
 pub const SET_NODE: u32 = 16;
 
 pub const NOTHING: u32 = 17;

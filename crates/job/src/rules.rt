@@ -1,8 +1,10 @@
 // Which words may follow which, and the rule of each kind, mostly as tests with no branch: the value of the code is the definition's own term, so
-// most prove themselves.
-ghost use Rattle.std.specs.Prelude.{cond, ◌≡◌, ◌≤◌};
-ghost use Rattle.words.specs.Fields.{group_number};
+// most prove themselves. A group's number is cast to be a set's member, since there is no `u32::from` of a usize.
+ghost use Rattle.std.specs.Prelude.{cond, ◌≡◌, ◌≤◌, ltb};
+ghost use Rattle.words.specs.Fields.{group_number, known_spare, law_spare};
 ghost use Rattle.bitset.specs.Code.Members.{has};
+ghost use Rattle.words.specs.Scan.{every};
+ghost use Rattle.job.specs.Children.{node_children};
 ghost use Rattle.job.specs.Follow.{may_follow};
 ghost use Rattle.job.specs.Rules.{word_refusal_of, limited, head_refusal, known_refusal, action_refusal, law_refusal, formula_shape, formula_range, formula_refusal, node_shape, node_range, node_refusal, member_refusal, condition_shape, condition_range, condition_refusal, shift_window_refusal, group_refusal, group_member_refusal};
 ghost use Rattle.answers.specs.Code.Ruled.{if_any};
@@ -70,19 +72,12 @@ pub fn head(w: u32) -> Option<u32>
     word_refusal_of(shape, range, true)
 }
 
-// The words that list a fluent: whether it is the job's.
-pub fn known(head: u32, listed: bool, w: u32) -> Option<u32>
-    ensures { result ≡ if_any (known_refusal head listed w) }
+// The rule of the two kinds that list a fluent, initially known words and laws; `spare` is whether the bits that the word's kind leaves spare are
+// zero.
+pub fn known_or_law(spare: bool, head: u32, listed: bool, w: u32) -> Option<u32>
+    ensures known { spare ≡ known_spare head w → result ≡ if_any (known_refusal head listed w) }
+    ensures law { spare ≡ law_spare head w → result ≡ if_any (law_refusal head listed w) }
 {
-    let spare = words::known_spare(head, w);
-    let range = words::fluent_of(head, w) < words::fluents_of(head);
-    word_refusal_of(spare, range, !listed)
-}
-
-pub fn law(head: u32, listed: bool, w: u32) -> Option<u32>
-    ensures { result ≡ if_any (law_refusal head listed w) }
-{
-    let spare = words::law_spare(head, w);
     let range = words::fluent_of(head, w) < words::fluents_of(head);
     word_refusal_of(spare, range, !listed)
 }
@@ -154,18 +149,29 @@ fn node_shape(w: u32) -> bool
         | ((f == forms::TASK_SET) & none)
 }
 
-fn node_range(actions: usize, formulas: usize, nodes: usize, w: u32) -> bool
-    ensures { result ≡ node_range actions formulas nodes w }
+// Whether the nodes that the node word `w` names as children are declared.
+fn children_range(nodes: usize, w: u32) -> bool
+    ensures { result ≡ every (λ q. ltb q nodes) (node_children w) }
 {
     let f = words::form_of(w);
     let x = words::node_x(w);
     let y = words::node_y(w);
     let m = words::node_m(w);
+    let window = (forms::START_WINDOW <= f) & (f <= forms::END_WINDOW);
+    (!(((forms::SEQUENCE <= f) & (f <= forms::CHOICE)) | window) | (x < nodes))
+        & (!((forms::SEQUENCE <= f) & (f <= forms::END_WINDOW)) | (y < nodes))
+        & (!(f == forms::IF) | (m < nodes))
+}
+
+fn node_range(actions: usize, formulas: usize, nodes: usize, w: u32) -> bool
+    ensures { result ≡ node_range actions formulas nodes w }
+{
+    let f = words::form_of(w);
+    let x = words::node_x(w);
+    let m = words::node_m(w);
     let late = words::node_n(w);
     let window = (forms::START_WINDOW <= f) & (f <= forms::END_WINDOW);
-    let children = (!(((forms::SEQUENCE <= f) & (f <= forms::CHOICE)) | window) | (x < nodes))
-        & (!((forms::SEQUENCE <= f) & (f <= forms::END_WINDOW)) | (y < nodes))
-        & (!(f == forms::IF) | (m < nodes));
+    let children = children_range(nodes, w);
     (!(f == forms::ACT) | (x < actions))
         & (!((f == forms::TEST) | ((forms::IF <= f) & (f <= forms::WHILE))) | (x < formulas))
         & children

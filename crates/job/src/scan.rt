@@ -10,12 +10,13 @@ ghost use Rattle.job.specs.Code.Entries.{Listed};
 ghost use Rattle.job.specs.Code.State.{Tied};
 ghost use Rattle.answers.specs.Code.Ruled.{RuledBy, if_any};
 
-use crate::entries::ENTRY_ROWS;
+use crate::entries::{ENTRY_ROWS, is_listed};
 use crate::names::Names;
 use crate::{NOTHING, SET_NODE, State, entries, names, rules};
 use answers::{JOB_SHAPE, Refusal};
 use words::{
     ACTION, CONDITION, FORMULA, GROUP, GROUP_MEMBER, HEAD, KNOWN, LAW, MEMBER, NODE, SHIFT_WINDOW,
+    known_spare, law_spare,
 };
 
 // What stands directly before position `i`.
@@ -43,21 +44,16 @@ fn word_refusal(job: &[u32], i: usize, s: State, listed: &[u64; ENTRY_ROWS]) -> 
     }
     match k {
         HEAD => rules::head(w),
-        KNOWN => rules::known(head, entries::is_listed(listed, head, w), w),
+        KNOWN => rules::known_or_law(known_spare(head, w), head, is_listed(listed, head, w), w),
         ACTION => rules::action(s.actions, w),
-        LAW => rules::law(head, entries::is_listed(listed, head, w), w),
+        LAW => rules::known_or_law(law_spare(head, w), head, is_listed(listed, head, w), w),
         FORMULA => rules::formula(head, s.formulas, w),
         NODE => rules::node(s.actions, s.formulas, s.nodes, w),
         MEMBER => rules::member(s.nodes, s.members, w),
         CONDITION => rules::condition(s.formulas, s.members, s.conditions, w),
         SHIFT_WINDOW => rules::shift_window(s.actions, w),
         GROUP => rules::group(s.groups, w),
-        GROUP_MEMBER => rules::group_member(
-            s.actions,
-            s.groups,
-            entries::is_listed(listed, head, w),
-            w,
-        ),
+        GROUP_MEMBER => rules::group_member(s.actions, s.groups, is_listed(listed, head, w), w),
         _ => Some(JOB_SHAPE),
     }
 }

@@ -1,5 +1,6 @@
 // What passes from the theory to the reading layer: a procedure and a trajectory as arrays, a node's word taken apart, a triple of a node
 // and two moments, and the words of a task set.
+// Formulas, nodes and moments are numbers below 64: the contracts say it of each, since a type for such a number would be taken apart at every index.
 #![tactic(auto)]
 
 ghost use Rattle.std.specs.Prelude.{◌≡◌, ◌<◌, length};
@@ -10,7 +11,7 @@ use words::{ACTIONS, CONDITION, FORMULA_VALUES, MEMBER, MOMENTS, NODES};
 
 // Node p's word stands at places[p] of the job, and after it those of its members and conditions; starts[a] is the set of the moments at
 // which action a starts; values has the value of formula k at moment t at k * 64 + t.
-// There are `count` nodes: the number stands beside the places, since memory is fixed (there is no heap) and the arrays are filled in place.
+// There are `count` nodes: the number stands beside the places, since there is no heap, so that the array has room for the nodes of any job.
 #[derive(Clone, Copy)]
 pub struct Arrays {
     pub count: usize,

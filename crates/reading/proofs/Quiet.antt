@@ -11,7 +11,7 @@ use lib.ListN.{length, get_or-append, get_or-eq_default}
 use lib.Seq.{get_or-append_seam}
 use Rattle.std.proofs.lemmas.List.{length_push}
 use Rattle.words.proofs.Choices.{is_false}
-use Rattle.bitset.specs.Code.Members.{has, IsSetOf, In, Lowest}
+use Rattle.bitset.specs.Code.Members.{has, IsSetOf, In}
 use Rattle.bitset.proofs.Bools.{not_both}
 use Rattle.bitset.proofs.Digits.{has-zero}
 use Rattle.bitset.proofs.In.{in_union, in_both, in_from, in_below, in_zero}
@@ -30,22 +30,6 @@ module _ (pause : Pause) {k later : ℕ} (f : ℕ) (small : pause.started < 2 ^ 
 
   pub upto_none : later ≡ 0 → QuietUpto pause k (k + pause.most)
   upto_none z = record { at = λ m. (λ h. (h, λ t a b. is_false (has pause.started t) (λ e. in_zero z (in_later t a e))), λ h. h.0) }
-
-  module _ {first : ℕ} (low : Lowest later first) where
-    before : (m : ℕ) → m ≤ first → QuietIn pause.started k m
-    before m h t a b = is_false (has pause.started t) (λ e. not_both (in_later t a e).yes (low.first t (omega arith)))
-
-    pub upto_first : first < k + pause.most → QuietUpto pause k first
-    upto_first l = record {
-      at = λ m. (
-        λ h. (omega arith, before m h),
-        λ h. let (i, j) = (in_both L first).0 (record { yes = low.member }) in
-            by_cases (dec_lt first m) (λ s. not_both i.yes (h.1 first ((in_from F first).0 j).0 s)) (λ s. omega arith),
-      );
-    }
-
-    pub upto_limit : k + pause.most ≤ first → QuietUpto pause k (k + pause.most)
-    upto_limit l = record { at = λ m. (λ h. (h, before m (omega arith)), λ h. h.0) }
 
 -- a window that ends where the quiet does
 pub quiet_window : {w k low end n : ℕ} {pause : Pause} → QuietUpto pause k end → ((m : ℕ) → In w m ↔ ((low ≤ m) × (m ≤ end) × (m ≤ n)))

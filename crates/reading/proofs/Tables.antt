@@ -1,6 +1,6 @@
 -- The table as it is filled: the rows of one node from the last begin down, and the nodes one after the other. Assumes nothing.
 use Prim.Native.Nat.{ℕ, zero, suc, ◌+◌, ◌*◌, ◌≤◌, ◌<◌}
-use mathlib.Core.Path.{◌≡◌, refl, sym, ◌∙◌, subst}
+use mathlib.Core.Path.{◌≡◌, sym, ◌∙◌, subst}
 use mathlib.Core.Logic.Iff
 use mathlib.Core.Logic.{◌↔◌, ◌⊎◌, inl, inr, by_cases}
 use mathlib.Core.List.{List}
@@ -13,13 +13,13 @@ use Rattle.bitset.specs.Code.Members.{In}
 use Rattle.bitset.proofs.In.{in_zero, empty_entry}
 use Rattle.model.specs.Trajectory.{Trajectory}
 use Rattle.model.specs.Procedure.{Procedure}
-use Rattle.model.specs.Forms.{Set, form_at}
+use Rattle.model.specs.Forms.{form_at}
 use Rattle.model.specs.Code.Forms.{children, Below}
 use Rattle.reading.specs.Code.Forms.{Readable}
 use Rattle.reading.specs.Reading.{HasReading}
 use Rattle.reading.specs.Code.Rule.{Rule}
 use Rattle.reading.specs.Code.Quiet.{AllStarts}
-use Rattle.reading.specs.Code.Table.{Inside, RowReady, RowOf, NodeReady, NodeRows, Blank, Found}
+use Rattle.reading.specs.Code.Table.{Inside, RowOf, NodeReady, NodeRows, Blank, Found}
 use Rattle.reading.proofs.Step.{onward, step, Filled, carry}
 
 -- two tables with the same row
@@ -44,24 +44,10 @@ pub record RowsFrom (P : Procedure) (T : Trajectory) (p : ℕ) (before t : List 
   pub others : (i : ℕ) → (i < p * 64) ⊎ (p * 64 + T.last < i) → get_or t i 0 ≡ get_or before i 0
 
 module _ {P : Procedure} {T : Trajectory} {p : ℕ} {before : List ℕ} where
-  pub rows_start : RowsFrom P T p before before (T.last + 1)
-  rows_start = record { size = refl; rows = λ c g l. absurd (omega arith); others = λ i o. refl }
-
   pub rows_end : {t : List ℕ} {b : ℕ} → b ≡ 0 → RowsFrom P T p before t b → NodeRows P T p before t
   rows_end z h = record { rows = λ c l. h.rows c (omega arith) l; others = h.others }
 
   module _ {started : ℕ} (g : NodeReady P T started p before) {t : List ℕ} {b k : ℕ} (l : b ≤ T.last) (s : k ≡ b + 1) (h : RowsFrom P T p before t k) where
-    pub row-ready : (form_at P p ≡ Set → ⊥) → RowReady P T started t p b
-    row-ready n = record {
-      lower = g.formed.lower;
-      single = n;
-      begin = l;
-      moments = g.moments;
-      mask = g.mask;
-      room = omega (arith, g.room, h.size);
-      inside = λ q k e i. g.inside q b k l e (same_row t before q b e (h.others (q * 64 + b) (inl (omega (arith, g.moments)))) i);
-    }
-
     pub rows_more : {r : ℕ} → RowOf P T t p b r → RowsFrom P T p before (set t (p * 64 + b) r) b
     rows_more {r} new = record {
       size = simp length-set h.size;
@@ -104,9 +90,6 @@ pub record Built (P : Procedure) (T : Trajectory) (t : List ℕ) (p : ℕ) : Typ
   pub empty : (q b : ℕ) → b < 64 → (p ≤ q) ⊎ (T.last < b) → row_at t q b ≡ 0
 
 module _ {P : Procedure} {T : Trajectory} where
-  pub built_start : {t : List ℕ} → Blank t → Built P T t 0
-  built_start h = record { size = h.size; right = λ q b e k l. absurd (omega arith); empty = λ q b l o. h.empty (q * 64 + b) }
-
   pub built_inside : {t : List ℕ} {p : ℕ} → Built P T t p → (q b : ℕ) → q < p → b ≤ T.last → Inside t q b T.last
   built_inside h q b k l e i = let r = (h.right q b e k l).0 i in (onward r.1.1, r.0)
 

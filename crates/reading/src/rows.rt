@@ -1,5 +1,7 @@
 // The row of a node at a begin, the set of the ends that it reads to: one function a form, each by the clause of its form in
 // specs/Code/Rule.antt, over the rows that stand in the table already.
+// Nodes and moments are numbers below 64: each function asks it of them, since a type for such a number would be taken apart at every index. A set's
+// members are u32, so that moments are cast: there is no `From` between usize and u32.
 ghost use Rattle.std.specs.Prelude.{true, ◌≡◌, ◌↔◌, ◌⊎◌, ℕ, ◌+◌, ◌*◌, ◌<◌, ◌≤◌};
 ghost use Rattle.bitset.specs.Code.Members.{has, In};
 ghost use Rattle.words.specs.Fields.{fails, holds};
@@ -94,7 +96,8 @@ fn if_row(value: u8, table: &[u64], y: usize, m: usize, b: usize) -> u64
     0
 }
 
-// 5, while: a pass ends later than it began, and the rest is the loop's own row at that end.
+// 5, while: a pass ends later than it began, and the rest is the loop's own row at that end. Its six parameters are those of the clause: a struct of
+// some of them would be made for this call alone.
 fn while_row(guard: u8, last: usize, table: &[u64], p: usize, y: usize, b: usize) -> u64
     requires b_le_last { (b ≤ last) × (last < 64) }
     requires two_rows { TwoRows table.now p y b }
@@ -124,16 +127,17 @@ fn start_window_row(last: usize, table: &[u64], node: Node, b: usize) -> u64
 }
 
 // 7, end window: Y begins a quiet pause after one of X's ends.
-fn end_window_row(last: usize, table: &[u64], x: usize, y: usize, pause: Pause, b: usize) -> u64
-    requires rows_through { RowsThrough table.now x y b last }
+fn end_window_row(last: usize, table: &[u64], node: Node, pause: Pause, b: usize) -> u64
+    requires rows_through { RowsThrough table.now node.x node.y b last }
     requires window_ready { WindowReady last pause.least pause.most }
-    ensures { (e : ℕ) → In result e ↔ EndsWithin b pause.least pause.most last (QuietIn pause.started) (InTable table.now x b) (λ m. InTable table.now y m e) }
+    ensures { (e : ℕ) → In result e ↔ EndsWithin b pause.least pause.most last (QuietIn pause.started) (InTable table.now node.x b) (λ m. InTable table.now node.y m e) }
 {
-    let begins = windows(table[x * MOMENTS + b], pause, last);
-    bitset::join_rows(begins, table, y * MOMENTS)
+    let begins = windows(table[node.x * MOMENTS + b], pause, last);
+    bitset::join_rows(begins, table, node.y * MOMENTS)
 }
 
-// The row of a node, of which `word` is the word, at b: any form but 8, a task set, whose rows are filled together.
+// The row of a node, of which `word` is the word, at b: any form but 8, a task set, whose rows are filled together. It has six parameters: what it is
+// the row of, and what is lent. The table changes from row to row, so that a struct of what is lent would be made anew for each.
 pub fn row(word: u32, arrays: &Arrays, started: u64, table: &[u64], p: usize, b: usize) -> u64
     requires { RowReady (alone word) (trajectory_in arrays.now) started table.now p b }
     ensures { RowOf (alone word) (trajectory_in arrays.now) table.now p b result }
@@ -149,7 +153,7 @@ pub fn row(word: u32, arrays: &Arrays, started: u64, table: &[u64], p: usize, b:
         IF => if_row(arrays.value(x, b), table, y, node.m, b),
         WHILE => while_row(arrays.value(x, b), last, table, p, y, b),
         START_WINDOW => start_window_row(last, table, node, b),
-        END_WINDOW => end_window_row(last, table, x, y, pause_of(word, started), b),
+        END_WINDOW => end_window_row(last, table, node, pause_of(word, started), b),
         // A task set never comes here (see `fill_node`). Forms 9 to 15 are reserved: a job that has one is refused, and nothing reads it.
         TASK_SET.. => 0,
     }

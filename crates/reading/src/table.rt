@@ -1,4 +1,4 @@
-// The table of ends, filled node by node, children before parents.
+// The table of ends, filled node by node, children before parents. Moments are cast to be members of sets, since there is no `u32::from` of a usize.
 ghost use Rattle.std.specs.Prelude.{◌≡◌, ◌<◌, length, get_or};
 ghost use Rattle.model.specs.Code.Table.{end_in};
 ghost use Rattle.model.specs.Forms.{Set, form_at};

@@ -1,4 +1,4 @@
-// The text that planread prints, written to a buffer of bytes.
+// The text that planread prints, written to a buffer of bytes. A length and a position are cast, since there is no `u64::from` of a usize.
 ghost use Rattle.std.specs.Prelude.{◌≡◌, ◌+◌, ◌*◌, ◌≤◌, length};
 ghost use Rattle.answers.specs.Packed.{length_of};
 ghost use Rattle.text.specs.Report.{decimal_of, field_text, hex_line, hex_lines, accepted_text, refused_text, report_of};

@@ -18,6 +18,7 @@ pub fn arrays_of(job: &[u32], starts: &[u32], plan: &Plan) -> Arrays
     ensures { Represents job.now result (procedure_of job.now) (plan_trajectory job.now starts.now) }
 {
     let formulas = &plan.index.formulas;
+    let places = &formulas.position[..formulas.total];
     let nodes = &plan.index.nodes;
     Arrays {
         count: nodes.total,
@@ -25,6 +26,6 @@ pub fn arrays_of(job: &[u32], starts: &[u32], plan: &Plan) -> Arrays
         places: nodes.position,
         starts: start_moments(starts),
         durations: plan.durations,
-        values: standard_values(job, &formulas.position, formulas.total, &plan.history),
+        values: standard_values(job, places, &plan.history),
     }
 }

@@ -3,9 +3,8 @@ use mathlib.Core.Bool.{Bool, true, false, ◌||◌, true≢false, or-true, or-fa
 use mathlib.Core.Logic.{◌↔◌}
 use mathlib.Core.List.{List, [], ◌∷◌, ◌++◌}
 use mathlib.Core.Path.{◌≡◌, refl, ap, sym, ◌∙◌}
-use Prim.Native.Nat.{ℕ, zero, suc, ◌+◌, ◌≤◌, ◌<◌}
+use Prim.Native.Nat.{ℕ, zero, suc, ◌+◌, ◌<◌}
 use native.Mathlib.Decide.{dec_lt}
-use native.Mathlib.Numerals.{add-one}
 use native.Mathlib.Omega.{arith}
 use Rattle.std.specs.List.{range_with_len}
 use Rattle.std.proofs.lemmas.List.Folds.{list_any-append}
@@ -66,23 +65,3 @@ any-range test zero = refl
 any-range test (suc n) =
     let e : 0 + n ≡ n = omega arith in
     ap (any test) (range-more 0 n) ∙ list_any-append test (range_with_len 0 n) ((0 + n) ∷ []) ∙ rw (any-range test n, e, or-false (test n))
-
--- a loop at number i of n: none before it passes
-pub record Sought (test : ℕ → Bool) (n i : ℕ) : Type 0 where
-  pub inside : i ≤ n
-  pub none : any_below test i ≡ false
-
-module _ {test : ℕ → Bool} {n : ℕ} where
-  pub sought_start : Sought test n 0
-  unfolding any_below
-  sought_start = record { inside = omega arith; none = refl }
-
-  pub sought_more : {i : ℕ} → Sought test n i → i < n → test i ≡ false → Sought test n (i + 1)
-  unfolding any_below
-  sought_more {i} s l e = record { inside = omega arith; none = rw (add-one i, s.none, e) }
-
-  pub sought_found : {i : ℕ} → Sought test n i → i < n → test i ≡ true → true ≡ any_below test n
-  sought_found {i} s l e = sym (some_hit test n i l e)
-
-  pub sought_end : {i : ℕ} → Sought test n i → n ≤ i → false ≡ any_below test n
-  sought_end {i} s l = let e : i ≡ n = omega (arith, s.inside) in rw (← e) (sym s.none)

@@ -1,12 +1,12 @@
 -- Lists written to a buffer, one after the other, and word by word. Assumes nothing.
 use mathlib.Core.List.{List, [], ◌∷◌, ◌++◌}
-use mathlib.Core.Path.{◌≡◌, sym, ◌∙◌}
-use Prim.Native.Nat.{ℕ, suc, ◌+◌, ◌-◌, ◌<◌, ◌≤◌}
+use mathlib.Core.Path.{◌≡◌, ◌∙◌}
+use Prim.Native.Nat.{ℕ, suc, ◌+◌, ◌-◌, ◌≤◌}
 use native.Mathlib.Nat.{add-zero, zero-add, add-suc, suc-add}
 use native.Mathlib.Numerals.{add-one}
 use native.Mathlib.Omega.{arith}
-use lib.ListN.{length, get_or, take, drop, set, length-drop, length-append}
-use lib.Seq.{sets, sets-eq, take-suc, take-length, length-take-le, take_at}
+use lib.ListN.{length, take, drop, set, length-drop, length-append}
+use lib.Seq.{sets, sets-eq, take-length, length-take-le, take_at}
 use Rattle.words.specs.Scan.{take_while}
 use Rattle.words.specs.Lists.{insert}
 use Rattle.words.specs.Code.Place.{not_above}
@@ -16,11 +16,6 @@ use Rattle.words.proofs.Insert.{insert-split}
 pub sets_append : (vs ws l : List ℕ) (i : ℕ) → sets l i (vs ++ ws) ≡ sets (sets l i vs) (i + length vs) ws
 sets_append [] ws l i = rw add-zero
 sets_append (v ∷ vs) ws l i = rw (add-suc i (length vs)) (sets_append vs ws (set l i v) (suc i) ∙ rw suc-add)
-
--- one word more of a list
-pub sets_more : (l list : List ℕ) (at i : ℕ) → i < length list → set (sets l at (take i list)) (at + i) (get_or list i 0) ≡ sets l at (take (i + 1) list)
-sets_more l list at i h =
-    sym (rw (add-one i, take-suc list i 0 h, sets_append (take i list) (get_or list i 0 ∷ []) l at, length-take-le i list (omega arith)))
 
 -- a list written after the first n words of a buffer, which stay
 pub sets_front : (buffer ws : List ℕ) (n : ℕ) → n + length ws ≤ length buffer → take (n + length ws) (sets buffer n ws) ≡ take n buffer ++ ws

@@ -1,7 +1,7 @@
 -- The words of a list that pass a test. Assumes nothing.
 use mathlib.Core.Bool.{Bool, true, false, not, cond, ◌&&◌, ◌||◌, true≢false}
 use mathlib.Core.List.Memᴰ
-use mathlib.Core.List.{List, [], ◌∷◌, ◌++◌, append-nil, Memᴰ}
+use mathlib.Core.List.{List, [], ◌∷◌, ◌++◌, Memᴰ}
 use mathlib.Core.Logic.{◌↔◌, ⊎_elim}
 use mathlib.Core.Path.{◌≡◌, refl, ap, sym, ◌∙◌}
 use Prim.Native.Nat.{ℕ, zero, suc, ◌+◌, ◌≤◌, ◌<◌}
@@ -30,9 +30,6 @@ module _ (test : ℕ → Bool) where
   module _ (ws : List ℕ) (i : ℕ) (inside : i < length ws) where
     pub filter-hit : test (get_or ws i 0) ≡ true → filter test (take (i + 1) ws) ≡ filter test (take i ws) ++ (get_or ws i 0 ∷ [])
     filter-hit e = rw (add-one i, take-suc ws i 0 inside, filter-append (take i ws) (get_or ws i 0 ∷ []), e)
-
-    pub filter-miss : test (get_or ws i 0) ≡ false → filter test (take (i + 1) ws) ≡ filter test (take i ws)
-    filter-miss e = rw (add-one i, take-suc ws i 0 inside, filter-append (take i ws) (get_or ws i 0 ∷ []), e) (append-nil (filter test (take i ws)))
 
   pub each_filter : {P : ℕ → Type 0} {S : List ℕ} → Each P S → Each P (filter test S)
   each_filter each_none = each_none

@@ -1,9 +1,9 @@
--- What the first word that passes a test gives, and its law along a list: at position i the test passes, fails, or the list is at its end.
+-- What the first word that passes a test gives, and the words that lead a list.
 -- Assumes nothing.
 use mathlib.Core.Bool.{Bool, true, false, cond}
 use mathlib.Core.List.{List, [], ◌∷◌}
 use mathlib.Core.Logic.{by_cases}
-use mathlib.Core.Path.{◌≡◌, refl, ap, sym, ◌∙◌}
+use mathlib.Core.Path.{◌≡◌, refl, ap}
 use Prim.Native.Nat.{ℕ, zero, suc, ◌+◌, ◌-◌, ◌<◌, ◌≤◌}
 use native.Mathlib.Numerals.{add-one}
 use native.Mathlib.Decide.{dec_lt}
@@ -28,32 +28,8 @@ module _ (ws : List ℕ) (i : ℕ) where
     gives_end h = rw (drop_of_length-le ws h)
 
   module _ (test : ℕ → Bool) where
-    pub any-hit : i < length ws → test (get_or ws i 0) ≡ true → any test (drop i ws) ≡ true
-    any-hit h e = rw (drop-next h, e)
-
-    pub any-miss : i < length ws → test (get_or ws i 0) ≡ false → any test (drop i ws) ≡ any test (drop (i + 1) ws)
-    any-miss h e = rw (drop-next h, e)
-
     pub any-end : length ws ≤ i → any test (drop i ws) ≡ false
     any-end h = rw (drop_of_length-le ws h)
-
--- a loop at word i of a list: whether some word passes shows from there on
-pub record AnyFrom (test : ℕ → Bool) (ws : List ℕ) (i : ℕ) : Type 0 where
-  pub inside : i ≤ length ws
-  pub rest : any test ws ≡ any test (drop i ws)
-
-module _ {test : ℕ → Bool} {ws : List ℕ} where
-  pub from_start : AnyFrom test ws 0
-  from_start = record { inside = omega arith; rest = refl }
-
-  pub from_more : {i : ℕ} → AnyFrom test ws i → i < length ws → test (get_or ws i 0) ≡ false → AnyFrom test ws (i + 1)
-  from_more {i} f l e = record { inside = omega arith; rest = f.rest ∙ any-miss ws i test l e }
-
-  pub from_found : {i : ℕ} → AnyFrom test ws i → i < length ws → test (get_or ws i 0) ≡ true → true ≡ any test ws
-  from_found {i} f l e = sym (f.rest ∙ any-hit ws i test l e)
-
-  pub from_end : {i : ℕ} → AnyFrom test ws i → length ws ≤ i → false ≡ any test ws
-  from_end {i} f l = sym (f.rest ∙ any-end ws i test l)
 
 module _ (test : ℕ → Bool) where
   -- word i of the leading ones is word i of the list, and passes
@@ -112,17 +88,6 @@ module _ (test : ℕ → Bool) where
           → take (length (cond t (w ∷ take_while test ws) [])) (w ∷ ws) ≡ cond t (w ∷ take_while test ws) []
       cases false ih = refl
       cases true ih = ap (λ (l : List ℕ). w ∷ l) ih
-
-  -- how many lead, from a position on
-  module _ (ws : List ℕ) (i : ℕ) where
-    pub lead_hit : i < length ws → test (get_or ws i 0) ≡ true → length (take_while test (drop i ws)) ≡ 1 + length (take_while test (drop (i + 1) ws))
-    lead_hit h e = rw (drop-next ws i h, take_while-cons test (get_or ws i 0) (drop (i + 1) ws), e) (omega arith)
-
-    pub lead_miss : i < length ws → test (get_or ws i 0) ≡ false → length (take_while test (drop i ws)) ≡ 0
-    lead_miss h e = rw (drop-next ws i h, take_while-cons test (get_or ws i 0) (drop (i + 1) ws), e)
-
-    pub lead_end : length ws ≤ i → length (take_while test (drop i ws)) ≡ 0
-    lead_end h = rw (drop_of_length-le ws h)
 
   -- there are no more of them than words
   pub take_while-fits : (ws : List ℕ) → length (take_while test ws) ≤ length ws

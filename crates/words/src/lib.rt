@@ -1,4 +1,6 @@
 // The fields of the words, each read here alone, by the definitions of specs/Fields.antt; the kinds and the values by name.
+// Actions, nodes and moments are numbers below 64: each function that writes one into a word asks it, since a type for such a number would be
+// taken apart at every shift. They are cast, since `u32::try_from` would give a `Result` whose error can't come.
 #![tactic(auto)]
 
 ghost use Rattle.std.specs.Prelude.{cond, ◌≡◌, ◌+◌, ◌<◌, ◌≤◌, length, drop};
@@ -95,7 +97,8 @@ pub const FORMULA_VALUES: usize = FORMULAS * MOMENTS;
 
 pub const ENDS: usize = NODES * MOMENTS;
 
-// The bits `HI` to `LO` of a word, fewer than all. There is no `usize::from` of a u32, so that the fields that are indexes are cast.
+// The bits `HI` to `LO` of a word, fewer than all. `field`, `index` and `spare` each ask that a word has these bits, since a const parameter is a
+// plain number.
 fn field<const HI: u32, const LO: u32>(w: u32) -> u32
     requires { (LO ≤ HI) × (HI < LO + 31) × (HI < 32) }
     ensures { result ≡ field w HI LO }
@@ -103,7 +106,15 @@ fn field<const HI: u32, const LO: u32>(w: u32) -> u32
     (w >> LO) % (1 << (HI + 1 - LO))
 }
 
-// Whether they are zero, as those are that a word leaves spare.
+// The bits `HI` to `LO` of a word, as a number that can be an index. It is cast, since there is no `usize::from` of a u32.
+fn index<const HI: u32, const LO: u32>(w: u32) -> usize
+    requires { (LO ≤ HI) × (HI < LO + 31) × (HI < 32) }
+    ensures { result ≡ field w HI LO }
+{
+    field::<HI, LO>(w) as usize
+}
+
+// Whether the bits `HI` to `LO` of a word are zero, as those are that it leaves spare.
 pub fn spare<const HI: u32, const LO: u32>(w: u32) -> bool
     requires { (LO ≤ HI) × (HI < LO + 31) × (HI < 32) }
     ensures { result ≡ spare w HI LO }
@@ -173,7 +184,7 @@ pub fn fact_room(head: u32) -> usize
 pub fn fluents_of(head: u32) -> usize
     ensures { (result ≡ fluents_of head) × (result ≤ 256) }
 {
-    let field = field::<23, 16>(head) as usize;
+    let field = index::<23, 16>(head);
     if is_wide(head) & (field == 0) {
         FLUENTS
     } else {
@@ -184,20 +195,20 @@ pub fn fluents_of(head: u32) -> usize
 pub fn actions_of(head: u32) -> usize
     ensures { (result ≡ actions_of head) × (result < 256) }
 {
-    field::<15, 8>(head) as usize
+    index::<15, 8>(head)
 }
 
 pub fn last_of(head: u32) -> usize
     ensures { (result ≡ last_of head) × (result < 256) }
 {
-    field::<7, 0>(head) as usize
+    index::<7, 0>(head)
 }
 
 // Initially known word, and law: the fluent, and whether the bits that each leaves spare are zero.
 pub fn fluent_of(head: u32, w: u32) -> usize
     ensures { (result ≡ fluent_of head w) × (result < 256) }
 {
-    by_head(head, field::<7, 0>(w), field::<5, 0>(w)) as usize
+    by_head(head, index::<7, 0>(w), index::<5, 0>(w))
 }
 
 pub fn known_spare(head: u32, w: u32) -> bool
@@ -222,7 +233,7 @@ pub fn known_value(head: u32, w: u32) -> u8
 pub fn action_number(w: u32) -> usize
     ensures { (result ≡ action_number w) × (result < 64) }
 {
-    field::<11, 6>(w) as usize
+    index::<11, 6>(w)
 }
 
 pub fn action_spare(w: u32) -> bool
@@ -234,7 +245,7 @@ pub fn action_spare(w: u32) -> bool
 pub fn duration_of(w: u32) -> usize
     ensures { (result ≡ duration_of w) × (result < 64) }
 {
-    field::<5, 0>(w) as usize
+    index::<5, 0>(w)
 }
 
 // Law: the role, whether it makes a value, and which.
@@ -267,7 +278,7 @@ fn holds_or_fails(t: bool) -> u8
 pub fn atom_fluent(head: u32, w: u32) -> usize
     ensures { (result ≡ atom_fluent head w) × (result < 256) }
 {
-    by_head(head, field::<7, 0>(w), field::<11, 6>(w)) as usize
+    by_head(head, index::<7, 0>(w), index::<11, 6>(w))
 }
 
 pub fn atom_spare(head: u32, w: u32) -> bool
@@ -284,38 +295,38 @@ pub fn atom_spare(head: u32, w: u32) -> bool
 pub fn formula_x(w: u32) -> usize
     ensures { (result ≡ formula_x w) × (result < 64) }
 {
-    field::<11, 6>(w) as usize
+    index::<11, 6>(w)
 }
 
 pub fn formula_y(w: u32) -> usize
     ensures { (result ≡ formula_y w) × (result < 64) }
 {
-    field::<5, 0>(w) as usize
+    index::<5, 0>(w)
 }
 
 // Node: X, Y, M, N.
 pub fn node_x(w: u32) -> usize
     ensures { (result ≡ node_x w) × (result < 64) }
 {
-    field::<23, 18>(w) as usize
+    index::<23, 18>(w)
 }
 
 pub fn node_y(w: u32) -> usize
     ensures { (result ≡ node_y w) × (result < 64) }
 {
-    field::<17, 12>(w) as usize
+    index::<17, 12>(w)
 }
 
 pub fn node_m(w: u32) -> usize
     ensures { (result ≡ node_m w) × (result < 64) }
 {
-    field::<11, 6>(w) as usize
+    index::<11, 6>(w)
 }
 
 pub fn node_n(w: u32) -> usize
     ensures { (result ≡ node_n w) × (result < 64) }
 {
-    field::<5, 0>(w) as usize
+    index::<5, 0>(w)
 }
 
 // A node of form 8, a task set.
@@ -335,38 +346,38 @@ pub fn member_spare(w: u32) -> bool
 pub fn member_node(w: u32) -> usize
     ensures { (result ≡ member_node w) × (result < 64) }
 {
-    field::<5, 0>(w) as usize
+    index::<5, 0>(w)
 }
 
 // Condition of a task set: the formula, members i and j, M, N.
 pub fn condition_formula(w: u32) -> usize
     ensures { (result ≡ condition_formula w) × (result < 64) }
 {
-    field::<23, 18>(w) as usize
+    index::<23, 18>(w)
 }
 
 pub fn condition_i(w: u32) -> usize
     ensures { (result ≡ condition_i w) × (result < 8) }
 {
-    field::<17, 15>(w) as usize
+    index::<17, 15>(w)
 }
 
 pub fn condition_j(w: u32) -> usize
     ensures { (result ≡ condition_j w) × (result < 8) }
 {
-    field::<14, 12>(w) as usize
+    index::<14, 12>(w)
 }
 
 pub fn condition_m(w: u32) -> usize
     ensures { (result ≡ condition_m w) × (result < 64) }
 {
-    field::<11, 6>(w) as usize
+    index::<11, 6>(w)
 }
 
 pub fn condition_n(w: u32) -> usize
     ensures { (result ≡ condition_n w) × (result < 64) }
 {
-    field::<5, 0>(w) as usize
+    index::<5, 0>(w)
 }
 
 // Start: the moment, the action, and whether the bits that it leaves spare are zero.
@@ -379,13 +390,13 @@ pub fn start_spare(s: u32) -> bool
 pub fn start_moment(s: u32) -> usize
     ensures { (result ≡ start_moment s) × (result < 64) }
 {
-    field::<11, 6>(s) as usize
+    index::<11, 6>(s)
 }
 
 pub fn start_action(s: u32) -> usize
     ensures { (result ≡ start_action s) × (result < 64) }
 {
-    field::<5, 0>(s) as usize
+    index::<5, 0>(s)
 }
 
 // The word that action `a` starts at moment `u`.
@@ -424,19 +435,19 @@ pub fn shift_window_spare(w: u32) -> bool
 pub fn shift_window_action(w: u32) -> usize
     ensures { (result ≡ shift_window_action w) × (result < 64) }
 {
-    field::<17, 12>(w) as usize
+    index::<17, 12>(w)
 }
 
 pub fn shift_window_from(w: u32) -> usize
     ensures { (result ≡ shift_window_from w) × (result < 64) }
 {
-    field::<11, 6>(w) as usize
+    index::<11, 6>(w)
 }
 
 pub fn shift_window_to(w: u32) -> usize
     ensures { (result ≡ shift_window_to w) × (result < 64) }
 {
-    field::<5, 0>(w) as usize
+    index::<5, 0>(w)
 }
 
 // Group and action in a group: the group's number, its limit or the action, and whether the bits that both leave spare are zero.
@@ -449,17 +460,17 @@ pub fn group_spare(w: u32) -> bool
 pub fn group_number(w: u32) -> usize
     ensures { (result ≡ group_number w) × (result < 16) }
 {
-    field::<27, 24>(w) as usize
+    index::<27, 24>(w)
 }
 
 pub fn group_limit(w: u32) -> usize
     ensures { (result ≡ group_limit w) × (result < 64) }
 {
-    field::<5, 0>(w) as usize
+    index::<5, 0>(w)
 }
 
 pub fn group_action(w: u32) -> usize
     ensures { (result ≡ group_action w) × (result < 64) }
 {
-    field::<5, 0>(w) as usize
+    index::<5, 0>(w)
 }

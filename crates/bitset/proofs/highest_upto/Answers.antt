@@ -3,7 +3,7 @@ use Rattle.std.proofs.Common.{ℕ}
 use mathlib.Core.Bool.{◌&&◌}
 use lib.Dec.{leb}
 use Rattle.bitset.specs.Code.Members.{has, IsSetOf}
-use Rattle.bitset.proofs.Ends.{none_upto, highest_within}
+use Rattle.bitset.proofs.Ends.{none_upto}
 use Rattle.bitset.proofs.highest_upto.Goals as goal
 
 -- the members of x that are at most e
@@ -12,6 +12,3 @@ is x e upto low u h k = cc (h k, u k)
 
 pub returns-then-low-eq0 : goal.returns-then-low-eq0
 returns-then-low-eq0 c = none_upto c.args.x c.args.e c.inter-low.result (is c.args.x c.args.e c.upto.result c.inter-low.result c.upto.ensures c.inter-low.ensures) c.if-low-eq0.true
-
-pub returns : goal.returns
-returns c = highest_within c.args.x c.args.e c.inter-low.result (is c.args.x c.args.e c.upto.result c.inter-low.result c.upto.ensures c.inter-low.ensures) c.requires c.highest.ensures

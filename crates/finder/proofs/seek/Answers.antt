@@ -40,6 +40,6 @@ returns-then-has_end c =
 pub returns : goal.returns
 returns c =
     let s = c.requires in record {
-      searched = no_reading _ _ _ s.clear s.represented c.tabulate-count.ensures (sym c.has_end.ensures ∙ c.if-has_end.false);
+      searched = rw c.from.ensures (no_reading _ _ _ s.clear s.represented c.tabulate-count.ensures (sym c.has_end.ensures ∙ c.if-has_end.false));
       in_range = (omega (arith, c.tabulate-count.ensures.small), omega arith);
     }

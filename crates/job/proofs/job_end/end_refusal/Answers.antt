@@ -1,5 +1,4 @@
 -- `job::job_end::end_refusal` meets its contract: its tests are those of the rows, at the facts that the state holds. Assumes nothing.
-use native.Mathlib.Omega.{arith}
 use lib.ListN.{length}
 use borrow.Author.Tests.{eq-eqb, ne_eqb}
 use Rattle.job.specs.Before.{before}
@@ -38,9 +37,6 @@ returns-then-form_of-s c =
       ne_eqb _ 0 c.if-s-eq0.false,
       c.if-form_of-s.true,
     )
-
-pub name_refusal-requires : goal.name_refusal-requires
-name_refusal-requires c = omega (arith, c.requires.1, c.requires.2.nodes)
 
 pub returns : goal.returns
 unfolding end_refusal

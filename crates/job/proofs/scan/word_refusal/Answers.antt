@@ -5,7 +5,6 @@ use mathlib.Core.List.{List}
 use mathlib.Core.Path.{◌≡◌, refl, ap, sym, ◌∙◌}
 use Prim.Native.Nat.{ℕ, ◌-◌}
 use native.Mathlib.Omega.{arith}
-use borrow.Author.Tests.{ne_eqb}
 use lib.ListN.{get_or}
 use Rattle.words.specs.Fields.{kind, group_number}
 use Rattle.words.specs.Scan.{any}
@@ -50,37 +49,17 @@ returns-then-not-may_follow c =
     (may_not c.args.job.now c.args.i _ (sym c.kind_of-k.ensures.0)
     (rw (← c.predecessor.ensures) (sym c.may_follow.ensures ∙ c.if-not-may_follow.true))))
 
-pub returns-in_default : goal.returns-in_default
-returns-in_default c =
-    let (((((((((((rest, not-1), not-2), not-3), not-4), not-5), not-6), not-7), not-8), not-12), not-13), not-14) = c.in_default.in_default-own.rest in
-    ap if_any {x = 2} {y = refusal_of c.args.job.now c.args.i}
-    (sym
-    (passed (goal.at.returns-in_default c).Else-not-may_follow _ refl
-    ∙ rw (
-      ne_eqb _ 1 not-1,
-      ne_eqb _ 2 not-2,
-      ne_eqb _ 3 not-3,
-      ne_eqb _ 4 not-4,
-      ne_eqb _ 5 not-5,
-      ne_eqb _ 6 not-6,
-      ne_eqb _ 7 not-7,
-      ne_eqb _ 8 not-8,
-      ne_eqb _ 12 not-12,
-      ne_eqb _ 13 not-13,
-      ne_eqb _ 14 not-14,
-    )))
-
 pub returns-in-1 : goal.returns-in-1
 returns-in-1 c = rw (passed (goal.at.returns-in-1 c).Else-not-may_follow 1 c.in-1.is) c.head.ensures
 
 pub returns-in-2 : goal.returns-in-2
-returns-in-2 c = let k = c.in-2.is in rw (passed (goal.at.returns-in-2 c).Else-not-may_follow 2 k, fluent_entry _ _ _ (kind-is (goal.at.returns-in-2 c).Else-not-may_follow 2 k) (λ z. omega arith), listed (goal.at.returns-in-2 c).Else-not-may_follow 2 k refl, ← c.is_listed.ensures) c.known.ensures
+returns-in-2 c = let k = c.in-2.is in rw (passed (goal.at.returns-in-2 c).Else-not-may_follow 2 k, fluent_entry _ _ _ (kind-is (goal.at.returns-in-2 c).Else-not-may_follow 2 k) (λ z. omega arith), listed (goal.at.returns-in-2 c).Else-not-may_follow 2 k refl, ← c.is_listed.ensures) (c.known_or_law.ensures.known c.known_spare.ensures)
 
 pub returns-in-3 : goal.returns-in-3
 returns-in-3 c = rw (passed (goal.at.returns-in-3 c).Else-not-may_follow 3 c.in-3.is, ← c.requires.1.actions) c.action.ensures
 
 pub returns-in-4 : goal.returns-in-4
-returns-in-4 c = let k = c.in-4.is in rw (passed (goal.at.returns-in-4 c).Else-not-may_follow 4 k, fluent_entry _ _ _ (kind-is (goal.at.returns-in-4 c).Else-not-may_follow 4 k) (λ z. omega arith), listed (goal.at.returns-in-4 c).Else-not-may_follow 4 k refl, ← c.is_listed-in-4.ensures) c.law.ensures
+returns-in-4 c = let k = c.in-4.is in rw (passed (goal.at.returns-in-4 c).Else-not-may_follow 4 k, fluent_entry _ _ _ (kind-is (goal.at.returns-in-4 c).Else-not-may_follow 4 k) (λ z. omega arith), listed (goal.at.returns-in-4 c).Else-not-may_follow 4 k refl, ← c.is_listed-in-4.ensures) (c.known_or_law-in-4.ensures.law c.law_spare.ensures)
 
 pub returns-in-5 : goal.returns-in-5
 returns-in-5 c = rw (passed (goal.at.returns-in-5 c).Else-not-may_follow 5 c.in-5.is, ← c.requires.1.formulas) c.formula.ensures
