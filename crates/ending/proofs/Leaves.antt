@@ -59,7 +59,7 @@ pub end_same : {t : Tables} {lo hi : ℕ} {bs bs' : ℕ → ℕ} → SearchReady
     → (i e : ℕ) → i < t.count → EndAt t bs i e → EndAt t bs' i e
 end_same {t} {bs = bs} {bs' = bs'} r q i e l h = record {
   reads = subst (λ (x : ℕ). In (pair_at t.ends i i x) e) (q i l) h.reads;
-  met = λ c m f. let n = t.named c m in
+  met = λ c m f. let n = r.named c m in
       met_same t.conditions.now t.allow bs bs' c e (q _ (partner-less (condition_form (get_or t.conditions.now c 0)) n.0 n.1)) (q _ n.0) (h.met c m f);
 }
 

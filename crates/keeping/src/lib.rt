@@ -37,7 +37,7 @@ pub struct Tables<'a> {
     pub bounds: [u64; BOUNDS],
     pub ghost few: { count ≤ 4 },
     pub ghost listed: { length conditions.now ≤ 8 },
-    pub ghost named: { (c : ℕ) → c < length conditions.now → (condition_i (get_or conditions.now c 0) < count) × (condition_j (get_or conditions.now c 0) < count) },
+    pub ghost named: { (c : ℕ) → c < length conditions.now → (condition_i (get_or conditions.now c 0) < 4) × (condition_j (get_or conditions.now c 0) < 4) },
 }
 
 // The begins and ends that one member may still have.

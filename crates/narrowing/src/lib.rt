@@ -58,10 +58,11 @@ fn reach(begins: u64, ends: u64) -> u64
     bitset::inter(bitset::from_lowest(begins), bitset::upto_highest(ends))
 }
 
-// Moments up to the first end of `last` that no member that is placed covers; none while `last` is left.
-pub fn gaps(tables: &Tables, state: Open) -> u64
-    requires { (state.last < tables.now.count) × (state.from < 64) }
-    ensures { (g : ℕ) (bs es : ℕ → ℕ) → In result g → InDomains tables.now.count state bs es → (state.from ≤ g) × (g ≤ es state.last) × ((i : ℕ) → i < tables.now.count → bs i ≤ g → g ≤ es i → In state.left i) }
+// Moments up to the first end of `last` that no member that is placed covers; none while `last` is left. It takes the number of members alone: the
+// tables would ask more of its callers, as docs/ARCHITECTURE.md has it.
+pub fn gaps(count: usize, state: Open) -> u64
+    requires { (count ≤ 4) × (state.last < count) × (state.from < 64) }
+    ensures { (g : ℕ) (bs es : ℕ → ℕ) → In result g → InDomains count state bs es → (state.from ≤ g) × (g ≤ es state.last) × ((i : ℕ) → i < count → bs i ≤ g → g ≤ es i → In state.left i) }
 {
     if bitset::has(state.left, state.last as u32) {
         return 0;
@@ -71,7 +72,7 @@ pub fn gaps(tables: &Tables, state: Open) -> u64
         return 0;
     }
     let mut r = bitset::between(state.from, bitset::lowest(ends));
-    for i in 0..tables.count {
+    for i in 0..count {
         if !bitset::has(state.left, i as u32) {
             let member = state.members[i];
             r = bitset::minus(r, reach(member.begins, member.ends));

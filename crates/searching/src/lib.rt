@@ -17,7 +17,7 @@ pub fn search(tables: &Tables, state: Open, found: Found) -> Found
     if state.left == 0 {
         return ending::leaf(tables, state, found);
     }
-    let gaps = narrowing::gaps(tables, state);
+    let gaps = narrowing::gaps(tables.count, state);
     if gaps == 0 {
         let i = narrowing::choose(state);
         return tries(tables, state, i, found);

@@ -262,6 +262,7 @@ module _ (s₀ : TaskSet) {R : ℕ → ℕ → ℕ → Type 0} {a z : ℕ} {t : 
     count = f.count;
     ready = record {
       some = inner f.formed.some;
+      named = λ c l. let m = f.formed.named c l in (inner m.0, inner m.1);
       forward = f.forward;
       moments = omega (arith, f.formed.moments, f.upto);
       onward = λ i x e l g m k. let o = f.own i x e (outer l) g m k in (o.1, o.2);

@@ -59,6 +59,7 @@ rows_done l h = record { rows = λ c e g. h.rows c (omega arith) e; others = h.o
 pub ready_from : {t : Tables} {a b z : ℕ} → a ≤ b → b ≤ z → SearchReady t a z → SearchReady t b z
 ready_from l g h = record {
   some = h.some;
+  named = h.named;
   forward = g;
   moments = h.moments;
   onward = λ i x e k m. h.onward i x e k (omega arith);

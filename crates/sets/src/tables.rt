@@ -221,7 +221,7 @@ fn fill_later(span: Span, tables: &mut Tables)
 
 // Tables of the set that nothing is left out of, with no bounds.
 pub fn unpruned(set: SetWords) -> Tables
-    requires { (length set.members.now ≤ 4) × (length set.conditions.now ≤ 8) × ((c : ℕ) → c < length set.conditions.now → (condition_i (get_or set.conditions.now c 0) < length set.members.now) × (condition_j (get_or set.conditions.now c 0) < length set.members.now)) }
+    requires { (length set.members.now ≤ 4) × (length set.conditions.now ≤ 8) × ((c : ℕ) → c < length set.conditions.now → (condition_i (get_or set.conditions.now c 0) < 4) × (condition_j (get_or set.conditions.now c 0) < 4)) }
     ensures { UnprunedTables set.entry.conditions.now (length set.entry.members.now) result }
 {
     let every = bitset::from(0);

@@ -1,5 +1,6 @@
 -- Between functions: the search for the begins of a set's members. bs and es are begins and ends of all members.
-use Rattle.std.specs.Prelude.{ℕ, ◌≤◌, ◌<◌, ◌≡◌, ◌⊎◌}
+use Rattle.std.specs.Prelude.{ℕ, ◌≤◌, ◌<◌, ◌≡◌, ◌⊎◌, length, get_or}
+use Rattle.words.specs.Fields.{condition_i, condition_j}
 use Rattle.bitset.specs.Code.Members.{In}
 use Rattle.covering.specs.Cover.{Covers}
 use Rattle.covering.specs.Code.Cover.{entry_at}
@@ -17,9 +18,10 @@ pub record Masked (t : Tables) (b e : ℕ) (bs es : ℕ → ℕ) : Type 0 where
   pub covers : Covers t.count bs es b e
   pub lawful : (i : ℕ) → i < t.count → EndAt t bs i (es i)
 
--- what a search needs: a member, moments of a word, and own rows with no end before the begin or after hi
+-- what a search needs: a member, conditions on members, moments of a word, and own rows with no end before the begin or after hi
 pub record SearchReady (t : Tables) (lo hi : ℕ) : Type 0 where
   pub some : 0 < t.count
+  pub named : (c : ℕ) → c < length t.conditions.now → (condition_i (get_or t.conditions.now c 0) < t.count) × (condition_j (get_or t.conditions.now c 0) < t.count)
   pub forward : lo ≤ hi
   pub moments : hi < 64
   pub onward : (i x e : ℕ) → i < t.count → lo ≤ x → x ≤ hi → In (pair_at t.ends i i x) e → (x ≤ e) × (e ≤ hi)

@@ -12,4 +12,4 @@ pub record Gap (i : ℕ) (o : Open) (bs es : ℕ → ℕ) (g : ℕ) : Type 0 whe
   pub left : (j : ℕ) → j < i → bs j ≤ g → g ≤ es j → In o.left j
 
 abbrev pub invariant-loop-i : goal.invariant-loop-i
-invariant-loop-i l = (g : ℕ) (bs es : ℕ → ℕ) → In l.r g → InDomains l.tables.count l.state bs es → Gap l.i l.state bs es g
+invariant-loop-i l = (g : ℕ) (bs es : ℕ → ℕ) → In l.r g → InDomains l.count l.state bs es → Gap l.i l.state bs es g
