@@ -1,7 +1,7 @@
 // Which words may follow which, and the rule of each kind, mostly as tests with no branch: the value of the code is the definition's own term, so
 // most prove themselves. A group's number is cast to be a set's member, since there is no `u32::from` of a usize.
 ghost use Rattle.std.specs.Prelude.{cond, ◌≡◌, ◌≤◌, ltb};
-ghost use Rattle.words.specs.Fields.{group_number, known_spare, law_spare};
+ghost use Rattle.words.specs.Fields.{group_number};
 ghost use Rattle.bitset.specs.Code.Members.{has};
 ghost use Rattle.words.specs.Scan.{every};
 ghost use Rattle.job.specs.Children.{node_children};
@@ -72,12 +72,20 @@ pub fn head(w: u32) -> Option<u32>
     word_refusal_of(shape, range, true)
 }
 
-// The rule of the two kinds that list a fluent, initially known words and laws; `spare` is whether the bits that the word's kind leaves spare are
-// zero.
-pub fn known_or_law(spare: bool, head: u32, listed: bool, w: u32) -> Option<u32>
-    ensures known { spare ≡ known_spare head w → result ≡ if_any (known_refusal head listed w) }
-    ensures law { spare ≡ law_spare head w → result ≡ if_any (law_refusal head listed w) }
+// The words that list a fluent: whether it is the job's. One function of both, which is handed the test of the spare bits, takes two instructions more
+// for each word of the job: 252,475 in place of 248,389 for a job of 507 laws.
+pub fn known(head: u32, listed: bool, w: u32) -> Option<u32>
+    ensures { result ≡ if_any (known_refusal head listed w) }
 {
+    let spare = words::known_spare(head, w);
+    let range = words::fluent_of(head, w) < words::fluents_of(head);
+    word_refusal_of(spare, range, !listed)
+}
+
+pub fn law(head: u32, listed: bool, w: u32) -> Option<u32>
+    ensures { result ≡ if_any (law_refusal head listed w) }
+{
+    let spare = words::law_spare(head, w);
     let range = words::fluent_of(head, w) < words::fluents_of(head);
     word_refusal_of(spare, range, !listed)
 }

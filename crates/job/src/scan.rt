@@ -16,7 +16,6 @@ use crate::{NOTHING, SET_NODE, State, entries, names, rules};
 use answers::{JOB_SHAPE, Refusal};
 use words::{
     ACTION, CONDITION, FORMULA, GROUP, GROUP_MEMBER, HEAD, KNOWN, LAW, MEMBER, NODE, SHIFT_WINDOW,
-    known_spare, law_spare,
 };
 
 // What stands directly before position `i`.
@@ -44,9 +43,9 @@ fn word_refusal(job: &[u32], i: usize, s: State, listed: &[u64; ENTRY_ROWS]) -> 
     }
     match k {
         HEAD => rules::head(w),
-        KNOWN => rules::known_or_law(known_spare(head, w), head, is_listed(listed, head, w), w),
+        KNOWN => rules::known(head, is_listed(listed, head, w), w),
         ACTION => rules::action(s.actions, w),
-        LAW => rules::known_or_law(law_spare(head, w), head, is_listed(listed, head, w), w),
+        LAW => rules::law(head, is_listed(listed, head, w), w),
         FORMULA => rules::formula(head, s.formulas, w),
         NODE => rules::node(s.actions, s.formulas, s.nodes, w),
         MEMBER => rules::member(s.nodes, s.members, w),

@@ -53,13 +53,13 @@ pub returns-in-1 : goal.returns-in-1
 returns-in-1 c = rw (passed (goal.at.returns-in-1 c).Else-not-may_follow 1 c.in-1.is) c.head.ensures
 
 pub returns-in-2 : goal.returns-in-2
-returns-in-2 c = let k = c.in-2.is in rw (passed (goal.at.returns-in-2 c).Else-not-may_follow 2 k, fluent_entry _ _ _ (kind-is (goal.at.returns-in-2 c).Else-not-may_follow 2 k) (λ z. omega arith), listed (goal.at.returns-in-2 c).Else-not-may_follow 2 k refl, ← c.is_listed.ensures) (c.known_or_law.ensures.known c.known_spare.ensures)
+returns-in-2 c = let k = c.in-2.is in rw (passed (goal.at.returns-in-2 c).Else-not-may_follow 2 k, fluent_entry _ _ _ (kind-is (goal.at.returns-in-2 c).Else-not-may_follow 2 k) (λ z. omega arith), listed (goal.at.returns-in-2 c).Else-not-may_follow 2 k refl, ← c.is_listed.ensures) c.known.ensures
 
 pub returns-in-3 : goal.returns-in-3
 returns-in-3 c = rw (passed (goal.at.returns-in-3 c).Else-not-may_follow 3 c.in-3.is, ← c.requires.1.actions) c.action.ensures
 
 pub returns-in-4 : goal.returns-in-4
-returns-in-4 c = let k = c.in-4.is in rw (passed (goal.at.returns-in-4 c).Else-not-may_follow 4 k, fluent_entry _ _ _ (kind-is (goal.at.returns-in-4 c).Else-not-may_follow 4 k) (λ z. omega arith), listed (goal.at.returns-in-4 c).Else-not-may_follow 4 k refl, ← c.is_listed-in-4.ensures) (c.known_or_law-in-4.ensures.law c.law_spare.ensures)
+returns-in-4 c = let k = c.in-4.is in rw (passed (goal.at.returns-in-4 c).Else-not-may_follow 4 k, fluent_entry _ _ _ (kind-is (goal.at.returns-in-4 c).Else-not-may_follow 4 k) (λ z. omega arith), listed (goal.at.returns-in-4 c).Else-not-may_follow 4 k refl, ← c.is_listed-in-4.ensures) c.law.ensures
 
 pub returns-in-5 : goal.returns-in-5
 returns-in-5 c = rw (passed (goal.at.returns-in-5 c).Else-not-may_follow 5 c.in-5.is, ← c.requires.1.formulas) c.formula.ensures
