@@ -1,5 +1,6 @@
 // The ends of a set whose members' begins are fixed, by the masks of the members' ends, with no search.
 // A function asks that its moments are below 64: they are members of sets, and a type for them would be taken apart again at each operation on sets.
+// They are u32 there, and the number of all moments is cast, since there is no `u32::from` of a usize.
 #![tactic(auto)]
 
 ghost use Rattle.std.specs.Prelude.{◌≡◌, true, ◌↔◌, ℕ, ◌<◌, ◌≤◌, length, IfSome, IsSomeAnd};

@@ -1,5 +1,6 @@
 // The ends that the conditions of a set leave to members whose begins are fixed.
 // A function asks that begins are below 64: they come as members of sets, and a type for them would be taken apart again at each table entry.
+// A begin that is an index is cast, since there is no `usize::from` of a u32.
 ghost use Rattle.std.specs.Prelude.{◌≡◌, ◌↔◌, ℕ, ◌<◌, ◌≤◌, length};
 ghost use Rattle.bitset.specs.Code.Members.{has, In};
 ghost use Rattle.model.specs.Forms.{condition_number};

@@ -1,4 +1,4 @@
-// The rows of the job end.
+// The rows of the job end. A node's number is cast to be a set's member, since there is no `u32::from` of a usize.
 ghost use Rattle.std.specs.Prelude.{List, ◌≡◌, ℕ, ◌-◌, ◌<◌, ◌≤◌, length, get_or};
 ghost use Rattle.answers.specs.Rows.{first_of};
 ghost use Rattle.job.specs.Before.{before, count_of_kind, named};

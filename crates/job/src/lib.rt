@@ -34,7 +34,8 @@ pub const LAST_MOMENT: usize = MOMENTS - 1;
 // The most words of a kind that is indexed: actions, formulas or nodes.
 pub const MAX_PLACES: usize = 64;
 
-// How many words of one kind there are, and where each stands.
+// How many words of one kind there are, and where each stands. The number stands beside the places, since there is no heap, so that the array has
+// room for those of any job.
 #[derive(Clone, Copy)]
 pub struct Places {
     pub total: usize,

@@ -1,4 +1,5 @@
 // The nodes that the words name as children, as two sets: a node that is named exactly once is in the first alone.
+// A node's number is cast to be a set's member, since there is no `u32::from` of a usize.
 ghost use Rattle.std.specs.Prelude.{ℕ, ◌+◌, ◌<◌, eqb};
 ghost use Rattle.words.specs.Tests.{indicator};
 ghost use Rattle.words.specs.Scan.{count};

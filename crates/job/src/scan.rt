@@ -1,4 +1,5 @@
 // The words in turn: the refusal of each by the rule of its kind, at what the scan keeps of the words before.
+// A group's number is cast to be a set's member, since there is no `u32::from` of a usize.
 ghost use Rattle.std.specs.Prelude.{◌||◌, ◌≡◌, ◌+◌, ◌<◌, ◌≤◌, length, get_or};
 ghost use Rattle.answers.specs.Rows.{first_of};
 ghost use Rattle.bitset.specs.Code.Members.{has, IsSetOf};

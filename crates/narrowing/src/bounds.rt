@@ -1,6 +1,7 @@
 // Bounds on begins by ends: where a condition ties the end of member w to the begin of member j, the begins of j with which w may still end at a
 // moment or later, and at a moment or sooner.
-// Sets have u32 members and arrays usize indices; no From joins them, so both are cast.
+// Sets have u32 members and arrays usize indices; no From joins them, so both are cast. Functions ask that a row is below 16 and a member below the
+// number of members: a type for them would be made and taken apart again at each entry.
 ghost use Rattle.std.specs.Prelude.{◌≡◌, ℕ, ◌<◌, ◌≤◌};
 ghost use Rattle.bitset.specs.Code.Members.{In};
 ghost use Rattle.narrowing.specs.Code.Tables.{BoundsHave, Bounded};

@@ -1,5 +1,5 @@
 // The pause of an end window: how long it may last, and that it is quiet (no action starts in it). Moments are cast to be members of sets, and back,
-// since there is no `From` between usize and u32.
+// since there is no `From` between usize and u32. A function asks that they are below 64: a type for them would be taken apart again each time.
 ghost use Rattle.std.specs.Prelude.{◌≡◌, ◌<◌};
 ghost use Rattle.reading.specs.Code.Quiet.{start_in, AllStarts, QuietUpto, pause_of, at_once};
 

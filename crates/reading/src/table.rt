@@ -1,4 +1,5 @@
 // The table of ends, filled node by node, children before parents. Moments are cast to be members of sets, since there is no `u32::from` of a usize.
+// A function asks that a node is below 64: a type for it would be taken apart again at each entry of the table.
 ghost use Rattle.std.specs.Prelude.{◌≡◌, ◌<◌, length, get_or};
 ghost use Rattle.model.specs.Code.Table.{end_in};
 ghost use Rattle.model.specs.Forms.{Set, form_at};

@@ -1,5 +1,5 @@
 // The search for the begins of a set's members, by its tables. Each member has a word of begins and a word of ends that it may still have; a
-// member that is placed narrows those of all others.
+// member that is placed narrows those of all others. A member of a set that is an index is cast, since there is no `usize::from` of a u32.
 #![tactic(auto)]
 
 ghost use Rattle.ending.specs.Code.Search.{OpenReady, TryReady, Grown, FindsAll};

@@ -1,4 +1,5 @@
 // A search from a moment: the member that begins there and the member that ends last are fixed in turn.
+// A moment that is an index is cast, since there is no `usize::from` of a u32.
 ghost use Rattle.std.specs.Prelude.{◌≡◌, [], ◌∷◌, ℕ, ◌<◌, ◌≤◌};
 ghost use Rattle.bitset.specs.Code.Members.{In};
 ghost use Rattle.narrowing.specs.Code.Tables.{InTables, BoundsHave};

@@ -1,4 +1,5 @@
-// A placement, for whoever writes a reading.
+// A placement, for whoever writes a reading. Moments are members of sets, and the last one is cast to be one, since there is no `u32::from` of a
+// usize; a function asks that they are below 64, since a type for them would be taken apart again at each operation on sets.
 ghost use Rattle.std.specs.Prelude.{ℕ, ◌<◌, ◌≤◌};
 ghost use Rattle.bitset.specs.Code.Members.{Highest, In};
 ghost use Rattle.sets.specs.Code.Rows.{task_set_of, Placed, Placeable};

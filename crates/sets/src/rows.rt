@@ -1,4 +1,5 @@
-// The rows of a task set: for each begin, the mask of the ends that the set reads to.
+// The rows of a task set: for each begin, the mask of the ends that the set reads to. Moments are cast to be
+// members of sets, and back, since there is no `From` between usize and u32.
 ghost use Rattle.std.specs.Prelude.{length};
 ghost use Rattle.sets.specs.Code.Rows.{task_set_of, SetReady, SetRows};
 

@@ -1,4 +1,4 @@
-// The moments at which each action starts.
+// The moments at which each action starts. A moment is cast to be a member of a set, since there is no `u32::from` of a usize.
 ghost use Rattle.std.specs.Prelude.{◌≡◌, ℕ, get_or};
 ghost use Rattle.bitset.specs.Code.Members.{has};
 ghost use Rattle.words.specs.Scan.{any};

@@ -1,4 +1,5 @@
 // A trial by value: a plan stepped by hand. A move takes the trial and hands it back, with its refusal beside it.
+// The number of an action comes from C as a u32, and is cast, since there is no `usize::from` of a u32.
 #![tactic(auto)]
 
 ghost use Rattle.std.specs.Prelude.{◌≡◌, ◌<◌, ltb, length};
