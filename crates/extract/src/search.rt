@@ -1,6 +1,6 @@
-// The searches for the moments of two parts, by the table of ends: a loop's passes are found one at a time, by `cut`. Moments are usize, and a set's
-// members u32: they are cast, since there is no `From` between the two. A function asks that a moment is below 64: a type for it would be taken apart again at
-// each operation on sets.
+// The searches for the moments of two parts, by the table of ends: a loop's passes are found one at a time, by `cut`. Moments are usize, and a
+// set's members u32: they are cast, since there is no `From` between the two. A function asks that a moment is below 64: a type for it would be
+// taken apart again at each operation on sets.
 ghost use Rattle.std.specs.Prelude.{◌≡◌, ◌⊎◌, ◌<◌};
 ghost use Rattle.bitset.specs.Code.Members.{Max};
 ghost use Rattle.model.specs.Code.Table.{InTable};
