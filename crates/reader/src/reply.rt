@@ -30,7 +30,8 @@ pub fn bad_file(out: &mut [u8]) -> &[u8]
 
 const FILE_WORDS: usize = files::MAX_BYTES / 4;
 
-// Zeros, as values whose length alone is known: a goal does not write them out.
+// Zeros, as values whose length alone is known: a goal does not write them out. Those of a file's bytes, of its words and of the lent buffer are
+// functions of their own, since zeros are of two types and more is known of the lent ones.
 fn file_words() -> [u32; FILE_WORDS]
     ensures { 8192 ≡ length result }
 {

@@ -10,7 +10,7 @@ ghost use Rattle.sets.specs.Code.Tables.{InSpan, BoundsFilled};
 ghost use Rattle.sets.specs.Code.Bounds.{Grows, EndMarked};
 
 use crate::span::Span;
-use crate::tables::{members_of, pair};
+use crate::tables::{members_of, pair, pairs};
 use keeping::{BOUNDS, FILLED, PAIRS, SOONER, Tables};
 use words::forms::{BEGIN_AFTER_END, HOLDS_BETWEEN};
 use words::{MEMBERS, MOMENTS};
@@ -78,13 +78,6 @@ fn tied_by(w: u32) -> u64 {
     }
 }
 
-// The pairs of members that some condition ties.
-fn tied(conds: &[u32]) -> u64 {
-    conds
-        .iter()
-        .fold(0, |pairs, &w| bitset::union(pairs, tied_by(w)))
-}
-
 // The bounds of the pair (w, j).
 fn fill_members(ends: &[u64; PAIRS], w: usize, j: usize, span: Span, bounds: &mut [u64; BOUNDS])
     requires { (w < 4) × (j < 4) }
@@ -103,7 +96,7 @@ pub fn fill(span: Span, tables: &mut Tables)
         return;
     }
     let count = tables.count;
-    for p in bitset::members(tied(tables.conditions)) {
+    for p in bitset::members(pairs(tables.conditions, |w| tied_by(w))) {
         if let Some((w, j)) = members_of(p, count) {
             fill_members(&tables.ends, w, j, span, &mut tables.bounds);
         }

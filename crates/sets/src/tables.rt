@@ -169,11 +169,13 @@ fn pairs_of(w: u32) -> u64 {
     bitset::union(pair(i, j), pair(j, i))
 }
 
-// The pairs of members that some condition is on.
-fn constrained(conds: &[u32]) -> u64 {
+// The pairs of members that the conditions give, by what `given` reads from the word of one.
+pub(crate) fn pairs<F: Fn(u32) -> u64>(conds: &[u32], given: F) -> u64
+    requires { F.IsAlwaysCallable given }
+{
     conds
         .iter()
-        .fold(0, |pairs, &w| bitset::union(pairs, pairs_of(w)))
+        .fold(0, |pairs, &w| bitset::union(pairs, given(w)))
 }
 
 // Cuts each pair of different members among `pairs`.
@@ -195,7 +197,7 @@ fn cut_constrained(span: Span, tables: &mut Tables)
     if span.is_short() {
         return;
     }
-    cut_pairs(constrained(tables.conditions), span, tables);
+    cut_pairs(pairs(tables.conditions, |w| pairs_of(w)), span, tables);
 }
 
 // The ends of member i begun at x or later, for each x of the span from the last down.
