@@ -1,4 +1,6 @@
-// What one new start in a trial is tested for. Planning calls an action applicable in a state where it may start.
+// What one new start in a trial is tested for. Planning calls an action applicable in a state where it may start. The moment and the action come
+// apart, since the number of an action that the job lacks fits no word of a start; what is asked of the starts is what the trial and its rows have
+// shown.
 #![tactic(auto)]
 
 ghost use Rattle.std.specs.Prelude.{◌≡◌, ◌<◌, ◌≤◌, length};

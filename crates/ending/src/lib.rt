@@ -14,7 +14,8 @@ use keeping::{Choice, Tables};
 use narrowing::Open;
 use words::MEMBERS;
 
-// The ends found, all at most `upto`, and, where `upto` is one of them, begins for it.
+// The ends found, all at most `upto`, and, where `upto` is one of them, begins for it. The begins are no
+// `Option`: `ends` says whether they count, and a second sign of it would have to agree with the first.
 #[derive(Clone, Copy)]
 pub struct Found {
     pub upto: u32,

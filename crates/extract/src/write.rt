@@ -54,6 +54,7 @@ fn write_passes(source: &Source, triple: Triple, at: usize, buffer: &mut [u32]) 
     let y = words::node_y(source.words[place]);
     let mut m = triple.begin;
     let mut end = at;
+    // a `while`, since each pass begins where the one before ended, which `cut` finds
     while m < e {
         let two = TwoNodes {
             x: y,

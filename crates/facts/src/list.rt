@@ -1,6 +1,7 @@
 // The list of known facts, written to a buffer by the history of a plan. Moments and fluents are plain numbers, and a function asks that they are
-// in range: a type for one would be taken apart again at each entry of the history. That the job passes is asked as `WellFormed`, as
-// docs/CONTRACTS.md has it: a type for a checked job would have its index or its tables in it, and so ask for more.
+// in range: a type for one would be taken apart again at each entry of the history. That the job passes is asked as `WellFormed`: docs/CONTRACTS.md
+// names `fill_facts` and `fill_upto`, so that they may not ask for a checked job's index or tables. The buffer is lent with a position, since the
+// contracts speak of all its words, also of those that stay as they were.
 ghost use Rattle.std.specs.Prelude.{◌≡◌, List, [], ◌∷◌, MatchOption, ℕ, ◌+◌, ◌<◌, ◌≤◌, ◌*◌, length, take, drop};
 ghost use Rattle.words.specs.Fields.{fact_room};
 ghost use Rattle.job.specs.Parts.{head_word, fluents, last_moment};

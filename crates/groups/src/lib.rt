@@ -1,6 +1,7 @@
 // Row 16: groups that exceed their limit. Actions and groups are plain numbers, taken from words: a type for one would be taken apart again at
 // each set and each entry of a table, so that a function asks that an action is below 64. Sets have u32 members, so actions are cast. The job and
-// the durations come apart, as docs/CONTRACTS.md has it: `Actions` has tables that row 16 does not ask for.
+// the durations come apart, and what is needed of them is asked: docs/CONTRACTS.md names `groups_of` and `over_limit`, so that they may not ask for
+// `Actions`, which has tables that row 16 does not need.
 #![tactic(auto)]
 
 ghost use Rattle.std.specs.Prelude.{true, ◌≡◌, ℕ, ◌<◌, ◌≤◌, eqb, length, get_or, take};

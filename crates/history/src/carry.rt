@@ -1,6 +1,6 @@
 // The starts in hand, in a list that a walk of the states carries: those that finish leave it, and those that begin join it. The list has room
-// for 4,096, and a function asks that no more are to be put in: a slice does not say how long it is at most. Durations are a table of numbers,
-// each below 64: a type that says so would ask more of `keep_unfinished`'s callers, as docs/CONTRACTS.md has them, than a slice does.
+// for 4,096, and a function asks that no more are to be put in: a slice does not say how long it is at most. Functions ask that each duration is
+// below 64: docs/CONTRACTS.md names `keep_unfinished`, so that it may not ask for a struct that says so in place of an array.
 ghost use Rattle.std.specs.Prelude.{◌≡◌, List, [], ◌∷◌, ◌++◌, ℕ, ◌+◌, ◌<◌, ◌≤◌, length, get_or, take, drop};
 ghost use Rattle.words.specs.Scan.{take_while};
 ghost use Rattle.history.specs.Held.{begins_at, Lasting, Ascending, HeldList, HoldsNext};

@@ -1,5 +1,6 @@
 // The history of a plan: the state (the values of the fluents) at moment 0, and from each moment to the next, where the starts in hand are
-// carried along. Actions and moments are plain numbers, as in the tables, and the list in hand has room for as many starts as a plan may have.
+// carried along. Actions and moments are plain numbers, since a type for them would be taken apart again at each entry of a table, and the list in
+// hand has room for as many starts as a plan may have.
 ghost use Rattle.std.specs.Prelude.{◌≡◌, List, ◌∷◌, [], ℕ, ◌+◌, ◌<◌, ◌≤◌, length};
 ghost use Rattle.words.specs.Fields.{known_value};
 ghost use Rattle.job.specs.Parts.{actions, fluents, laws_of};

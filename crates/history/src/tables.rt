@@ -1,7 +1,7 @@
 // Tables of the actions, made once for a job: durations, where their laws end, and effects by action and fluent.
 // Actions, fluents and moments are plain numbers, and a function asks of those it takes that they are in range: a type for one would be taken
-// apart again at each entry of a table. What a function asks of the job and the tables it says itself: each asks what it needs of them, and a type
-// with all that is known of them would ask more (docs/CONTRACTS.md names these functions, with what they ask).
+// apart again at each entry of a table. What a function needs of the job and the tables it asks itself: a type with all that is known of them would
+// ask more, which `law_ends`, `laws_of` and `finish_of` may not, since docs/CONTRACTS.md names them.
 ghost use Rattle.std.specs.Prelude.{◌≡◌, Bool, ℕ, ◌^◌, ◌<◌, ◌≤◌, IfSome, length, get_or, replicate};
 ghost use Rattle.words.specs.Fields.{unknown, start_action};
 ghost use Rattle.job.specs.Parts.{actions, laws_of};

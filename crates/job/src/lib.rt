@@ -50,7 +50,8 @@ pub struct Index {
 }
 
 // What the scan keeps of the words before the position that it stands at: how many actions, formulas and nodes they declare, how many
-// members and conditions follow the last node, that node's word, the set of the declared groups, and the nodes named as children.
+// members and conditions follow the last node, that node's word (0 before the first, as `latest` of the definitions has it), the set of the declared
+// groups, and the nodes named as children.
 #[derive(Clone, Copy)]
 pub struct State {
     pub actions: usize,

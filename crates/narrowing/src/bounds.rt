@@ -40,7 +40,7 @@ fn bounded(tables: &Tables, members: &[Choice; MEMBERS], j: usize) -> u64
 }
 
 // The set with the begins that the bounds leave. It has no ends where they leave none.
-pub fn tighten(tables: &Tables, state: Open) -> Open
+pub(crate) fn tighten(tables: &Tables, state: Open) -> Open
     requires { state.last < tables.now.count }
     ensures { (result.from ≡ state.from) × (result.last ≡ state.last) × (result.left ≡ state.left) × ((bs es : ℕ → ℕ) → BoundsHave tables.now.count tables.now.bounds bs es → InDomains tables.now.count state bs es → InDomains tables.now.count result bs es) }
 {

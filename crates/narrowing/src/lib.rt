@@ -15,7 +15,8 @@ pub mod bounds;
 use keeping::{Choice, Tables};
 use words::{MEMBERS, MOMENTS};
 
-// A set from moment `from`, and what each member may still have. Those in `left` are not placed; `last` ends last.
+// A set from moment `from`, and what each member may still have. Those in `left` are not placed; `last` ends last. That `last` is a member is asked,
+// and is no ghost field: how many members there are, the tables say.
 #[derive(Clone, Copy)]
 pub struct Open {
     pub from: u32,
@@ -58,8 +59,8 @@ fn reach(begins: u64, ends: u64) -> u64
     bitset::inter(bitset::from_lowest(begins), bitset::upto_highest(ends))
 }
 
-// Moments up to the first end of `last` that no member that is placed covers; none while `last` is left. It takes the number of members alone: the
-// tables would ask more of its callers, as docs/ARCHITECTURE.md has it.
+// Moments up to the first end of `last` that no member that is placed covers; none while `last` is left. It takes the number of members alone:
+// docs/ARCHITECTURE.md names it, so that it may not ask for the tables, of which more is known.
 pub fn gaps(count: usize, state: Open) -> u64
     requires { (count ≤ 4) × (state.last < count) × (state.from < 64) }
     ensures { (g : ℕ) (bs es : ℕ → ℕ) → In result g → InDomains count state bs es → (state.from ≤ g) × (g ≤ es state.last) × ((i : ℕ) → i < count → bs i ≤ g → g ≤ es i → In state.left i) }

@@ -1,4 +1,5 @@
-// What planread prints for the bytes of its two files. The program only reads the files and writes this text.
+// What planread prints for the bytes of its two files. The program only reads the files and writes this text. That the text has room is asked of the
+// slice that it is written to: docs/CONTRACTS.md names `reply`, so that it may not ask for an array.
 ghost use Rattle.std.specs.Prelude.{◌≡◌, ◌≤◌, length};
 ghost use Rattle.reader.specs.Reply.{bad_file, text_room, lent, Answered, Reply};
 

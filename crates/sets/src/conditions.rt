@@ -1,7 +1,6 @@
-// Conditions: the moments that each allows, as masks.
-// A function asks that its formulas and moments are below 64: they come as a word's fields and as members of sets, and a type for them would be
-// taken apart again at each entry.
-// Sets have u32 members, arrays and a word's fields are usize; no From joins them, so they are cast.
+// Conditions: the moments that each allows, as masks. A function asks that its formulas and moments are below 64, its conditions below 8 and its
+// moments in the span: they come as a word's fields and as members of sets, and a type for them would be taken apart again at each entry. Sets have
+// u32 members, arrays and a word's fields are usize; no From joins them, so they are cast.
 ghost use Rattle.std.specs.Prelude.{◌≡◌, ◌↔◌, ℕ, ◌+◌, ◌*◌, ◌<◌, ◌≤◌, length, get_or};
 ghost use Rattle.bitset.specs.Code.Members.{In};
 ghost use Rattle.words.specs.Fields.{holds};

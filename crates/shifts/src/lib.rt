@@ -15,7 +15,8 @@ use answers::{Refusal, START_OUTSIDE_WINDOWS, refused_at};
 use bitset::{between, has, single, union};
 use words::*;
 
-// As sets: the actions that have shift windows, and for each action the moments at which it may start in one of them.
+// As sets: the actions that have shift windows, and for each action the moments at which it may start in one of them. They
+// are two sets, since `may_start` then is one expression with no branch.
 #[derive(Clone, Copy)]
 pub struct Shifts {
     pub windowed: u64,

@@ -1,6 +1,6 @@
-// The rows on starts, 6 to 10, of a well-formed job; the crates `shifts` and `groups` have the code of rows 15 and 16. Each row's function
-// returns its number at the first word that it fits. What a row asks of the job, of its tables and of the rows before it stands in its clause:
-// each asks for what it needs (docs/CONTRACTS.md names these functions), and a type with all of it would ask for more.
+// The rows on starts, 6 to 10, of a well-formed job; the crates `shifts` and `groups` have the code of rows 15 and 16. Each row's function returns
+// its number at the first word that it fits. What a row needs of the job, of its tables and of the rows before it, it asks itself: docs/ names
+// these functions, so that none may ask for a type that says more than it needs.
 #![tactic(auto)]
 
 ghost use Rattle.std.specs.Prelude.{◌≡◌, length};

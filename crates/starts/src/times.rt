@@ -1,4 +1,4 @@
-// Rows 7 and 8: when starts finish.
+// Rows 7 and 8: when starts finish. A latest finish is 0 for none: no moment is before it, so that no test of it is needed.
 ghost use Rattle.std.specs.Prelude.{◌≡◌, length};
 ghost use Rattle.answers.specs.Rows.{first_of};
 ghost use Rattle.starts.specs.Rows.{ends_late, in_hand_already, numbered};

@@ -1,4 +1,5 @@
-// Row 10: needs that are not met, by the history of the plan.
+// Row 10: needs that are not met, by the history of the plan. A moment is a plain number, and a function asks that it is below 64: a type for it
+// would be taken apart again at each entry of the history.
 ghost use Rattle.std.specs.Prelude.{◌≡◌, ◌+◌, ◌*◌, ◌<◌, length, get_or};
 ghost use Rattle.words.specs.Scan.{any};
 ghost use Rattle.answers.specs.Rows.{first_of};

@@ -169,7 +169,7 @@ pub fn judge_facts(job: &[u32], starts: &[u32], facts: &[u32]) -> Result<Plan, R
     judged
 }
 
-// Runs every row on the job, the starts and the facts; where they pass, no word is written.
+// Runs every row on the job, the starts and the facts; where they pass, no word is written. It reads the plan where it stands, as judge_facts does.
 fn check(job: &[u32], starts: &[u32], facts: &[u32]) -> Result<usize, Refusal>
     ensures { result ≡ ruled (check_refusal job.now starts.now facts.now) 0 }
 {

@@ -1,5 +1,6 @@
-// The four calls on the words of a trial, as the host in C lends them: the moment, the number of starts, the starts. The words are taken
-// apart into a trial, the rows of the move are run, and the trial's words are put back if none refuses. Both numbers are cast, since there is no `From` between u32 and usize.
+// The four calls on the words of a trial, as the host in C lends them: the moment, the number of starts, the starts. The words are taken apart into
+// a trial, the rows of the move are run, and the trial's words are put back if none refuses. Both numbers are cast, since there is no `From`
+// between u32 and usize.
 ghost use Rattle.std.specs.Prelude.{◌≡◌, ◌++◌, ◌≤◌, length, drop};
 ghost use Rattle.theory.specs.Answers.{written};
 ghost use Rattle.moves.specs.Trials.{Start, On, fresh, after};

@@ -32,7 +32,8 @@ pub struct Trial {
     pub starts: [u32; MOST_STARTS],
 }
 
-// What a move hands back: docs/CONTRACTS.md names both fields, since a refused move hands back its trial too.
+// What a move hands back. It is no `Result`: `Stepped`, which is part of the statement, names both fields, since a refused move hands back its
+// trial too.
 #[derive(Clone, Copy)]
 pub struct Moved {
     pub refusal: Refusal,
@@ -109,9 +110,9 @@ impl Trial {
         let mut starts = self.starts;
         insert_word(&self.starts[..self.length], w, &mut starts);
         Trial {
-            moment: self.moment,
             length: self.length + 1,
             starts,
+            ..*self
         }
     }
 
@@ -163,11 +164,7 @@ impl Trial {
         match self.next_moment(job) {
             Ok(moment) => Moved {
                 refusal: none(),
-                trial: Trial {
-                    moment,
-                    length: self.length,
-                    starts: self.starts,
-                },
+                trial: Trial { moment, ..self },
             },
             Err(refusal) => Moved {
                 refusal,
