@@ -25,7 +25,7 @@ pub const BOUNDS: usize = FILLED + MEMBERS;
 
 // What a search knows of a task set of `count` members, four at most, and conditions on them, eight at most: the masks that each condition allows,
 // by pairs of members the ends of i where j begins and the begins of j where i begins, the ends of i begun at a moment or later, and bounds on
-// begins by ends.
+// begins by ends. Memory is fixed: there is room for four members, and `count` says how many there are.
 #[derive(Drop)]
 pub struct Tables<'a> {
     pub conditions: &'a [u32],
