@@ -1,6 +1,5 @@
 // The writers: a node's own word, and then its parts, each by a call for a lower node. Each node is named as a child once, so that nothing
-// The buffer is lent with a position, since the contracts speak of all its words, also of those that stay as they were.
-// is walked twice.
+// is walked twice. The buffer is lent with a position, since the contracts speak of all its words, also of those that stay as they were.
 ghost use Rattle.std.specs.Prelude.{◌≡◌, length};
 ghost use Rattle.model.specs.Forms.{While, form_at};
 ghost use Rattle.extract.specs.Code.Source.{procedure_of, trajectory_of};
