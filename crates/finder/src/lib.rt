@@ -51,8 +51,7 @@ fn readied(job: &[u32], starts: &[u32], facts: &[u32], room: usize) -> Result<Ar
     ensures { Readied room job.now starts.now facts.now result }
 {
     buffer_refusal(room)?;
-    let index = check_job(job)?;
-    let judged = judge(job, &index, starts);
+    let judged = judge(job, check_job(job), starts);
     match &judged {
         Ok(plan) => {
             compare_facts(job, &plan.history, facts)?;

@@ -14,7 +14,7 @@ use lib.ListN.{length, get_or, take, drop, drop_of_length-le}
 use lib.Seq.{sets, sets-eq, take-length, drop-drop}
 use Rattle.words.proofs.Scan.{drop-next}
 use Rattle.words.proofs.Copies.{sets_first}
-use Rattle.answers.proofs.Rows.{or_none, or_refused, or_passed, or_assoc, row-none, handed_on}
+use Rattle.answers.proofs.Rows.{or_none, or_refused, or_passed, or_assoc, row-none, handed_on, ok-passed, err-refused}
 use Rattle.answers.specs.declared.Refusal.{Refusal}
 use Rattle.std.specs.Prelude.{Result, Ok, Err}
 use Rattle.std.specs.Result.{IsErrAnd}
@@ -24,11 +24,13 @@ use Rattle.answers.specs.Rows.{refusal, passed, first_refusal}
 use Rattle.words.specs.Fields.{fact_room}
 use Rattle.job.specs.Parts.{head_word}
 use Rattle.job.specs.Refusal.{job_refusal}
+use Rattle.job.specs.declared.Index.{Index}
+use Rattle.job.specs.Code.Index.{index_of}
 use Rattle.starts.specs.Rows.{starts_refusal}
 use Rattle.facts.specs.Facts.{facts_of}
 use Rattle.facts.specs.Code.Written.{Filled}
 use Rattle.theory.specs.Answers.{buffer_refusal, fact_room_refusal, plan_refusal, facts_refusal, check_refusal, fill_refusal, written}
-use Rattle.theory.specs.Code.Judged.{room_rows}
+use Rattle.theory.specs.Code.Judged.{room_rows, JobRuled, refusal_in}
 use Rattle.theory.specs.Code.Compared.{part_refusal}
 use Rattle.answers.specs.Code.Ruled.{RuledBy, answered, ruled}
 
@@ -78,23 +80,34 @@ module _ (room : ℕ) (job starts : List ℕ) where
       let rows = room_enough room job both.0 in
       (ap (λ r. r.number) (sym (or_passed (job_refusal job) (starts_refusal job starts) rows.0)) ∙ both.1, rows.1)
 
+  -- once row 12 does not fit
+  pub room_fill : (buffer_refusal room).number ≡ 0 → fill_refusal room job starts ≡ first_refusal (room_rows room job) (starts_refusal job starts)
+  room_fill z = fill_rows_lem ∙ sym (or_passed (buffer_refusal room) _ z)
+
   -- the first of them that fits
   pub short_fill : ((buffer_refusal room).number ≡ 0 → ⊥) → fill_refusal room job starts ≡ buffer_refusal room
   short_fill n = fill_rows_lem ∙ sym (or_refused (buffer_refusal room) _ n)
 
-  pub job_fill : (buffer_refusal room).number ≡ 0 → ((room_rows room job).number ≡ 0 → ⊥) → fill_refusal room job starts ≡ room_rows room job
-  job_fill z n = fill_rows_lem ∙ sym (or_passed (buffer_refusal room) _ z) ∙ sym (or_refused (room_rows room job) (starts_refusal job starts) n)
+-- what the rows of a job gave, as `judge` takes it
+pub job_ruled : (rows : Refusal) (job : List ℕ) (r : Result Index Refusal) → r ≡ ruled rows (index_of job) → (rows.number ≡ 0 → (job_refusal job).number ≡ 0)
+    → JobRuled job r
+job_ruled rows job (Ok words) e h = let p = ok-passed _ _ e in record { good = h p.0; index = p.1 }
+job_ruled rows job (Err f) e h = let p = err-refused _ _ e in λ z. p.0 (ap (λ (r : Refusal). r.number) (sym p.1) ∙ z)
 
-  pub plan_fill : (buffer_refusal room).number ≡ 0 → (room_rows room job).number ≡ 0 → fill_refusal room job starts ≡ plan_refusal job starts
-  unfolding plan_refusal
-  plan_fill z e =
-      fill_rows_lem ∙ sym (or_passed (buffer_refusal room) _ z) ∙ sym (or_passed (room_rows room job) (starts_refusal job starts) e)
-      ∙ or_passed (job_refusal job) (starts_refusal job starts) (room_enough room job e).0
+pub rows_in : (rows : Refusal) (job : List ℕ) (r : Result Index Refusal) → r ≡ ruled rows (index_of job) → (s : Refusal)
+    → first_refusal (refusal_in r) s ≡ first_refusal rows s
+rows_in rows job (Ok words) e s = sym (or_passed passed s refl) ∙ or_passed _ s (ok-passed _ _ e).0
+rows_in rows job (Err f) e s = rw (err-refused _ _ e).1
 
--- a job that its rows refuse
-pub by_job : (job starts : List ℕ) → ((job_refusal job).number ≡ 0 → ⊥) → job_refusal job ≡ plan_refusal job starts
+-- the rows of a job that none refuses, and those of the starts, are the plan's; so are check_job's
+pub passed_plan : (job starts : List ℕ) → (job_refusal job).number ≡ 0 → first_refusal passed (starts_refusal job starts) ≡ plan_refusal job starts
 unfolding plan_refusal
-by_job job starts n = or_refused (job_refusal job) (starts_refusal job starts) n
+passed_plan job starts z = sym (or_passed passed (starts_refusal job starts) refl) ∙ or_passed (job_refusal job) (starts_refusal job starts) z
+
+pub plan_in : (job starts : List ℕ) (r : Result Index Refusal) → r ≡ ruled (job_refusal job) (index_of job)
+    → first_refusal (refusal_in r) (starts_refusal job starts) ≡ plan_refusal job starts
+unfolding plan_refusal
+plan_in job starts r e = rows_in (job_refusal job) job r e (starts_refusal job starts)
 
 -- a refusal leaves the buffer
 pub refused_leaves : (e : Refusal) (result : Result ℕ Refusal) (words buffer : List ℕ) → IsErrAnd result (λ f. f ≡ e) → buffer ≡ written (answered result) words buffer

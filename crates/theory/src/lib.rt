@@ -6,8 +6,10 @@ ghost use Rattle.std.specs.Prelude.{List, ◌≡◌, ℕ, ◌≤◌, length, dro
 ghost use Rattle.job.specs.Code.WellFormed.{WellFormed};
 ghost use Rattle.history.specs.Code.Tables.{History};
 ghost use Rattle.facts.specs.Facts.{facts_of};
+ghost use Rattle.answers.specs.Rows.{first_refusal};
+ghost use Rattle.starts.specs.Rows.{starts_refusal};
 ghost use Rattle.theory.specs.Answers.{buffer_refusal, plan_refusal, facts_refusal, check_refusal, check_answer, fill_refusal, fill_answer, written};
-ghost use Rattle.theory.specs.Code.Judged.{room_checked_of, JobChecked, Judgeable, JudgedUpto, Judged};
+ghost use Rattle.theory.specs.Code.Judged.{room_checked_of, JobRuled, refusal_in, Judgeable, JudgedUpto, Judged};
 ghost use Rattle.theory.specs.Code.Compared.{part_refusal};
 ghost use Rattle.answers.specs.Code.Ruled.{answered, ruled};
 
@@ -109,14 +111,15 @@ pub fn check_job_and_room(job: &[u32], room: usize) -> Result<Index, Refusal>
     Ok(checked)
 }
 
-// Runs the rows of the starts, of a job that no row refuses.
+// Runs the rows of the starts, after those that gave `checked`.
 // It is inlined, as judge_facts is: each call between would put one more plan on the stack.
 #[inline(always)]
-pub fn judge(job: &[u32], index: &Index, starts: &[u32]) -> Result<Plan, Refusal>
-    requires { JobChecked job.now index.now }
-    ensures { Judged (plan_refusal job.now starts.now) job.now starts.now result }
+pub fn judge(job: &[u32], checked: Result<Index, Refusal>, starts: &[u32]) -> Result<Plan, Refusal>
+    requires { JobRuled job.now checked }
+    ensures { Judged (first_refusal (refusal_in checked) (starts_refusal job.now starts.now)) job.now starts.now result }
 {
-    judge_starts(job, index, starts, last_of(job[0]))
+    let index = checked?;
+    judge_starts(job, &index, starts, last_of(job[0]))
 }
 
 // Row 11 on one part of the facts: refuses the first difference of the given list, from position `at` on, from that part.
@@ -160,8 +163,7 @@ pub fn compare_facts(job: &[u32], history: &[u8; STATES], given: &[u32]) -> Resu
 pub fn judge_facts(job: &[u32], starts: &[u32], facts: &[u32]) -> Result<Plan, Refusal>
     ensures { Judged (check_refusal job.now starts.now facts.now) job.now starts.now result }
 {
-    let index = check_job(job)?;
-    let judged = judge(job, &index, starts);
+    let judged = judge(job, check_job(job), starts);
     match &judged {
         Ok(plan) => compare_facts(job, &plan.history, facts)?,
         Err(refusal) => return Err(*refusal),
@@ -202,8 +204,7 @@ fn fill(job: &[u32], starts: &[u32], buffer: &mut [u32]) -> Result<usize, Refusa
     ensures buffer_after { buffer.new ≡ written (answered result) (facts_of job.now starts.now) buffer.old }
 {
     buffer_refusal(buffer.len())?;
-    let index = check_job_and_room(job, buffer.len())?;
-    let plan = judge(job, &index, starts)?;
+    let plan = judge(job, check_job_and_room(job, buffer.len()), starts)?;
     Ok(fill_facts(job, &plan.history, buffer))
 }
 

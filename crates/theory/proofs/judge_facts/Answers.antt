@@ -3,41 +3,40 @@ use mathlib.Core.Path.{sym, ◌∙◌, ap}
 use Rattle.answers.specs.declared.Refusal.{Refusal}
 use Rattle.answers.proofs.Rows.{ok-passed, err-refused, or_refused, or_passed}
 use Rattle.job.specs.Code.Index.{checked_of}
-use Rattle.theory.proofs.Laws.{handed_by, check_rows_lem, by_job}
+use Rattle.theory.proofs.Laws.{handed_by, check_rows_lem, job_ruled, plan_in}
 use Rattle.theory.proofs.Passing.{plan_formed}
+use Rattle.theory.specs.Answers.{plan_refusal}
+use Rattle.theory.specs.Code.Judged.{Judged}
 use Rattle.theory.proofs.judge_facts.Goals as goal
-
-pub returns-in_err-index : goal.returns-in_err-index
-unfolding checked_of
-returns-in_err-index c =
-    let a = c.args in
-    let h = err-refused _ _ c.in_err-index.ensures in
-    let plan = by_job a.job.now a.starts.now h.0 in
-    handed_by _ _ c.from_residual.ensures.1 h.1 h.0
-    (plan ∙ or_refused _ _ (λ z. h.0 (ap (λ (r : Refusal). r.number) plan ∙ z)) ∙ sym (check_rows_lem a.job.now a.starts.now a.facts.now))
+use Rattle.theory.proofs.judge_facts.Goals.{After-judge-judged}
 
 pub judge-judged-requires : goal.judge-judged-requires
 unfolding checked_of
-judge-judged-requires c = let h = ok-passed _ _ c.in_ok-index.ensures in record { good = h.0; index = h.1 }
+judge-judged-requires c = job_ruled _ _ _ c.check_job.ensures (λ z. z)
+
+-- the rows of the job and of the starts are the plan's
+judged : (c : After-judge-judged) → let a = c.args in Judged (plan_refusal a.job.now a.starts.now) a.job.now a.starts.now c.judge-judged.result
+unfolding checked_of
+judged c = rw (plan_in _ c.args.starts.now _ c.check_job.ensures) at c.judge-judged.ensures
 
 pub returns-in-Err : goal.returns-in-Err
 returns-in-Err c =
-    let h = rw c.in-Err.is at c.judge-judged.ensures in
+    let h = rw c.in-Err.is at (judged (goal.at.returns-in-Err c).After-judge-judged) in
     let is = or_refused _ _ h.1 ∙ sym (check_rows_lem c.args.job.now c.args.starts.now c.args.facts.now) in
     (h.0 ∙ is, λ z. h.1 (ap (λ (r : Refusal). r.number) is ∙ z))
 
 pub compare_facts-requires : goal.compare_facts-requires
-compare_facts-requires c = plan_formed _ _ (rw c.in-Ok.is at c.judge-judged.ensures).0
+compare_facts-requires c = plan_formed _ _ (rw c.in-Ok.is at (judged (goal.at.compare_facts-requires c).After-judge-judged)).0
 
 pub returns-in_err-compare_facts-in-Ok : goal.returns-in_err-compare_facts-in-Ok
 returns-in_err-compare_facts-in-Ok c =
-    let plan = rw c.in-Ok.is at c.judge-judged.ensures in
+    let plan = rw c.in-Ok.is at (judged (goal.at.returns-in_err-compare_facts-in-Ok c).After-judge-judged) in
     let h = err-refused _ tt (c.in_err-compare_facts-in-Ok.ensures _ plan.1.history) in
-    handed_by _ _ c.from_residual-in_err-compare_facts-in-Ok.ensures.1 h.1 h.0 (or_passed _ _ plan.0 ∙ sym (check_rows_lem c.args.job.now c.args.starts.now c.args.facts.now))
+    handed_by _ _ c.from_residual.ensures.1 h.1 h.0 (or_passed _ _ plan.0 ∙ sym (check_rows_lem c.args.job.now c.args.starts.now c.args.facts.now))
 
 pub returns : goal.returns
 returns c =
-    let plan = rw c.in-Ok.is at c.judge-judged.ensures in
+    let plan = rw c.in-Ok.is at (judged (goal.at.returns c).After-judge-judged) in
     let same = ok-passed _ tt (c.in_ok-compare_facts-in-Ok.ensures _ plan.1.history) in
     rw c.in-Ok.is
     (ap (λ (r : Refusal). r.number) (check_rows_lem c.args.job.now c.args.starts.now c.args.facts.now ∙ sym (or_passed _ _ plan.0)) ∙ same.0, plan.1)

@@ -1,8 +1,8 @@
 -- Between functions: what the rows on a job and its starts show: their refusal, and of a plan that they pass what the later steps use.
-use Rattle.std.specs.Prelude.{Result, List, [], ◌∷◌, ◌≡◌, ℕ, ◌≤◌, ◌<◌, length, get_or}
+use Rattle.std.specs.Prelude.{Result, Ok, Err, MatchResult, List, [], ◌∷◌, ◌≡◌, ℕ, ◌≤◌, ◌<◌, length, get_or}
 use Rattle.words.specs.Fields.{start_moment}
 use Rattle.answers.specs.declared.Refusal.{Refusal}
-use Rattle.answers.specs.Rows.{first_row}
+use Rattle.answers.specs.Rows.{passed, first_row}
 use Rattle.job.specs.declared.Index.{Index}
 use Rattle.job.specs.Parts.{last_moment}
 use Rattle.job.specs.Refusal.{job_refusal}
@@ -25,6 +25,14 @@ room_checked_of room job = ruled (room_rows room job) (index_of job)
 pub record JobChecked (job : List ℕ) (words : Index) : Type 0 where
   pub good : (job_refusal job).number ≡ 0
   pub index : words ≡ index_of job
+
+-- what rows of a job, and perhaps others after them, gave: the index of the words of a job that no row refuses, or a refusal; the refusal
+abbrev pub JobRuled : List ℕ → Result Index Refusal → Type 0
+JobRuled job checked = MatchResult checked (JobChecked job) (λ e. e.number ≡ 0 → ⊥)
+
+abbrev pub refusal_in : Result Index Refusal → Refusal
+refusal_in (Ok words) = passed
+refusal_in (Err e) = e
 
 -- of a plan that passes the rows of its job and its starts: the index of its job's words, the durations of its actions, where their laws end,
 -- their effects and shift windows, its groups, its history up to moment k; the same with the whole history
