@@ -1,12 +1,12 @@
 -- The members of the sets that the operations make, by the relation `In`. Assumes nothing.
-use Prim.Native.Nat.{ℕ, zero, ◌^◌, ◌≤◌, ◌<◌}
+use Prim.Native.Nat.{ℕ, zero, ◌^◌, ◌≤◌, ◌<◌, max}
 use mathlib.Core.Path.{◌≡◌, refl, sym, ap, ◌∙◌}
-use mathlib.Core.Bool.{not, ◌&&◌, ◌||◌}
+use mathlib.Core.Bool.{true, not, ◌&&◌, ◌||◌}
 use mathlib.Core.Logic.{◌↔◌, ◌⊎◌, inl, inr, ⊎_elim}
 use lib.Dec.{leb, ltb, eqb}
 use lib.ListN.{get_or, replicate}
 use borrow.Author.Tests.{leb-true, ltb-true, eqb-true, le-leb, lt-ltb, eq-eqb, ne_eqb}
-use Rattle.bitset.specs.Code.Members.{has, IsSetOf, In, Lowest, Dropped}
+use Rattle.bitset.specs.Code.Members.{has, IsSetOf, In, Lowest, Dropped, Max}
 use Rattle.words.proofs.Choices.{both_true}
 use Rattle.words.proofs.Entries.{entries_alike}
 use Rattle.bitset.proofs.Bools.{not_both, either, or_cases, or_left, or_right, both}
@@ -74,6 +74,13 @@ pub in_more : {r x : ℕ} {P P' Q : ℕ → Type 0} → ((e : ℕ) → In r e �
 in_more new turn old e = (
   λ t. (turn e).1 (⊎_elim (λ p. inl ((old e).0 p)) inr ((new e).0 t)),
   λ p. (new e).1 (⊎_elim (λ q. inl ((old e).1 q)) inr ((turn e).0 p)),
+)
+
+-- The members of a set of maxima are the numbers max i j, of a member i of one set and a member j of the other.
+pub in_max : {r a b : ℕ} → ((k : ℕ) → (has r k ≡ true) ↔ Max a b k) → (k : ℕ) → In r k ↔ ((i : ℕ) × (j : ℕ) × (k ≡ max i j) × In a i × In b j)
+in_max h k = (
+  λ t. let m = (h k).0 t.yes in (m.i, m.j, m.is_max, record { yes = m.in_a }, record { yes = m.in_b }),
+  λ m. record { yes = (h k).1 (record { i = m.0; j = m.1; in_a = m.3.yes; in_b = m.4.yes; is_max = m.2 }) },
 )
 
 -- an array of empty sets

@@ -1,12 +1,12 @@
 -- Lists written to a buffer, one after the other, and word by word. Assumes nothing.
 use mathlib.Core.List.{List, [], ◌∷◌, ◌++◌}
-use mathlib.Core.Path.{◌≡◌, ◌∙◌}
+use mathlib.Core.Path.{◌≡◌, sym, ◌∙◌}
 use Prim.Native.Nat.{ℕ, suc, ◌+◌, ◌-◌, ◌≤◌}
 use native.Mathlib.Nat.{add-zero, zero-add, add-suc, suc-add}
 use native.Mathlib.Numerals.{add-one}
 use native.Mathlib.Omega.{arith}
 use lib.ListN.{length, take, drop, set, length-drop, length-append}
-use lib.Seq.{sets, sets-eq, take-length, length-take-le, take_at}
+use lib.Seq.{sets, sets-eq, take-length, length-take-le, take-take, take_at}
 use Rattle.words.specs.Scan.{take_while}
 use Rattle.words.specs.Lists.{insert}
 use Rattle.words.specs.Code.Place.{not_above}
@@ -25,6 +25,12 @@ sets_front buffer ws n h =
 
 pub sets_first : (buffer ws : List ℕ) → length ws ≤ length buffer → take (length ws) (sets buffer 0 ws) ≡ ws
 sets_first buffer ws h = rw zero-add at (sets_front buffer ws 0 (rw zero-add h))
+
+-- A list that is written after the first n words of a buffer leaves these as they were.
+pub sets_before : (buffer ws : List ℕ) (n : ℕ) → n + length ws ≤ length buffer → take n (sets buffer n ws) ≡ take n buffer
+sets_before buffer ws n h =
+    let front = take n buffer in
+    sym (take-take n (n + length ws) (sets buffer n ws) (omega arith)) ∙ rw (sets_front buffer ws n h) (take_at front ws n (length-take-le n buffer (omega arith)))
 
 -- the words that stay before w, then w, then the rest
 module _ (buffer list : List ℕ) (w i : ℕ) {b : List ℕ} (p : b ≡ sets buffer 0 (take i list))
