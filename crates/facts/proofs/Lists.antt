@@ -66,6 +66,11 @@ module _ (head t : ℕ) (row : List ℕ) where
 
 -- by a history, of which a row is read
 module _ (history : List ℕ) (head t : ℕ) where
+  -- The facts of the first 0 fluents are none.
+  pub row-none : row_facts history head t 0 ≡ []
+  unfolding row_facts concat_below
+  row-none = refl
+
   pub row-most : (n : ℕ) → length (row_facts history head t n) ≤ n
   unfolding row_facts
   row-most n = facts_most head t (λ f. get_or history (t * 256 + f) 0) n

@@ -14,6 +14,7 @@ use lib.ListN.{length, get_or, set, replicate, length-set, length-replicate, get
 use lib.Seq.{get_or-set_same, get_or-set_other, get_or-append_seam}
 use Rattle.words.specs.Fields.{unknown}
 use Rattle.words.specs.Scan.{any, find_or}
+use Rattle.words.proofs.Entries.{entries_more}
 use Rattle.history.specs.Code.Stores.{Overlaid, Reads, RowStored}
 
 -- what a list gives, by its first part and the rest
@@ -94,6 +95,21 @@ any-gives test v other (w ∷ ws) = cases (test w) (any-gives test v other ws)
     cases : (b : Bool) → find_or test (λ w. v) other ws ≡ cond (any test ws) v other → cond b v (find_or test (λ w. v) other ws) ≡ cond (b || any test ws) v other
     cases true e = refl
     cases false e = e
+
+module _ {row : List ℕ} {a : ℕ} {old : List ℕ} where
+  -- Before the first store the table is as it was, with none of the row's entries at their places.
+  pub row-none : RowStored row a 0 old old
+  row-none = record { size = refl; here = λ f l. absurd (omega arith); earlier = λ i l. refl }
+
+  -- A table that has the first n entries of the row has one more once entry n is stored at its place, which lies within the table.
+  pub row_more : {n : ℕ} (cur : List ℕ) → a * 256 + n < length cur → RowStored row a n old cur
+      → RowStored row a (n + 1) old (set cur (a * 256 + n) (get_or row n 0))
+  row_more {n} cur r h =
+      record {
+        size = length-set cur (a * 256 + n) (get_or row n 0) ∙ h.size;
+        here = entries_more (λ f. a * 256 + f) (λ f x. x ≡ get_or row f 0) cur n (get_or row n 0) r (λ f l q. omega arith) h.here refl;
+        earlier = λ i l. rw (get_or-set_other cur (a * 256 + n) i (get_or row n 0) 0 (λ q. omega arith)) (h.earlier i l);
+      }
 
 -- a table of rows of 256 on the way: the first n entries of each row before row a
 pub record Rows (value : ℕ → ℕ → ℕ) (n a : ℕ) (table : List ℕ) : Type 0 where

@@ -59,6 +59,11 @@ pub count_none : (job : List ℕ) (k : ℕ) → count_of_kind k (before job 0) �
 unfolding count_of_kind before
 count_none job k = refl
 
+-- Before the first word no node is named.
+pub named_none : (job : List ℕ) (v : ℕ) → named v (before job 0) ≡ 0
+unfolding named before
+named_none job v = refl
+
 -- what one word more makes of each fact
 module _ (job : List ℕ) (i : ℕ) where
   pub count-more : (k : ℕ) → count_of_kind k (before job (i + 1)) ≡ count_of_kind k (before job i) + indicator (eqb (kind (get_or job i 0)) k)
