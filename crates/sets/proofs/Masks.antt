@@ -10,7 +10,7 @@ use lib.Dec.{eqb}
 use lib.ListN.{get_or}
 use lib.Count.{count_trailing_zeros}
 use borrow.Author.Tests.{eqb-true, eq-eqb}
-use Rattle.bitset.specs.Code.Members.{has, IsSetOf, In}
+use Rattle.bitset.specs.Code.Members.{has, IsSetOf, In, Highest}
 use Rattle.bitset.proofs.Bools.{not_both}
 use Rattle.bitset.proofs.Ends.{lowest}
 use Rattle.bitset.proofs.In.{in_zero, in_single, in_union}
@@ -86,6 +86,16 @@ module _ (value : ℕ → ℕ → ℕ) (k : ℕ) {fails : ℕ} (P : ℕ → Type
   through {r} lo hi b seen is = (
     λ z t g h. held t (seen t g h) (λ u. in_zero (eqb-true r 0 z) ((is t).1 (u, (g, h)))),
     λ h. eq-eqb r 0 (empty_zero b (λ t u. let o = (is t).0 u in (f t (seen t o.1.0 o.1.1)).0 o.0 (h t o.1.0 o.1.1))),
+  )
+
+  -- The formula holds at each moment from lo up to hi just where the highest moment up to hi at which it fails is before lo.
+  pub until : {g hi : ℕ} → Highest fails hi g → (lo : ℕ) → ((t : ℕ) → lo ≤ t → t ≤ hi → P t)
+      → (g < lo) ↔ ((t : ℕ) → lo ≤ t → t ≤ hi → value k t ≡ holds)
+  until {g} {hi} h lo seen = (
+    λ b t m u. held t (seen t m u) (λ i. not_both i.yes (h.last t (omega arith) u)),
+    λ m. by_cases (dec_lt g lo) (λ b. b) (λ b.
+        let l : lo ≤ g = omega arith in
+        absurd ((f g (seen g l h.upto)).0 (record { yes = h.member }) (m g l h.upto))),
   )
 
 -- ---- the mask of a condition word

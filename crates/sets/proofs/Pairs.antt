@@ -9,20 +9,20 @@ use lib.ListN.{length, get_or, set, length-set, length-map, get_or-map}
 use lib.Seq.{get_or-set_same, get_or-set_other}
 use Rattle.bitset.specs.Code.Members.{In}
 use Rattle.bitset.proofs.In.{in_zero}
-use Rattle.words.specs.Fields.{member_node, condition_formula, condition_i, condition_j, condition_m, condition_n}
-use Rattle.model.specs.Forms.{ConditionForm, BeginAfterBegin, BeginAfterEnd, HoldsBefore, HoldsAfter, HoldsBetween, ReservedCondition, condition_form}
+use Rattle.words.specs.Fields.{form, member_node, condition_formula, condition_i, condition_j, condition_m, condition_n}
+use Rattle.model.specs.Forms.{ConditionForm, BeginAfterBegin, BeginAfterEnd, HoldsBefore, HoldsAfter, HoldsBetween, ReservedCondition, condition_number, condition_form}
 use Rattle.model.specs.Code.Arrays.{value_in}
 use Rattle.model.specs.Code.Table.{InTable}
 use Rattle.sets.specs.Set.{TaskSet, member_count, MetAs, MetAt}
 use Rattle.sets.specs.Code.Set.{member, Formed}
 use Rattle.sets.specs.Code.Rows.{task_set_of, Placed}
-use Rattle.ending.specs.Code.Ends.{asked, partner, partner_of, MetByMask}
+use Rattle.ending.specs.Code.Ends.{asked, partner, partner_of, MetAtMask, MetByMask}
 use Rattle.keeping.specs.Code.Tables.{pair_at}
 use Rattle.keeping.specs.declared.Tables.{Tables}
 use Rattle.narrowing.specs.Code.Tables.{EndsHave, GoesHave, BoundsHave, InTables}
 use Rattle.ending.specs.Code.Search.{Masked}
 use Rattle.sets.specs.Code.Masks.{Allowed}
-use Rattle.sets.specs.Code.Tables.{Have, Fewer, LeftOut, InSpan, Unpruned, OwnRow, OwnRows, SameElse, TablesOf}
+use Rattle.sets.specs.Code.Tables.{Have, Fewer, LeftOut, Cut, InSpan, Unpruned, OwnRow, OwnRows, SameElse, TablesOf}
 use Rattle.ending.proofs.Conditions.{partner-less}
 
 -- ---- one mask of an array more
@@ -62,6 +62,10 @@ asked-within HoldsAfter g h l = (omega arith, l)
 asked-within HoldsBetween g h l = (omega arith, l)
 asked-within ReservedCondition g h l = (omega arith, l)
 
+-- The partner that the fields of a condition word give, once they are read, is the word's partner.
+pub partner-is : {f i j r : ℕ} (w : ℕ) → f ≡ form w → i ≡ condition_i w → j ≡ condition_j w → r ≡ partner (condition_number f) i j → r ≡ partner_of w
+partner-is w p q s h = rw (p, q, s) at h
+
 module _ {value : ℕ → ℕ → ℕ} {cs allow : List ℕ} {n a z count : ℕ} (allowed : Allowed value cs n a z (length cs) allow)
     (named : (c : ℕ) → c < length cs → (condition_i (get_or cs c 0) < count) × (condition_j (get_or cs c 0) < count))
     {bs es : ℕ → ℕ} (within : InSpan count a z bs es) where
@@ -79,6 +83,43 @@ module _ {value : ℕ → ℕ → ℕ} {cs allow : List ℕ} {n a z count : ℕ}
       let u = asked-as (condition_form w) value n (condition_formula w) (condition_m w) (condition_n w) i j (es i) bs in
       let v = asked-within (condition_form w) o.0 o.1 o.2 in
       (λ t. u.0 (k.0 t).2, λ t. k.1 (v.0, v.1, u.1 t))
+
+-- ---- rows of pairs that the mask of condition c cuts
+
+-- where row k, l of a table of pairs is cut, what the table has of i and j it still has, if the mask of the condition has what it has of k and l
+cut_kept : (X W : ℕ → ℕ → ℕ) (allow T T' : List ℕ) (c k l count a z : ℕ) → count ≤ 4 → z < 64 → k < count → l < count
+    → ((i j : ℕ) → i < count → j < count → (a ≤ X i j) × (X i j ≤ z)) → In (get_or allow (c * 64 + X k l) 0) (W k l)
+    → Cut T (k * 4 + l) allow c a z T' → (i j : ℕ) → i < count → j < count → In (pair_at T i j (X i j)) (W i j) → In (pair_at T' i j (X i j)) (W i j)
+cut_kept X W allow T T' c k l count a z few small kb lb within met cut i j ib jb t = cut ((i * 4 + j) * 64 + X i j) (W i j) t (λ y q g h.
+    let w = within i j ib jb in
+    let p : k ≡ i = omega arith in
+    let r : l ≡ j = omega arith in
+    let u : X i j ≡ y = omega arith in
+    subst (λ (y : ℕ). In (get_or allow (c * 64 + y) 0) (W i j)) u
+    (subst (λ (j : ℕ). In (get_or allow (c * 64 + X i j) 0) (W i j)) r (subst (λ (i : ℕ). In (get_or allow (c * 64 + X i l) 0) (W i l)) p met)))
+
+module _ {E G : List ℕ} {count : ℕ} {bs es : ℕ → ℕ} (allow : List ℕ) (w i j c a z : ℕ) (few : count ≤ 4) (small : z < 64) (is : i ≡ condition_i w)
+    (js : j ≡ partner_of w) (first : condition_i w < count) (second : condition_j w < count) (within : InSpan count a z bs es)
+    (met : MetAtMask w allow bs c (es (condition_i w))) (have : Have E G count bs es) where
+  -- Where the begins of i, where its partner j begins, are cut by a condition on the begin of i, the tables keep the begins and ends that meet it.
+  pub cut_goes : {G' : List ℕ} → ((x e : ℕ) → asked (condition_form w) x e ≡ x) → Cut G (j * 4 + i) allow c a z G' → Have E G' count bs es
+  cut_goes {G'} begin cut =
+      let l = partner-less (condition_form w) first second in
+      record {
+        ends = have.ends;
+        goes = λ k m g h. cut_kept (λ k m. bs k) (λ k m. bs m) allow G G' c j i count a z few small (omega arith) (omega arith)
+            (λ k m g h. let o = within k g in (o.0, omega arith)) (rw (is, js) (rw begin at met)) cut k m g h (have.goes k m g h);
+      }
+
+  -- Where the ends of i, where its partner j begins, are cut by a condition on the end of i, the tables keep the begins and ends that meet it.
+  pub cut_ends : {E' : List ℕ} → ((x e : ℕ) → asked (condition_form w) x e ≡ e) → Cut E (i * 4 + j) allow c a z E' → Have E' G count bs es
+  cut_ends {E'} end cut =
+      let l = partner-less (condition_form w) first second in
+      record {
+        ends = λ k m g h. cut_kept (λ k m. bs m) (λ k m. es k) allow E E' c i j count a z few small (omega arith) (omega arith)
+            (λ k m g h. let o = within m h in (o.0, omega arith)) (rw (is, js) (rw end at met)) cut k m g h (have.ends k m g h);
+        goes = have.goes;
+      }
 
 -- ---- own rows
 
@@ -183,6 +224,10 @@ same_parts q = record { masks = record { conditions = q.0; count = q.1; allow = 
 -- what one step after the other leaves out
 pub left_more : {count a z : ℕ} {E G E' G' E₂ G₂ : List ℕ} → LeftOut count a z E G E' G' → LeftOut count a z E' G' E₂ G₂ → LeftOut count a z E G E₂ G₂
 left_more v o = record { fewer = λ p e t. v.fewer p e (o.fewer p e t); kept = λ bs es w h. o.kept bs es w (v.kept bs es w h) }
+
+-- Nothing is left out of tables that stay as they are.
+pub left_none : {count a z : ℕ} {E G : List ℕ} → LeftOut count a z E G E G
+left_none = record { fewer = λ p e t. t; kept = λ bs es w h. h }
 
 -- ---- what the tables say
 
