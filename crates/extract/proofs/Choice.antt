@@ -4,15 +4,15 @@ use mathlib.Core.Path.{◌≡◌, ◌∙◌}
 use mathlib.Core.Logic.{◌⊎◌, inl, inr, ⊎_elim}
 use mathlib.Core.List.{List, [], ◌∷◌, ◌++◌}
 use native.Mathlib.Omega.{arith}
-use lib.ListN.{length, length-take}
+use lib.ListN.{length, length-take, length-map}
 use lib.Seq.{get_or-take}
 use Rattle.words.specs.Scan.{concat_below}
-use Rattle.words.specs.Fields.{holds, reading_word}
+use Rattle.words.specs.Fields.{holds, reading_word, member_node}
 use Rattle.model.specs.Trajectory.{Trajectory}
 use Rattle.model.specs.Procedure.{Procedure}
 use Rattle.sets.specs.Set.{member_count}
 use Rattle.sets.specs.Code.Set.{member}
-use Rattle.sets.specs.Code.Rows.{Placeable}
+use Rattle.sets.specs.Code.Rows.{task_set_of, Placeable}
 use Rattle.model.specs.Code.Table.{InTable}
 use Rattle.model.specs.declared.Triple.{Triple}
 use Rattle.model.specs.Forms.{Form, Act, Test, Sequence, Choice, If, StartWindow, EndWindow, Set, Reserved, form_at, field_x, field_y, field_m, field_n}
@@ -205,3 +205,7 @@ module _ {P : Procedure} {T : Trajectory} {started size : ℕ} {places table : L
             reads = λ us rs. rw size (set f (λ i h. rw (part i h) at (rs i (rw size h))) pl);
           },
         )
+
+-- A task set that can be placed, given by its member words, has at most four of these.
+pub few_members : (ms cs vs table : List ℕ) (n b e : ℕ) → Placeable (task_set_of ms cs vs n) table b e → length ms ≤ 4
+few_members ms cs vs table n b e s = rw (length-map ms member_node) at s.formed.few
