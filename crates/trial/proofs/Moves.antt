@@ -4,7 +4,8 @@ use mathlib.Core.Path.{◌≡◌, refl, ap, sym, ◌∙◌}
 use Prim.Native.Nat.{ℕ, ◌+◌, ◌<◌, ◌≤◌}
 use native.Mathlib.Numerals.{add-one}
 use native.Mathlib.Omega.{arith}
-use borrow.Author.Tests.{eq-eqb, le-leb, lt-leb}
+use borrow.Author.Tests.{eq-eqb, le-leb, lt-leb, leb-false}
+use lib.Dec.{leb}
 use lib.ListN.{length, take}
 use lib.Seq.{sets, length-sets, length-take-le}
 use Rattle.words.specs.Fields.{start_word}
@@ -13,8 +14,8 @@ use Rattle.words.proofs.Copies.{sets_first}
 use Rattle.words.proofs.Lists.{first_words-take}
 use Rattle.words.proofs.Insert.{insert-length}
 use Rattle.answers.specs.declared.Refusal.{Refusal}
-use Rattle.answers.specs.Rows.{refusal, passed}
-use Rattle.answers.proofs.Rows.{or_refused, or_passed}
+use Rattle.answers.specs.Rows.{refusal, passed, row}
+use Rattle.answers.proofs.Rows.{or_refused, or_passed, row-none}
 use Rattle.job.specs.Parts.{last_moment}
 use Rattle.job.specs.Refusal.{job_refusal}
 use Rattle.job.specs.Code.WellFormed.{WellFormed}
@@ -101,6 +102,10 @@ module _ (job : List ℕ) (t : Trial) (s : Sized t) where
   pub own_on : t.moment < last_moment job → (own_refusal job (trial_of t) On).number ≡ 0
   unfolding on_refusal
   own_on l = rw (lt-leb (last_moment job) t.moment l)
+
+  -- Where the row that refuses a trial from moment n on gives no number, the trial's moment is before n.
+  pub before_last : {n : ℕ} {r : Refusal} → r ≡ row (leb n t.moment) 14 0 → r.number ≡ 0 → t.moment < n
+  before_last {n} is z = leb-false _ _ (row-none (leb n t.moment) 14 0 (omega arith) (ap (λ (r : Refusal). r.number) (sym is) ∙ z))
 
   pub facts_shown : facts_upto job (take t.length t.starts) t.moment ≡ shown_facts job (trial_of t)
   facts_shown = rw taken
