@@ -30,7 +30,8 @@ sets_first buffer ws h = rw zero-add at (sets_front buffer ws 0 (rw zero-add h))
 pub sets_before : (buffer ws : List ℕ) (n : ℕ) → n + length ws ≤ length buffer → take n (sets buffer n ws) ≡ take n buffer
 sets_before buffer ws n h =
     let front = take n buffer in
-    sym (take-take n (n + length ws) (sets buffer n ws) (omega arith)) ∙ rw (sets_front buffer ws n h) (take_at front ws n (length-take-le n buffer (omega arith)))
+    sym (take-take n (n + length ws) (sets buffer n ws) (omega arith))
+    ∙ rw (sets_front buffer ws n h) (take_at front ws n (length-take-le n buffer (omega arith)))
 
 -- the words that stay before w, then w, then the rest
 module _ (buffer list : List ℕ) (w i : ℕ) {b : List ℕ} (p : b ≡ sets buffer 0 (take i list))
