@@ -152,7 +152,7 @@ pub fn placed(tables: &Tables, state: Open, i: usize, x: u32, found: u64) -> Ope
     if next.members[state.last].ends == 0 {
         return next;
     }
-    bounds::tighten(tables, next)
+    bounds::tighten(&tables.bounds, tables.count, next)
 }
 
 // The set from a to z before any member is placed: each may begin at any moment, and `last` ends at one of `goal`.

@@ -11,7 +11,7 @@ loop-w-preserved c =
     let both = in_both c.inter-r.ensures in
     record {
       tied = λ k t. v.tied k ((in_without (turn.1.rest w turn.0) k).0 t).0;
-      kept = λ bs es h b e. let j = c.args.j in let o = h w j t.0 c.requires t.1 in
+      kept = λ bs es h b e. let j = c.args.j in let o = h w j t.0 c.requires.1 t.1 in
           (both (bs j)).1 (v.kept bs es h b e, c.beside-kept.ensures (bs j) (es w) (e w t.0) (record { late = o.0; soon = o.1 }));
       fewer = λ x t. v.fewer x ((both x).0 t).0;
     }

@@ -7,7 +7,7 @@ use Rattle.narrowing.proofs.bounds.bounded.Given as goal
 
 abbrev pub invariant-loop-w : goal.invariant-loop-w
 invariant-loop-w l = record {
-  tied : (w : ℕ) → In l.w-iterator.left w → (w < l.tables.count) × In (get_or l.tables.bounds (2048 + l.j) 0) w;
-  kept : (bs es : ℕ → ℕ) → BoundsHave l.tables.count l.tables.bounds bs es → In (choice_at l.members l.j).begins (bs l.j) → ((i : ℕ) → i < l.tables.count → In (choice_at l.members i).ends (es i)) → In l.r (bs l.j);
+  tied : (w : ℕ) → In l.w-iterator.left w → (w < l.count) × In (get_or l.bounds (2048 + l.j) 0) w;
+  kept : (bs es : ℕ → ℕ) → BoundsHave l.count l.bounds bs es → In (choice_at l.members l.j).begins (bs l.j) → ((i : ℕ) → i < l.count → In (choice_at l.members i).ends (es i)) → In l.r (bs l.j);
   fewer : (x : ℕ) → In l.r x → In (choice_at l.members l.j).begins x;
 }

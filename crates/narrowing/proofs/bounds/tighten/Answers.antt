@@ -4,7 +4,7 @@ use native.Mathlib.Omega.{arith}
 use lib.ListN.{length-set}
 use Rattle.bitset.proofs.In.{in_zero}
 use Rattle.narrowing.proofs.Moves.{fits-set}
-use Rattle.narrowing.proofs.bounds.tighten.Goals.{then-tables-j-ne0+else-kept-eq0, else-tables-j-ne0}
+use Rattle.narrowing.proofs.bounds.tighten.Goals.{then-bounds-j-ne0+else-kept-eq0, else-bounds-j-ne0}
 use Rattle.narrowing.proofs.bounds.tighten.Goals as goal
 
 pub returns-then-kept-eq0 : goal.returns-then-kept-eq0
@@ -21,13 +21,13 @@ pub loop-j-preserved : goal.loop-j-preserved
 loop-j-preserved c =
     let l = c.loop-j in
     let v = l.invariant in
-    elim c.if-tables-j-ne0.branch [
-      | then-tables-j-ne0+else-kept-eq0 w ↦ rw w.members-is (record {
+    elim c.if-bounds-j-ne0.branch [
+      | then-bounds-j-ne0+else-kept-eq0 w ↦ rw w.members-is (record {
         four = simp length-set v.four;
         fits = λ bs es b f.
             let t = v.fits bs es b f in
             let n = w.bounded-kept.ensures in
-            fits-set _ l.j _ (omega (arith, v.four, c.args.tables.now.few, c.loop-j-test.true)) t (λ g. n.0 bs es b (t.begins l.j g) t.ends) (t.ends l.j) n.1;
+            fits-set _ l.j _ (omega (arith, v.four, c.requires.0, c.loop-j-test.true)) t (λ g. n.0 bs es b (t.begins l.j g) t.ends) (t.ends l.j) n.1;
       })
-      | else-tables-j-ne0 w ↦ rw w.members-is v
+      | else-bounds-j-ne0 w ↦ rw w.members-is v
     ]
