@@ -7,7 +7,7 @@
 
 ghost use Rattle.std.specs.Prelude.{◌≡◌, ◌↔◌, ◌⊎◌, not, ◌&&◌, ℕ, ◌<◌, ◌≤◌, eqb};
 ghost use Rattle.bitset.specs.Code.Members.{has, In, IsSetOf};
-ghost use Rattle.narrowing.specs.Code.Tables.{InTables, BoundsHave};
+ghost use Rattle.narrowing.specs.Code.Tables.{InTables, LaterHave, BoundsHave};
 ghost use Rattle.narrowing.specs.Code.Open.{UnplacedReady, PutReady, InDomains};
 
 pub mod bounds;
@@ -155,10 +155,11 @@ pub fn placed(tables: &Tables, state: Open, i: usize, x: u32, found: u64) -> Ope
     bounds::tighten(&tables.bounds, tables.count, next)
 }
 
-// The set from a to z before any member is placed: each may begin at any moment, and `last` ends at one of `goal`.
+// The set from a to z before any member is placed: each may begin at any moment, and `last` ends at one of `goal`. Of the tables it reads the later
+// ends alone, so that what it promises holds whatever the ends and begins by pairs are.
 pub fn unplaced(tables: &Tables, a: u32, z: u32, last: usize, goal: u64) -> Open
     requires { UnplacedReady tables.now.count last a z }
-    ensures { (result.from ≡ a) × (result.last ≡ last) × ((i : ℕ) → In result.left i ↔ (i < tables.now.count)) × ((bs es : ℕ → ℕ) → InTables tables.now a bs es → ((i : ℕ) → i < tables.now.count → (a ≤ bs i) × (bs i ≤ es i) × (es i ≤ es last) × (es i ≤ z)) → In goal (es last) → InDomains tables.now.count result bs es) }
+    ensures { (result.from ≡ a) × (result.last ≡ last) × ((i : ℕ) → In result.left i ↔ (i < tables.now.count)) × ((bs es : ℕ → ℕ) → LaterHave tables.now.count tables.now.later a bs es → ((i : ℕ) → i < tables.now.count → (a ≤ bs i) × (bs i ≤ es i) × (es i ≤ es last) × (es i ≤ z)) → In goal (es last) → InDomains tables.now.count result bs es) }
 {
     let begins = bitset::between(a, z);
     let mut members = [Choice { begins, ends: 0 }; MEMBERS];

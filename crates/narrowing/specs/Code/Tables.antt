@@ -13,6 +13,10 @@ EndsHave count ends bs es = (i j : ℕ) → i < count → j < count → In (pair
 abbrev pub GoesHave : ℕ → List ℕ → (ℕ → ℕ) → Type 0
 GoesHave count goes bs = (i j : ℕ) → i < count → j < count → In (pair_at goes i j (bs i)) (bs j)
 
+-- ends of i begun at x or later, for each moment x from lo to the begin of i
+abbrev pub LaterHave : ℕ → List ℕ → ℕ → (ℕ → ℕ) → (ℕ → ℕ) → Type 0
+LaterHave count later lo bs es = (i x : ℕ) → i < count → lo ≤ x → x ≤ bs i → In (get_or later (i * 64 + x) 0) (es i)
+
 -- the bounds: at (w * 4 + j) * 64 + e begins of j with which w may end at e or later, 1024 further those with which it may end at e or sooner;
 -- at 2048 + j the members w for which they are filled
 abbrev pub BoundsHave : ℕ → List ℕ → (ℕ → ℕ) → (ℕ → ℕ) → Type 0
@@ -28,4 +32,4 @@ pub record Bounded (bounds : List ℕ) (p y e : ℕ) : Type 0 where
 pub record InTables (t : Tables) (lo : ℕ) (bs es : ℕ → ℕ) : Type 0 where
   pub ends : EndsHave t.count t.ends bs es
   pub goes : GoesHave t.count t.goes bs
-  pub later : (i x : ℕ) → i < t.count → lo ≤ x → x ≤ bs i → In (get_or t.later (i * 64 + x) 0) (es i)
+  pub later : LaterHave t.count t.later lo bs es

@@ -59,7 +59,7 @@ loop-last-preserved c =
                   masked = subst (λ (x : ℕ). Masked a.tables.now x e bs es) (sym u.0) k;
                   tables = subst (λ (x : ℕ). InTables a.tables.now x bs es) (sym u.0) t;
                   bounded = b;
-                  fits = u.3 bs es t (λ i p. let h = k.inside i p in (h.0, h.1, omega (arith, h.2, last), omega (arith, h.2, upto)))
+                  fits = u.3 bs es t.later (λ i p. let h = k.inside i p in (h.0, h.1, omega (arith, h.2, last), omega (arith, h.2, upto)))
                       (subst (λ (x : ℕ). In a.goal x) (sym last) g);
                   final = subst (λ (x : ℕ). es x ≡ e) (sym u.1) last;
                 }) (q ∙ sym u.0)),
