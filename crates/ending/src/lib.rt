@@ -6,7 +6,7 @@ ghost use Rattle.std.specs.Prelude.{ℕ, ◌<◌, ◌≤◌};
 ghost use Rattle.bitset.specs.Code.Members.{In};
 ghost use Rattle.covering.specs.Code.Cover.{entry_at};
 ghost use Rattle.narrowing.specs.Code.Open.{choice_at};
-ghost use Rattle.ending.specs.Code.Search.{LeafReady, Grown, FindsAll};
+ghost use Rattle.ending.specs.Code.Search.{LeafReady, Grown, FindsFitting};
 
 pub mod ends;
 
@@ -39,10 +39,11 @@ fn first_begins(tables: &Tables, members: &[Choice; MEMBERS], a: u32, z: u32) ->
     r
 }
 
-// `found` with the ends to which the set reads, all members placed.
+// `found` with the ends to which the set reads, all members placed. Of the tables it reads the conditions, their masks and the members' own ends, so
+// that what it promises holds whatever the begins by pairs, the later ends and the bounds are.
 pub fn leaf(tables: &Tables, state: Open, found: Found) -> Found
     requires { LeafReady tables.now state found.upto }
-    ensures { Grown tables.now state.from found result × FindsAll tables.now state result }
+    ensures { Grown tables.now state.from found result × FindsFitting tables.now state result }
 {
     let begins = first_begins(tables, &state.members, state.from, found.upto);
     let masks = ends::ends_at(tables, begins);

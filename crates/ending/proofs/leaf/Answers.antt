@@ -10,7 +10,8 @@ use Rattle.bitset.specs.Code.Members.{In}
 use Rattle.bitset.proofs.Bools.{not_both}
 use Rattle.bitset.proofs.In.{in_union, in_zero}
 use Rattle.covering.specs.Code.Cover.{entry_at, Coverable}
-use Rattle.ending.specs.Code.Search.{SoughtPlacement, ReadsWith, BeginsKept, Grown}
+use Rattle.narrowing.specs.Code.Open.{InDomains}
+use Rattle.ending.specs.Code.Search.{Masked, ReadsWith, BeginsKept, Grown}
 use Rattle.ending.specs.declared.Found.{Found}
 use Rattle.ending.proofs.Leaves.{front_covers, onward, reads_with, covers_all}
 use Rattle.ending.proofs.leaf.Goals as goal
@@ -35,12 +36,12 @@ reads c e t = reads_with c.requires.state.ready c.ends_at-masks.ensures c.first_
 
 -- the end of each placement that is sought is covered
 finds : (c : After-covered-got) (e : ℕ) (bs es : ℕ → ℕ) → let a = c.args in e ≤ a.found.upto
-    → SoughtPlacement a.tables.now a.state e bs es → In c.covered-got.result e
-finds c e bs es u h =
+    → Masked a.tables.now a.state.from e bs es → InDomains a.tables.now.count a.state bs es → In c.covered-got.result e
+finds c e bs es u m fits =
     let same : (i : ℕ) → i < c.args.tables.now.count → bs i ≡ entry_at c.first_begins-begins.result i
-    = λ i l. let o = h.masked.inside i l in
-    sym (h.fits.fixed i _ l (λ t. in_zero c.requires.placed t) (c.first_begins-begins.ensures.2 i (bs i) l (h.fits.begins i l) o.0 (omega (arith, o, u)))) in
-    (covers c e).1 (covers_all c.requires.state.ready c.ends_at-masks.ensures c.first_begins-begins.ensures.0 same h.masked)
+    = λ i l. let o = m.inside i l in
+    sym (fits.fixed i _ l (λ t. in_zero c.requires.placed t) (c.first_begins-begins.ensures.2 i (bs i) l (fits.begins i l) o.0 (omega (arith, o, u)))) in
+    (covers c e).1 (covers_all c.requires.state.ready c.ends_at-masks.ensures c.first_begins-begins.ensures.0 same m)
 
 -- what is covered is not after the last moment
 within : (c : After-covered-got) (e : ℕ) → In c.covered-got.result e → e ≤ c.args.found.upto
@@ -68,11 +69,11 @@ grown c ends all kept begins moments = record {
 pub returns-then-has : goal.returns-then-has
 returns-then-has c = let g = (goal.at.returns-then-has c).After-covered-got in let all = in_union c.union-ends.ensures in (
   grown g c.union-ends.result all _ (λ h t. reads g _ (record { yes = sym c.has.ensures ∙ c.if-has.true })) (λ h. c.first_begins-begins.ensures.1),
-  λ e bs es l h. (all e).1 (inr (finds g e bs es l h)),
+  λ e bs es l m h. (all e).1 (inr (finds g e bs es l m h)),
 )
 
 pub returns : goal.returns
 returns c = let g = (goal.at.returns c).After-covered-got in let all = in_union c.union-ends.ensures in (
   grown g c.union-ends.result all _ (λ h t. ⊎_elim h (λ v. not_both v.yes (sym c.has.ensures ∙ c.if-has.false)) ((all _).0 t)) (λ h. h),
-  λ e bs es l h. (all e).1 (inr (finds g e bs es l h)),
+  λ e bs es l m h. (all e).1 (inr (finds g e bs es l m h)),
 )

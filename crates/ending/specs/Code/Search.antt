@@ -65,6 +65,10 @@ pub record Grown (t : Tables) (b : ℕ) (old new : Found) : Type 0 where
   pub within : ((e : ℕ) → In old.ends e → e ≤ old.upto) → (e : ℕ) → In new.ends e → e ≤ new.upto
   pub moments : ((i : ℕ) → entry_at old.begins i < 64) → (i : ℕ) → entry_at new.begins i < 64
 
+-- what a set whose members are all placed must find: the end of each placement by the masks that fits in it, whatever else the tables have
+abbrev pub FindsFitting : Tables → Open → Found → Type 0
+FindsFitting t o r = (e : ℕ) (bs es : ℕ → ℕ) → e ≤ r.upto → Masked t o.from e bs es → InDomains t.count o bs es → In r.ends e
+
 -- a placement to e that an open set still has
 pub record SoughtPlacement (t : Tables) (o : Open) (e : ℕ) (bs es : ℕ → ℕ) : Type 0 where
   pub masked : Masked t o.from e bs es

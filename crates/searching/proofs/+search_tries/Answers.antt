@@ -13,7 +13,7 @@ use Rattle.searching.proofs.Growth.{fewer, grown_none, grown_more, grown_as, rea
 use Rattle.searching.proofs.+search_tries.Goals as goal
 
 pub search-returns-then-state-eq0 : goal.search-returns-then-state-eq0
-search-returns-then-state-eq0 t c = let e = c.leaf.ensures in (e.0, e.1)
+search-returns-then-state-eq0 t c = let f = c.leaf.ensures in (f.0, λ e bs es l s. f.1 e bs es l s.masked s.fits)
 
 pub search-loop-rest-init : goal.search-loop-rest-init
 search-loop-rest-init t c =
