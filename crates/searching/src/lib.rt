@@ -42,7 +42,10 @@ fn tries(tables: &Tables, state: Open, i: usize, found: Found) -> Found
     requires { TryReady tables.now state i found.upto }
     ensures { Grown tables.now state.from found result × FindsAll tables.now state result }
 {
-    let may = state.members[i];
+    // What is indexed is taken out of its struct first: an index into a field of a struct by value copies the struct whole, at each begin.
+    let members = state.members;
+    let may = members[i];
+    let last = state.last;
     let mut r = found;
     for x in bitset::members(may.begins) {
         let row = keeping::pair_at(&tables.ends, i, i, x);
@@ -50,7 +53,8 @@ fn tries(tables: &Tables, state: Open, i: usize, found: Found) -> Found
             continue;
         }
         let next = narrowing::placed(tables, state, i, x, r.ends);
-        if next.members[state.last].ends != 0 {
+        let left = next.members;
+        if left[last].ends != 0 {
             r = search(tables, next, r);
         }
     }

@@ -77,8 +77,8 @@ tries-search-r-requires t c =
     )
 
 -- a begin that is tried
-pub tries-loop-x-preserved-then-next-state-ne0 : goal.tries-loop-x-preserved-then-next-state-ne0
-tries-loop-x-preserved-then-next-state-ne0 t c =
+pub tries-loop-x-preserved-then-left-last-ne0 : goal.tries-loop-x-preserved-then-left-last-ne0
+tries-loop-x-preserved-then-left-last-ne0 t c =
     let v = c.loop-x.invariant in
     let w = c.placed-next.ensures in
     let g = grown_as w.0 c.search-r.ensures.0 in
@@ -90,7 +90,7 @@ tries-loop-x-preserved t c =
     let v = c.loop-x.invariant in
     let w = c.placed-next.ensures in
     let none : (choice_at c.placed-next.result.members c.placed-next.result.last).ends ≡ 0
-    = subst (λ (x : ℕ). (choice_at c.placed-next.result.members x).ends ≡ 0) (sym w.1) (omega (arith, c.if-next-state-ne0.false)) in (
+    = subst (λ (x : ℕ). (choice_at c.placed-next.result.members x).ends ≡ 0) (sym w.1) (omega (arith, c.if-left-last-ne0.false)) in (
       v.0,
       tried w.0 w.1 c.in-Some.ensures.steps.0 c.in-Some.ensures.steps.1 w.3 grown_none
           (finds_none c.placed-next.result c.loop-x.r (omega (arith, w.1, c.requires.state.last)) none) v.1,
