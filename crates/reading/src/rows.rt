@@ -24,7 +24,11 @@ fn window(first: usize, end: usize, last: usize) -> u64
     if last < first {
         return 0;
     }
-    bitset::between(first as u32, end.min(last) as u32)
+    // two calls, and not one up to `end.min(last)`: so the mask up to `last` is made once, outside the loop of `windows`
+    if last < end {
+        return bitset::between(first as u32, last as u32);
+    }
+    bitset::between(first as u32, end as u32)
 }
 
 // The moments that lie a pause after some member of `ends`, none after `last`.
