@@ -4,7 +4,7 @@ use Prim.Native.Nat.{ℕ, zero, suc, ◌+◌, ◌-◌, ◌≤◌, ◌<◌}
 use mathlib.Core.Path.{◌≡◌, refl, ap₂, ◌∙◌}
 use mathlib.Core.Bool.{cond}
 use mathlib.Core.Logic.{by_cases}
-use mathlib.Core.List.{List, [], ◌++◌, append_assoc, append-nil}
+use mathlib.Core.List.{List, [], ◌∷◌, ◌++◌, append_assoc, append-nil}
 use native.Mathlib.Decide.{ℕ_discrete}
 use native.Mathlib.Numerals.{add-one}
 use native.Mathlib.Omega.{arith}
@@ -13,6 +13,7 @@ use lib.ListN.{length, length-append}
 use borrow.Author.Tests.{eq-eqb, ne_eqb}
 use Rattle.model.specs.Code.Table.{InTable}
 use Rattle.words.specs.Scan.{concat_below}
+use Rattle.words.specs.Fields.{reading_word}
 use Rattle.words.proofs.Concat.{concat-cong}
 use Rattle.model.specs.Trajectory.{Trajectory}
 use Rattle.model.specs.Procedure.{Procedure}
@@ -21,11 +22,11 @@ use Rattle.model.specs.declared.Triple.{Triple}
 use Rattle.reading.specs.Reading.{whole, passes, Reading, act, test, sequence, first, second, taken, otherwise, loop, done, pass, start_window, end_window, set}
 use Rattle.reading.proofs.Step.{onward}
 use Rattle.reading.specs.Code.Quiet.{at_once}
-use Rattle.extract.specs.Code.Parts.{Prepared, Chosen, part_of}
+use Rattle.extract.specs.Code.Parts.{Prepared, Choosable, Chosen, part_of}
 use Rattle.extract.specs.Code.Search.{CutAt, CutReady}
 use Rattle.extract.proofs.Choice.{end_last, moment}
 use Rattle.extract.specs.Code.Contract.{Full, Rest, Writable, ReadingWritten}
-use Rattle.extract.proofs.Written.{written_then, written-map}
+use Rattle.extract.proofs.Written.{written_none, written_then, written-map}
 
 -- ---- readings taken apart
 
@@ -124,6 +125,10 @@ module _ {P : Procedure} {T : Trajectory} {started job : ℕ} {places table : Li
       let end = end_last s.prepared node begin s.found in
       (omega arith, omega arith, omega arith)
 
+  -- its parts can be chosen, where it is no loop
+  pub choosable : (form_at P t.node ≡ While → ⊥) → Choosable P T started job places table t
+  choosable other = record { prepared = s.prepared; known = s.known; within = s.within; found = s.found; other = other }
+
 -- ---- the node's own word
 
 module _ {P : Procedure} {T : Trajectory} {started job : ℕ} {places table : List ℕ} {t : Triple} {at size : ℕ} (s : Writable Full P T started job places table t at size) where
@@ -131,6 +136,15 @@ module _ {P : Procedure} {T : Trajectory} {started job : ℕ} {places table : Li
   has_room =
       let r = read s.prepared s.known s.within s.found in
       omega (arith, s.room r.0 r.1, nonempty r.1)
+
+  pub headed : Writable Rest P T started job places table t (at + 1) size
+  headed = record {
+    prepared = s.prepared;
+    known = s.known;
+    within = s.within;
+    found = s.found;
+    room = λ ws r. omega (arith, s.room (reading_word t.node t.begin t.end ∷ ws) r);
+  }
 
 module _ {P : Procedure} {T : Trajectory} {started job : ℕ} {places table : List ℕ} {t : Triple} {at size : ℕ} (s : Writable Rest P T started job places table t at size) where
   -- ---- parts
@@ -169,6 +183,9 @@ module _ {P : Procedure} {T : Trajectory} {started job : ℕ} {places table : Li
       pub part_more : {buf' : List ℕ} {end' : ℕ} → ReadingWritten (Full P T (part_of ts i)) buf end buf' end' → ReadingWritten (Done P T ts (i + 1)) before at buf' end'
       part_more x = written_then (λ ws us d y. done_more d y) w x
 
+    pub part_end : {before buf : List ℕ} {i end : ℕ} → i ≡ length ts → ReadingWritten (Done P T ts i) before at buf end → ReadingWritten (Rest P T t) before at buf end
+    part_end {i = i} h w = written-map (λ ws d. whole_parts (rw h at d)) w
+
   -- ---- passes
 
   module _ (f : form_at P t.node ≡ While) where
@@ -184,6 +201,9 @@ module _ {P : Procedure} {T : Trajectory} {started job : ℕ} {places table : Li
     -- the passes from a moment on
     from : {m : ℕ} → m ≤ T.last → InTable table t.node m t.end → (us : List ℕ) × Reading P T passes t.node m t.end us
     from l h = loop_of f (read s.prepared s.known l h).1
+
+    pub pass_start : (l : List ℕ) → Halfway P T table t l at t.begin l at
+    pass_start l = record { written = written_none l at (λ vs r. r); begin = s.within; ahead = s.found }
 
     module _ {before buf : List ℕ} {m here : ℕ} (h : Halfway P T table t before at m buf here) where
       pub pass_some : {y : ℕ} → y ≡ field_y P t.node → m < t.end → (k : ℕ) × (i : ℕ) × CutAt table y t.node m t.end at_once (m + 1) k i

@@ -2,9 +2,9 @@
 // parts of a node), write (the words, node by node).
 #![tactic(auto)]
 
-ghost use Rattle.std.specs.Prelude.{length};
-ghost use Rattle.extract.specs.Code.Source.{procedure_of, trajectory_of};
-ghost use Rattle.extract.specs.Code.Contract.{EmittableBy, Emitted};
+ghost use Rattle.std.specs.Prelude.{List, ℕ, length};
+ghost use Rattle.extract.specs.Code.Source.{unseen_of};
+ghost use Rattle.extract.specs.Code.Contract.{EmittableBy, EmittedBy};
 
 use model::{Arrays, Triple};
 
@@ -24,8 +24,8 @@ pub struct Source<'a> {
 
 // Writes a reading of the root from moment 0 to the last at the front of the buffer, and returns how many words it has.
 pub fn emit(source: &Source, buffer: &mut [u32]) -> usize
-    requires { EmittableBy source.now (length buffer.old) }
-    ensures { Emitted (procedure_of source.now) (trajectory_of source.now) buffer.old buffer.new result }
+    requires { (starts : List ℕ) × (durations : List ℕ) × EmittableBy source.now (length buffer.old) (unseen_of source.now starts durations) }
+    ensures { (starts durations : List ℕ) → EmittableBy source.now (length buffer.old) (unseen_of source.now starts durations) → EmittedBy source.now buffer.old buffer.new result (unseen_of source.now starts durations) }
 {
     let root = Triple {
         node: source.arrays.count - 1,

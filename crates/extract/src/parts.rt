@@ -5,6 +5,7 @@ ghost use Rattle.words.specs.Fields.{holds};
 ghost use Rattle.model.specs.Code.Arrays.{members_at, conditions_at};
 ghost use Rattle.model.specs.Code.Table.{InTable};
 ghost use Rattle.sets.specs.Code.Rows.{task_set_of, Placeable};
+ghost use Rattle.extract.specs.Code.Source.{Unseen};
 ghost use Rattle.extract.specs.Code.Search.{Within, CutAt, CutReady, StartAt, StartReady};
 ghost use Rattle.extract.specs.Code.Parts.{triple_of, parts_from, IsPlaced, PlacedParts, ChoosableBy, ChosenBy};
 
@@ -113,8 +114,8 @@ fn set_parts(source: &Source, place: usize, b: usize, e: usize) -> Parts
 
 // The parts that a reading of the triple, which the table says there is, can be made of; its node is no loop.
 pub fn choose_parts(source: &Source, triple: Triple) -> Parts
-    requires { ChoosableBy source.now triple }
-    ensures { ChosenBy source.now triple result }
+    requires { (u : Unseen) × ChoosableBy source.now triple u }
+    ensures { (u : Unseen) → ChoosableBy source.now triple u → ChosenBy source.now triple result u }
 {
     let b = triple.begin;
     let e = triple.end;

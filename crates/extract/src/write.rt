@@ -2,7 +2,7 @@
 // is walked twice. The buffer is lent with a position, since the contracts speak of all its words, also of those that stay as they were.
 ghost use Rattle.std.specs.Prelude.{◌≡◌, length};
 ghost use Rattle.model.specs.Forms.{While, form_at};
-ghost use Rattle.extract.specs.Code.Source.{procedure_of, trajectory_of};
+ghost use Rattle.extract.specs.Code.Source.{Unseen, procedure_by, trajectory_by};
 ghost use Rattle.extract.specs.Code.Contract.{Full, Rest, WritableBy, ReadingWritten};
 
 use crate::search::TwoNodes;
@@ -14,8 +14,8 @@ use words::forms::WHILE;
 // Writes a reading of the triple into the buffer from `at` on, and returns the place after it.
 #[cycle(write_parts_write_passes_write_reading)]
 pub fn write_reading(source: &Source, triple: Triple, at: usize, buffer: &mut [u32]) -> usize
-    requires { WritableBy Full source.now triple at (length buffer.old) }
-    ensures { ReadingWritten (Full (procedure_of source.now) (trajectory_of source.now) triple) buffer.old at buffer.new result }
+    requires { (u : Unseen) × WritableBy Full source.now triple at (length buffer.old) u }
+    ensures { (u : Unseen) → WritableBy Full source.now triple at (length buffer.old) u → ReadingWritten (Full (procedure_by source.now u) (trajectory_by source.now u) triple) buffer.old at buffer.new result }
 {
     let p = triple.node;
     let b = triple.begin;
@@ -31,8 +31,8 @@ pub fn write_reading(source: &Source, triple: Triple, at: usize, buffer: &mut [u
 // Writes the parts of the node, which is no loop.
 #[cycle(write_parts_write_passes_write_reading)]
 fn write_parts(source: &Source, triple: Triple, at: usize, buffer: &mut [u32]) -> usize
-    requires { WritableBy Rest source.now triple at (length buffer.old) × (form_at (procedure_of source.now) triple.node ≡ While → ⊥) }
-    ensures { ReadingWritten (Rest (procedure_of source.now) (trajectory_of source.now) triple) buffer.old at buffer.new result }
+    requires { (u : Unseen) × WritableBy Rest source.now triple at (length buffer.old) u × (form_at (procedure_by source.now u) triple.node ≡ While → ⊥) }
+    ensures { (u : Unseen) → WritableBy Rest source.now triple at (length buffer.old) u → (form_at (procedure_by source.now u) triple.node ≡ While → ⊥) → ReadingWritten (Rest (procedure_by source.now u) (trajectory_by source.now u) triple) buffer.old at buffer.new result }
 {
     let parts = parts::choose_parts(source, triple);
     let mut end = at;
@@ -45,8 +45,8 @@ fn write_parts(source: &Source, triple: Triple, at: usize, buffer: &mut [u32]) -
 // Writes the passes of the node, which is a loop, one after the other.
 #[cycle(write_parts_write_passes_write_reading)]
 fn write_passes(source: &Source, triple: Triple, at: usize, buffer: &mut [u32]) -> usize
-    requires { WritableBy Rest source.now triple at (length buffer.old) × (form_at (procedure_of source.now) triple.node ≡ While) }
-    ensures { ReadingWritten (Rest (procedure_of source.now) (trajectory_of source.now) triple) buffer.old at buffer.new result }
+    requires { (u : Unseen) × WritableBy Rest source.now triple at (length buffer.old) u × (form_at (procedure_by source.now u) triple.node ≡ While) }
+    ensures { (u : Unseen) → WritableBy Rest source.now triple at (length buffer.old) u → form_at (procedure_by source.now u) triple.node ≡ While → ReadingWritten (Rest (procedure_by source.now u) (trajectory_by source.now u) triple) buffer.old at buffer.new result }
 {
     let p = triple.node;
     let e = triple.end;

@@ -10,7 +10,7 @@ use Rattle.reading.specs.Reading.{whole, Reading}
 use Rattle.model.specs.Code.Forms.{NamedOnce}
 use Rattle.lengths.specs.Code.Bound.{length_bound}
 use Rattle.extract.specs.declared.Source.{Source}
-use Rattle.extract.specs.Code.Source.{procedure_of, trajectory_of}
+use Rattle.extract.specs.Code.Source.{Unseen, procedure_by, trajectory_by}
 use Rattle.extract.specs.Code.Parts.{Prepared}
 
 -- there is room from `at` on for every list of words that R allows
@@ -34,9 +34,9 @@ pub record Writable (R : Procedure → Trajectory → Triple → List ℕ → Ty
   pub found : InTable table t.node t.begin t.end
   pub room : Room (R P T t) at size
 
--- the same of the arrays
-abbrev pub WritableBy : (Procedure → Trajectory → Triple → List ℕ → Type 0) → Source → Triple → ℕ → ℕ → Type 0
-WritableBy R s t at size = Writable R (procedure_of s) (trajectory_of s) s.started (length s.words.now) s.arrays.now.places s.table.now t at size
+-- the same of the arrays, with what the writer does not see
+abbrev pub WritableBy : (Procedure → Trajectory → Triple → List ℕ → Type 0) → Source → Triple → ℕ → ℕ → Unseen → Type 0
+WritableBy R s t at size u = Writable R (procedure_by s u) (trajectory_by s u) s.started (length s.words.now) s.arrays.now.places s.table.now t at size
 
 -- words that R allows stand in the buffer from `at` up to `end`, and all else is as it was
 -- (`sets` stores a list's elements one after the other; `lib.Seq.sets-eq` gives it as take at .. ++ words ++ drop end ..)
@@ -54,9 +54,9 @@ pub record Emittable (P : Procedure) (T : Trajectory) (started job : ℕ) (place
   pub found : InTable table (P.count - 1) 0 T.last
   pub room : length_bound P T.last ≤ size
 
--- the same of the arrays
-abbrev pub EmittableBy : Source → ℕ → Type 0
-EmittableBy s size = Emittable (procedure_of s) (trajectory_of s) s.started (length s.words.now) s.arrays.now.places s.table.now size
+-- the same of the arrays, with what the writer does not see
+abbrev pub EmittableBy : Source → ℕ → Unseen → Type 0
+EmittableBy s size u = Emittable (procedure_by s u) (trajectory_by s u) s.started (length s.words.now) s.arrays.now.places s.table.now size
 
 -- what it promises: a reading's words at the buffer's front, as many as it returns, and the rest of the buffer as it was
 pub record Emitted (P : Procedure) (T : Trajectory) (before after : List ℕ) (count : ℕ) : Type 0 where
@@ -66,3 +66,7 @@ pub record Emitted (P : Procedure) (T : Trajectory) (before after : List ℕ) (c
   pub bounded : count ≤ length_bound P T.last
   pub few : count ≤ 4032
   pub buffer : after ≡ words ++ drop count before
+
+-- the same of the arrays
+abbrev pub EmittedBy : Source → List ℕ → List ℕ → ℕ → Unseen → Type 0
+EmittedBy s before after count u = Emitted (procedure_by s u) (trajectory_by s u) before after count

@@ -17,7 +17,7 @@ use Rattle.reading.specs.Code.Table.{Found}
 use Rattle.reading.specs.Code.Quiet.{AllStarts}
 use Rattle.extract.specs.declared.Source.{Source}
 use Rattle.extract.specs.declared.parts.Parts.{Parts}
-use Rattle.extract.specs.Code.Source.{procedure_of, trajectory_of}
+use Rattle.extract.specs.Code.Source.{Unseen, procedure_by, trajectory_by}
 
 abbrev pub triple_of : ℕ → ℕ → ℕ → Triple
 triple_of p b e = record { node = p; begin = b; end = e }
@@ -69,9 +69,9 @@ pub record Chosen (P : Procedure) (T : Trajectory) (table : List ℕ) (p b e : �
   pub reads : (us : ℕ → List ℕ) → ((i : ℕ) → i < length ts → Reading P T whole (part_of ts i).node (part_of ts i).begin (part_of ts i).end (us i))
       → Reading P T whole p b e (reading_word p b e ∷ concat_below us (length ts))
 
--- a triple whose parts can be chosen, and a choice of them, of the arrays
-abbrev pub ChoosableBy : Source → Triple → Type 0
-ChoosableBy s t = Choosable (procedure_of s) (trajectory_of s) s.started (length s.words.now) s.arrays.now.places s.table.now t
+-- a triple whose parts can be chosen, and a choice of them, of the arrays, with what the writer does not see
+abbrev pub ChoosableBy : Source → Triple → Unseen → Type 0
+ChoosableBy s t u = Choosable (procedure_by s u) (trajectory_by s u) s.started (length s.words.now) s.arrays.now.places s.table.now t
 
-abbrev pub ChosenBy : Source → Triple → Parts → Type 0
-ChosenBy s t r = (r.count ≤ 4) × Chosen (procedure_of s) (trajectory_of s) s.table.now t.node t.begin t.end (parts_in r)
+abbrev pub ChosenBy : Source → Triple → Parts → Unseen → Type 0
+ChosenBy s t r u = (r.count ≤ 4) × Chosen (procedure_by s u) (trajectory_by s u) s.table.now t.node t.begin t.end (parts_in r)

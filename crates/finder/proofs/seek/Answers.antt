@@ -27,12 +27,15 @@ has_end-requires c =
 pub emit-length-requires : goal.emit-length-requires
 emit-length-requires c =
     let s = c.requires in
-    emit_ready _ _ _ s.clear s.represented c.tabulate-count.ensures c.all_starts-started.ensures (sym c.has_end.ensures ∙ c.if-has_end.true) (omega (arith, s.room))
+    let w = c.args.arrays.now in
+    (w.starts, w.durations, emit_ready _ _ _ s.clear s.represented c.tabulate-count.ensures c.all_starts-started.ensures (sym c.has_end.ensures ∙ c.if-has_end.true) (omega (arith, s.room)))
 
 pub returns-then-has_end : goal.returns-then-has_end
 returns-then-has_end c =
     let s = c.requires in
-    let emitted = c.emit-length.ensures in record {
+    let w = c.args.arrays.now in
+    let root = sym c.has_end.ensures ∙ c.if-has_end.true in
+    let emitted = c.emit-length.ensures w.starts w.durations (emit_ready _ _ _ s.clear s.represented c.tabulate-count.ensures c.all_starts-started.ensures root (omega (arith, s.room))) in record {
       searched = written-reading _ _ _ s.clear s.represented c.tabulate-count.ensures emitted;
       in_range = (omega (arith, emitted.few, c.tabulate-count.ensures.small), omega (arith, emitted.few));
     }

@@ -29,7 +29,7 @@ module _ {P : Procedure} {T : Trajectory} {started size : ℕ} {places table : L
 
 pub end_window_parts-requires : goal.end_window_parts-requires
 end_window_parts-requires c =
-    let h = c.requires in
+    let h = c.requires.1 in
     rw c.at_once.ensures (record {
       within = pair h c.node_of-node.ensures.x.1 c.node_of-node.ensures.y.1;
       early = omega arith;
@@ -38,11 +38,11 @@ end_window_parts-requires c =
     })
 
 pub choose-requires-clause-in_table : goal.choose-requires-clause-in_table
-choose-requires-clause-in_table c = let h = c.requires in choice_some h.prepared h.known h.within h.found (ap form_number (sym c.node_of-node.ensures.form.0 ∙ c.in-3.is)) c.node_of-node.ensures.x.0 c.node_of-node.ensures.y.0
+choose-requires-clause-in_table c = let h = c.requires.1 in choice_some h.prepared h.known h.within h.found (ap form_number (sym c.node_of-node.ensures.form.0 ∙ c.in-3.is)) c.node_of-node.ensures.x.0 c.node_of-node.ensures.y.0
 
 pub start_window_parts-requires : goal.start_window_parts-requires
 start_window_parts-requires c =
-    let h = c.requires in
+    let h = c.requires.1 in
     record {
       within = pair h c.node_of-node.ensures.x.1 c.node_of-node.ensures.y.1;
       early = c.node_of-node.ensures.m.1;
@@ -52,7 +52,7 @@ start_window_parts-requires c =
 
 pub end_window_parts-requires-in-7 : goal.end_window_parts-requires-in-7
 end_window_parts-requires-in-7 c =
-    let h = c.requires in
+    let h = c.requires.1 in
     rw c.pause_of.ensures (record {
       within = pair h c.node_of-node.ensures.x.1 c.node_of-node.ensures.y.1;
       early = rw (← c.node_of-node.ensures.m.0) c.node_of-node.ensures.m.1;
@@ -61,29 +61,26 @@ end_window_parts-requires-in-7 c =
     })
 
 pub set_parts-requires : goal.set_parts-requires
-set_parts-requires c = let h = c.requires in (h.prepared.ready.inside c.args.triple.node h.known, set-some h.prepared h.known h.within h.found (ap form_number (sym c.node_of-node.ensures.form.0 ∙ c.in-8.is)))
+set_parts-requires c = let h = c.requires.1 in (h.prepared.ready.inside c.args.triple.node h.known, set-some h.prepared h.known h.within h.found (ap form_number (sym c.node_of-node.ensures.form.0 ∙ c.in-8.is)))
 
 pub returns-in-0 : goal.returns-in-0
-returns-in-0 c = let h = c.requires in rw c.parts_of.ensures (omega arith, act_chosen h.prepared h.known h.within h.found (ap form_number (sym c.node_of-node.ensures.form.0 ∙ c.in-0.is)))
+returns-in-0 c = λ u h. rw c.parts_of.ensures (omega arith, act_chosen h.prepared h.known h.within h.found (ap form_number (sym c.node_of-node.ensures.form.0 ∙ c.in-0.is)))
 
 pub returns-in-1 : goal.returns-in-1
-returns-in-1 c = let h = c.requires in rw c.parts_of-in-1.ensures (omega arith, test_chosen h.prepared h.known h.within h.found (ap form_number (sym c.node_of-node.ensures.form.0 ∙ c.in-1.is)))
+returns-in-1 c = λ u h. rw c.parts_of-in-1.ensures (omega arith, test_chosen h.prepared h.known h.within h.found (ap form_number (sym c.node_of-node.ensures.form.0 ∙ c.in-1.is)))
 
 pub returns-in-2 : goal.returns-in-2
-returns-in-2 c =
-    let h = c.requires in
+returns-in-2 c = λ u h.
     let (k, l, found, is) = c.end_window_parts.ensures in
     rw is (omega arith, sequence_chosen h.prepared h.known h.within h.found (ap form_number (sym c.node_of-node.ensures.form.0 ∙ c.in-2.is)) c.node_of-node.ensures.x.0 c.node_of-node.ensures.y.0 (rw c.at_once.ensures at found))
 
 pub returns-in-3 : goal.returns-in-3
-returns-in-3 c =
-    let h = c.requires in
+returns-in-3 c = λ u h.
     let (which, found) = c.choose.ensures in
     rw (c.parts_of-in-3.ensures, c.part.ensures) (omega arith, choice_chosen h.prepared h.known h.within h.found (ap form_number (sym c.node_of-node.ensures.form.0 ∙ c.in-3.is)) c.node_of-node.ensures.x.0 c.node_of-node.ensures.y.0 which found)
 
 pub returns-in-4 : goal.returns-in-4
-returns-in-4 c =
-    let h = c.requires in
+returns-in-4 c = λ u h.
     rw (c.parts_of-in-4.ensures, c.part-in-4.ensures) (
       omega arith,
       if_chosen h.prepared h.known h.within h.found (ap form_number (sym c.node_of-node.ensures.form.0 ∙ c.in-4.is))
@@ -91,22 +88,19 @@ returns-in-4 c =
     )
 
 pub returns-in-6 : goal.returns-in-6
-returns-in-6 c =
-    let h = c.requires in
+returns-in-6 c = λ u h.
     let (k, m, l, found, is) = c.start_window_parts.ensures in
     rw is (omega arith, start_chosen h.prepared h.known h.within h.found (ap form_number (sym c.node_of-node.ensures.form.0 ∙ c.in-6.is)) c.node_of-node.ensures.x.0 c.node_of-node.ensures.y.0 c.node_of-node.ensures.m.0 c.node_of-node.ensures.n.0 found)
 
 pub returns-in-7 : goal.returns-in-7
-returns-in-7 c =
-    let h = c.requires in
+returns-in-7 c = λ u h.
     let (k, l, found, is) = c.end_window_parts-in-7.ensures in
     rw is (omega arith, end_chosen h.prepared h.known h.within h.found (ap form_number (sym c.node_of-node.ensures.form.0 ∙ c.in-7.is)) c.node_of-node.ensures.x.0 c.node_of-node.ensures.y.0 (rw c.pause_of.ensures at found))
 
 pub returns-in-8 : goal.returns-in-8
-returns-in-8 c = let h = c.requires in set-chosen h.prepared h.known h.within h.found (ap form_number (sym c.node_of-node.ensures.form.0 ∙ c.in-8.is)) (search rules) c.set_parts.ensures
+returns-in-8 c = λ u h. set-chosen h.prepared h.known h.within h.found (ap form_number (sym c.node_of-node.ensures.form.0 ∙ c.in-8.is)) (search rules) c.set_parts.ensures
 
 pub returns-in-9-to-4294967295 : goal.returns-in-9-to-4294967295
-returns-in-9-to-4294967295 c =
-    let h = c.requires in
+returns-in-9-to-4294967295 c = λ u h.
     let node = c.node_of-node in
     rw c.parts_of-in-9-to-4294967295.ensures (omega arith, reserved_chosen h.prepared h.known h.within h.found (ap form_number (sym node.ensures.form.0) ∙ reserved node.result.form (omega arith)))
