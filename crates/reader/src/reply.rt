@@ -1,15 +1,18 @@
 // What planread prints for the bytes of its two files. The program only reads the files and writes this text. That the text has room is asked of the
-// slice that it is written to: docs/CONTRACTS.md names `reply`, so that it may not ask for an array.
-ghost use Rattle.std.specs.Prelude.{◌≡◌, ◌≤◌, length};
+// slice that it is written to: docs/CONTRACTS.md names `reply`, so that it may not ask for an array. The text is
+// answered by its length, as in `text::report`.
+ghost use Rattle.std.specs.Prelude.{◌≡◌, ◌≤◌, length, take};
+ghost use Rattle.io.specs.Counts.{IsPrefixLen};
 ghost use Rattle.reader.specs.Reply.{bad_file, text_room, lent, Answered, Reply};
 
 use text::{files, report};
 use words::BUFFER_WORDS;
 
-// The text, which is written at the start of out.
-pub fn reply<'a>(job: &[u8], plan: &[u8], out: &'a mut [u8]) -> &'a [u8]
+// The text is at the start of out, and the answer is its length.
+pub fn reply(job: &[u8], plan: &[u8], out: &mut [u8]) -> usize
     requires { text_room ≤ length out.old }
-    ensures { Reply job.now plan.now result.now }
+    ensures counts { IsPrefixLen result out.new }
+    ensures text { Reply job.now plan.now (take result out.new) }
 {
     if !(files::is_sized(job.len()) && files::is_sized(plan.len())) {
         return bad_file(out);
@@ -22,9 +25,10 @@ pub fn reply<'a>(job: &[u8], plan: &[u8], out: &'a mut [u8]) -> &'a [u8]
     reply_words(&job_words[..n], &plan_words[..m], &mut buffer, out)
 }
 
-pub fn bad_file(out: &mut [u8]) -> &[u8]
+pub fn bad_file(out: &mut [u8]) -> usize
     requires { text_room ≤ length out.old }
-    ensures { result.now ≡ bad_file }
+    ensures counts { IsPrefixLen result out.new }
+    ensures text { take result out.new ≡ bad_file }
 {
     report::line(out, b"bad file\n")
 }
@@ -46,9 +50,10 @@ fn lent_words() -> [u32; BUFFER_WORDS]
     [0; BUFFER_WORDS]
 }
 
-fn reply_words<'a>(job: &[u32], plan: &[u32], buffer: &mut [u32], out: &'a mut [u8]) -> &'a [u8]
+fn reply_words(job: &[u32], plan: &[u32], buffer: &mut [u32], out: &mut [u8]) -> usize
     requires { (buffer.old ≡ lent) × (text_room ≤ length out.old) }
-    ensures { Answered job.now plan.now result.now }
+    ensures counts { IsPrefixLen result out.new }
+    ensures text { Answered job.now plan.now (take result out.new) }
 {
     let (starts, facts) = plan.split_at(files::starts_length(plan));
     let answer = finder::find_reading(job, starts, facts, buffer);

@@ -1,8 +1,9 @@
 // The text that planread prints, written to a buffer of bytes. A length and a position are cast, since there is no `u64::from` of a usize.
+// A written text is answered by its length and not as a slice: of a slice a contract could not say that it is the front of the buffer.
 ghost use Rattle.std.specs.Prelude.{◌≡◌, ◌+◌, ◌*◌, ◌≤◌, length};
 ghost use Rattle.answers.specs.Packed.{length_of};
 ghost use Rattle.text.specs.Report.{decimal_of, field_text, hex_line, hex_lines, accepted_text, refused_text, report_of};
-ghost use Rattle.text.specs.Code.Written.{Appended};
+ghost use Rattle.text.specs.Code.Written.{Appended, WrittenText};
 
 use answers::Answer;
 
@@ -14,25 +15,23 @@ struct Text<'a> {
     end: usize,
 }
 
-// Writes the answer's line and, where it is accepted, its words, one a line, at the start of out, and answers that text.
-pub fn report<'a>(answer: Answer, words: &[u32], out: &'a mut [u8]) -> &'a [u8]
+// Writes the answer's line and, where it is accepted, its words, one a line, at the start of out. Answers the number of bytes.
+pub fn report(answer: Answer, words: &[u32], out: &mut [u8]) -> usize
     requires { (length_of answer ≤ length words.now) × (length_of answer * 9 + 100 ≤ length out.old) }
-    ensures { result.now ≡ report_of answer words.now }
+    ensures { WrittenText (report_of answer words.now) out.new result }
 {
     let mut text = Text { out, end: 0 };
     text.answer(answer, words);
-    let Text { out, end } = text;
-    &out[..end]
+    text.end
 }
 
-// Writes a text at the start of out, and answers it.
-pub fn line<'a>(out: &'a mut [u8], text: &[u8]) -> &'a [u8]
+// Writes a text at the start of out. Answers the number of bytes.
+pub fn line(out: &mut [u8], text: &[u8]) -> usize
     requires { length text.now ≤ length out.old }
-    ensures { result.now ≡ text.now }
+    ensures { WrittenText text.now out.new result }
 {
-    let end = text.len();
-    out[..end].copy_from_slice(text);
-    &out[..end]
+    out[..text.len()].copy_from_slice(text);
+    text.len()
 }
 
 impl Text<'_> {
