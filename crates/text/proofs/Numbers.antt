@@ -83,7 +83,10 @@ pub lines_more : (ws : List ℕ) (i : ℕ) → i < length ws → hex_lines (take
 unfolding hex_lines
 lines_more ws i h = rw (add-one, take-suc ws i 0 h, lines_append (take i ws) (get_or ws i 0 ∷ []), append-nil (hex_line (get_or ws i 0)))
 
--- one line more
+-- one line more, and all lines
 pub line_more : {old mid new : Text} (ws : List ℕ) (i : ℕ) → i < length ws → Appended old (hex_lines (take i ws)) mid → Appended mid (hex_line (get_or ws i 0)) new → Appended old (hex_lines (take (i + 1) ws)) new
 line_more {old} {mid} {new} ws i h first next =
     subst (λ (t : List ℕ). Appended old t new) (sym (lines_more ws i h)) (then first next)
+
+pub lines_all : {old new : Text} (ws : List ℕ) (i n : ℕ) → i ≡ n → Appended old (hex_lines (take i ws)) new → Appended old (hex_lines (take n ws)) new
+lines_all {old} {new} ws i n e h = subst (λ (k : ℕ). Appended old (hex_lines (take k ws)) new) e h
