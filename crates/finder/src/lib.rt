@@ -44,13 +44,12 @@ fn seek(job: &[u32], starts: &[u32], arrays: &Arrays, buffer: &mut [u32]) -> Ans
     }
 }
 
-// Runs every row, and returns the arrays of a plan that passes. Its plan is off the stack before a reading is sought, and there is one alone, since
-// it is read where it stands.
+// Runs every row but the buffer's, and returns the arrays of a plan that passes. Its plan is off the stack before a reading is sought, and there is
+// one alone, since it is read where it stands.
 #[inline(never)]
-fn readied(job: &[u32], starts: &[u32], facts: &[u32], room: usize) -> Result<Arrays, Refusal>
-    ensures { Readied room job.now starts.now facts.now result }
+fn readied(job: &[u32], starts: &[u32], facts: &[u32]) -> Result<Arrays, Refusal>
+    ensures { Readied job.now starts.now facts.now result }
 {
-    buffer_refusal(room)?;
     let judged = judge(job, check_job(job), starts);
     match &judged {
         Ok(plan) => {
@@ -61,12 +60,15 @@ fn readied(job: &[u32], starts: &[u32], facts: &[u32], room: usize) -> Result<Ar
     }
 }
 
-// The find call on any lists: runs every row, then seeks a reading.
+// The find call on any lists: runs every row, then seeks a reading. A buffer that is too short is refused before there is room for a plan.
 pub fn find_reading(job: &[u32], starts: &[u32], facts: &[u32], buffer: &mut [u32]) -> Answer
     ensures outcome { Outcome job.now starts.now facts.now buffer.old result buffer.new }
     ensures in_range { InRange result × (length_of result ≤ 4032) }
 {
-    match readied(job, starts, facts, buffer.len()) {
+    if let Err(refusal) = buffer_refusal(buffer.len()) {
+        return answered(Err(refusal));
+    }
+    match readied(job, starts, facts) {
         Ok(arrays) => seek(job, starts, &arrays, buffer),
         Err(refusal) => answered(Err(refusal)),
     }

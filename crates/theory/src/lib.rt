@@ -198,20 +198,33 @@ pub fn buffer_refusal(room: usize) -> Result<(), Refusal>
     Ok(())
 }
 
-// Runs row 12, the rows of the job, row 12 again and the rows of the starts, then writes the facts to the front of the buffer.
+// Runs the rows of the job, row 12 again and the rows of the starts, then writes the facts to the front of the buffer.
 fn fill(job: &[u32], starts: &[u32], buffer: &mut [u32]) -> Result<usize, Refusal>
+    requires { (buffer_refusal (length buffer.old)).number ≡ 0 }
     ensures value { result ≡ ruled (fill_refusal (length buffer.old) job.now starts.now) (length (facts_of job.now starts.now)) }
     ensures buffer_after { buffer.new ≡ written (answered result) (facts_of job.now starts.now) buffer.old }
 {
-    buffer_refusal(buffer.len())?;
     let plan = judge(job, check_job_and_room(job, buffer.len()), starts)?;
     Ok(fill_facts(job, &plan.history, buffer))
 }
 
-// The fill call.
-pub fn fill_plan(job: &[u32], starts: &[u32], buffer: &mut [u32]) -> Answer
+// Answers what `fill` gives. It is not inlined, so that a buffer that is too short is refused with no room for a plan on the stack.
+#[inline(never)]
+fn filled(job: &[u32], starts: &[u32], buffer: &mut [u32]) -> Answer
+    requires { (buffer_refusal (length buffer.old)).number ≡ 0 }
     ensures value { result ≡ fill_answer (length buffer.old) job.now starts.now }
     ensures buffer_after { buffer.new ≡ written result (facts_of job.now starts.now) buffer.old }
 {
     answered(fill(job, starts, buffer))
+}
+
+// The fill call: runs row 12, then the other rows, and writes.
+pub fn fill_plan(job: &[u32], starts: &[u32], buffer: &mut [u32]) -> Answer
+    ensures value { result ≡ fill_answer (length buffer.old) job.now starts.now }
+    ensures buffer_after { buffer.new ≡ written result (facts_of job.now starts.now) buffer.old }
+{
+    match buffer_refusal(buffer.len()) {
+        Ok(()) => filled(job, starts, buffer),
+        Err(refusal) => answered(Err(refusal)),
+    }
 }

@@ -1,6 +1,6 @@
 -- The rows of the four calls, and what they leave in the lent words. Assumes nothing.
 use mathlib.Core.Bool.{Bool, true, false, cond}
-use mathlib.Core.List.{List}
+use mathlib.Core.List.{List, [], ◌∷◌}
 use mathlib.Core.Logic.{by_cases}
 use mathlib.Core.Path.{◌≡◌, refl, ap, sym, ◌∙◌}
 use Prim.Native.Nat.{ℕ, ◌≤◌, ◌<◌}
@@ -12,14 +12,14 @@ use lib.ListN.{length}
 use Rattle.std.specs.Prelude.{Result, Ok, Err}
 use Rattle.std.specs.Result.{IsErrAnd}
 use Rattle.answers.specs.declared.Refusal.{Refusal}
-use Rattle.answers.specs.Rows.{refusal, passed, first_refusal}
-use Rattle.answers.proofs.Rows.{or_none, or_refused, or_passed, or_assoc}
+use Rattle.answers.specs.Rows.{refusal, passed, first_refusal, first_row}
+use Rattle.answers.proofs.Rows.{or_none, or_refused, or_passed, or_assoc, err-ruled}
 use Rattle.job.specs.Refusal.{job_refusal}
 use Rattle.theory.specs.Answers.{buffer_refusal, fact_room_refusal}
 use Rattle.theory.specs.Code.Judged.{room_rows}
 use Rattle.moves.specs.Trials as trials
 use Rattle.moves.specs.Trials.{Move, trial_refusal, move_refusal}
-use Rattle.moves.specs.Calls.{trial_in, handed_back}
+use Rattle.moves.specs.Calls.{trial_in, handed_back, trial_room_refusal}
 use Rattle.trial.specs.Code.Given.{shown_refusal}
 use Rattle.trial.specs.Code.Called.{short_rows, begin_rows, move_rows, few_rows}
 use Rattle.answers.specs.declared.Answer.{Answer}
@@ -116,6 +116,17 @@ module _ (job words buffer : List ℕ) where
       let said = is ∙ answered_ruled rows 0 in (
         said ∙ answer_refused rows 0 0 (length (shown_facts job (trial_in words))) 0 never_few ∙ rw (lt-ltb (length words) 4098 short),
         rw (said, ne_eqb rows.number 0 never_few),
+      )
+
+  pub short_buffer : {r : Answer} {e : Refusal} → e ≡ buffer_refusal (length buffer) → ((buffer_refusal (length buffer)).number ≡ 0 → ⊥) → r ≡ answered (Err e)
+      → (r ≡ show_answer (length buffer) job words) × (buffer ≡ written r (shown_facts job (trial_in words)) buffer)
+  unfolding show_answer
+  short_buffer {r} {e} row never is =
+      let rows = first_row (buffer_refusal (length buffer) ∷ job_refusal job ∷ fact_room_refusal (length buffer) job ∷ trial_room_refusal (length words) ∷ trial_refusal job (trial_in words) ∷ []) in
+      let fits : e ≡ rows = row ∙ or_refused (buffer_refusal (length buffer)) _ never in
+      let none : rows.number ≡ 0 → ⊥ = λ z. never (ap (λ (f : Refusal). f.number) (sym row ∙ fits) ∙ z) in (
+        is ∙ ap answered (err-ruled (length (shown_facts job (trial_in words))) fits none) ∙ answered_ruled rows _,
+        rw is refl,
       )
 
   pub enough_shown : {r : Answer} → 4098 ≤ length words → (t : Trial) → trial_of t ≡ trial_in words → r ≡ show_answer_of (length buffer) job (trial_of t)

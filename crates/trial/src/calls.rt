@@ -6,7 +6,7 @@ ghost use Rattle.theory.specs.Answers.{written};
 ghost use Rattle.moves.specs.Trials.{Start, On, fresh, after};
 ghost use Rattle.moves.specs.Calls.{trial_words, trial_in, begin_answer, move_answer, shown_facts, show_answer, handed_back};
 ghost use Rattle.trial.specs.Stepped.{trial_of, Sized, Storable};
-ghost use Rattle.trial.specs.Code.Called.{Lent, begin_rows, move_rows, few_rows};
+ghost use Rattle.trial.specs.Code.Called.{short_rows, begin_rows, move_rows, few_rows};
 ghost use Rattle.answers.specs.Code.Ruled.{answered, ruled};
 
 use crate::{Moved, Trial};
@@ -44,21 +44,21 @@ fn store(trial: &Trial, words: &mut [u32])
     copy_words(&trial.starts[..trial.length], 2, words);
 }
 
-// Returns the trial that lent words say. Words that are too few for one are refused, after the rows of the job.
-fn lent(job: &[u32], words: &[u32]) -> Result<Trial, Refusal>
-    ensures { Lent job.now words.now result }
+// Refuses words that are too few for a trial, after the rows of the job.
+fn enough(job: &[u32], words: &[u32]) -> Result<(), Refusal>
+    ensures { result ≡ ruled (short_rows job.now words.now) tt }
 {
     if words.len() < TRIAL_WORDS {
         check_job(job)?;
         return Err(refuse(TRIAL_BOUNDS, 0));
     }
-    Ok(taken(words))
+    Ok(())
 }
 
 // Writes the trial that a move hands back, or gives the refusal of the move.
-fn put_back(moved: &Moved, words: &mut [u32]) -> Result<usize, Refusal>
-    requires { Storable moved.now × (4098 ≤ length words.old) }
-    ensures { (result ≡ ruled moved.now.refusal 0) × (words.new ≡ handed_back (answered result) (trial_of moved.now.trial) words.old) }
+fn put_back(moved: Moved, words: &mut [u32]) -> Result<usize, Refusal>
+    requires { Storable moved × (4098 ≤ length words.old) }
+    ensures { (result ≡ ruled moved.refusal 0) × (words.new ≡ handed_back (answered result) (trial_of moved.trial) words.old) }
 {
     if moved.refusal.number != 0 {
         return Err(moved.refusal);
@@ -75,23 +75,25 @@ fn begun(job: &[u32], words: &mut [u32]) -> Result<usize, Refusal>
         check_job(job)?;
         return Err(refuse(TRIAL_BOUNDS, 0));
     }
-    put_back(&Trial::begin(job), words)
+    put_back(Trial::begin(job), words)
 }
 
-// Starts an action now, and writes the trial after it.
-fn started(job: &[u32], words: &mut [u32], action: u32) -> Result<usize, Refusal>
-    ensures { (result ≡ ruled (move_rows job.now words.old (Start action)) 0) × (words.new ≡ handed_back (answered result) (after job.now (trial_in words.old) (Start action)) words.old) }
+// Starts an action now, and writes the trial after it. It is not inlined, so that words that are too few are refused with no trial on the stack.
+#[inline(never)]
+fn started(job: &[u32], words: &mut [u32], action: u32) -> Answer
+    requires { 4098 ≤ length words.old }
+    ensures { (result ≡ move_answer job.now words.old (Start action)) × (words.new ≡ handed_back result (after job.now (trial_in words.old) (Start action)) words.old) }
 {
-    let trial = lent(job, words)?;
-    put_back(&trial.start(job, action), words)
+    answered(put_back(taken(words).start(job, action), words))
 }
 
-// Goes on one moment, and writes the trial after it.
-fn gone_on(job: &[u32], words: &mut [u32]) -> Result<usize, Refusal>
-    ensures { (result ≡ ruled (move_rows job.now words.old On) 0) × (words.new ≡ handed_back (answered result) (after job.now (trial_in words.old) On) words.old) }
+// Goes on one moment, and writes the trial after it. It is not inlined, for the same reason as `started`.
+#[inline(never)]
+fn gone_on(job: &[u32], words: &mut [u32]) -> Answer
+    requires { 4098 ≤ length words.old }
+    ensures { (result ≡ move_answer job.now words.old On) × (words.new ≡ handed_back result (after job.now (trial_in words.old) On) words.old) }
 {
-    let trial = lent(job, words)?;
-    put_back(&trial.on(job), words)
+    answered(put_back(taken(words).on(job), words))
 }
 
 // Runs the rows before the one on words that are too few to be shown, and then that one, which fits.
@@ -114,22 +116,40 @@ pub fn begin_words(job: &[u32], words: &mut [u32]) -> Answer
 pub fn start_words(job: &[u32], words: &mut [u32], action: u32) -> Answer
     ensures { (result ≡ move_answer job.now words.old (Start action)) × (words.new ≡ handed_back result (after job.now (trial_in words.old) (Start action)) words.old) }
 {
-    answered(started(job, words, action))
+    match enough(job, words) {
+        Ok(()) => started(job, words, action),
+        Err(refusal) => answered(Err(refusal)),
+    }
 }
 
 // Goes on one moment.
 pub fn on_words(job: &[u32], words: &mut [u32]) -> Answer
     ensures { (result ≡ move_answer job.now words.old On) × (words.new ≡ handed_back result (after job.now (trial_in words.old) On) words.old) }
 {
-    answered(gone_on(job, words))
+    match enough(job, words) {
+        Ok(()) => gone_on(job, words),
+        Err(refusal) => answered(Err(refusal)),
+    }
 }
 
-// Writes the facts of moments 0 to the present one to the front of the buffer.
-pub fn show_words(job: &[u32], words: &[u32], buffer: &mut [u32]) -> Answer
+// Writes the facts of moments 0 to the present one to the front of the buffer. It is not inlined, so that a buffer that is too short is refused
+// with no trial on the stack.
+#[inline(never)]
+fn shown(job: &[u32], words: &[u32], buffer: &mut [u32]) -> Answer
     ensures { (result ≡ show_answer (length buffer.old) job.now words.now) × (buffer.new ≡ written result (shown_facts job.now (trial_in words.now)) buffer.old) }
 {
     if words.len() < TRIAL_WORDS {
         return answered(too_few(job, buffer.len()));
     }
     taken(words).show(job, buffer)
+}
+
+// Refuses a buffer that is too short, or shows the trial.
+pub fn show_words(job: &[u32], words: &[u32], buffer: &mut [u32]) -> Answer
+    ensures { (result ≡ show_answer (length buffer.old) job.now words.now) × (buffer.new ≡ written result (shown_facts job.now (trial_in words.now)) buffer.old) }
+{
+    match buffer_refusal(buffer.len()) {
+        Ok(()) => shown(job, words, buffer),
+        Err(refusal) => answered(Err(refusal)),
+    }
 }

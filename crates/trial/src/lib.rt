@@ -144,15 +144,18 @@ impl Trial {
         ensures stepped { Stepped job.now self (Start action) result }
         ensures storable { Storable result }
     {
-        match self.new_start(job, action) {
-            Ok(w) => Moved {
-                refusal: none(),
-                trial: self.with_word(w),
-            },
-            Err(refusal) => Moved {
-                refusal,
-                trial: self,
-            },
+        let w = match self.new_start(job, action) {
+            Ok(w) => w,
+            Err(refusal) => {
+                return Moved {
+                    refusal,
+                    trial: self,
+                };
+            }
+        };
+        Moved {
+            refusal: none(),
+            trial: self.with_word(w),
         }
     }
 
@@ -161,15 +164,18 @@ impl Trial {
         ensures stepped { Stepped job.now self On result }
         ensures storable { Storable result }
     {
-        match self.next_moment(job) {
-            Ok(moment) => Moved {
-                refusal: none(),
-                trial: Trial { moment, ..self },
-            },
-            Err(refusal) => Moved {
-                refusal,
-                trial: self,
-            },
+        let moment = match self.next_moment(job) {
+            Ok(moment) => moment,
+            Err(refusal) => {
+                return Moved {
+                    refusal,
+                    trial: self,
+                };
+            }
+        };
+        Moved {
+            refusal: none(),
+            trial: Trial { moment, ..self },
         }
     }
 

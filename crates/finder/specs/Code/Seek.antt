@@ -3,10 +3,10 @@ use Rattle.std.specs.Prelude.{List, ◌≡◌, ℕ, ◌≤◌, Result}
 use Rattle.answers.specs.declared.Refusal.{Refusal}
 use Rattle.job.specs.Refusal.{job_refusal}
 use Rattle.job.specs.Procedure.{procedure_of}
+use Rattle.theory.specs.Answers.{check_refusal}
 use Rattle.theory.specs.Trajectory.{plan_trajectory}
 use Rattle.model.specs.Code.Represents.{Represents}
 use Rattle.model.specs.declared.Arrays.{Arrays}
-use Rattle.finder.specs.Find.{find_refusal}
 use Rattle.answers.specs.Code.Ruled.{RuledBy}
 
 pub record Seekable (job starts : List ℕ) (arrays : Arrays) (size : ℕ) : Type 0 where
@@ -14,6 +14,6 @@ pub record Seekable (job starts : List ℕ) (arrays : Arrays) (size : ℕ) : Typ
   pub represented : Represents job arrays (procedure_of job) (plan_trajectory job starts)
   pub room : 4096 ≤ size
 
--- the row that fits; or such arrays, of a plan that passes
-abbrev pub Readied : ℕ → List ℕ → List ℕ → List ℕ → Result Arrays Refusal → Type 0
-Readied room job starts facts result = RuledBy (find_refusal room job starts facts) (λ arrays. Seekable job starts arrays room) result
+-- the row of check that fits; or arrays, of a plan that passes, with which a reading may be sought in any buffer that has room
+abbrev pub Readied : List ℕ → List ℕ → List ℕ → Result Arrays Refusal → Type 0
+Readied job starts facts result = RuledBy (check_refusal job starts facts) (λ arrays. (size : ℕ) → 4096 ≤ size → Seekable job starts arrays size) result

@@ -1,22 +1,15 @@
 -- Between functions: the rows of the four calls on a trial's words.
-use Rattle.std.specs.Prelude.{cond, List, [], ◌∷◌, ◌≡◌, ℕ, ltb, length, Result}
+use Rattle.std.specs.Prelude.{cond, List, [], ◌∷◌, ℕ, ltb, length}
 use Rattle.answers.specs.declared.Refusal.{Refusal}
 use Rattle.answers.specs.Rows.{refusal, passed, first_row, first_refusal}
 use Rattle.job.specs.Refusal.{job_refusal}
 use Rattle.theory.specs.Answers.{buffer_refusal, fact_room_refusal}
 use Rattle.moves.specs.Trials.{Move, move_refusal}
 use Rattle.moves.specs.Calls.{trial_in, trial_room_refusal}
-use Rattle.trial.specs.declared.Trial.{Trial}
-use Rattle.trial.specs.Stepped.{trial_of}
-use Rattle.answers.specs.Code.Ruled.{RuledBy}
 
 -- words too few for a trial: a row of the job, or 14
 abbrev pub short_rows : List ℕ → List ℕ → Refusal
 short_rows job words = cond (ltb (length words) 4098) (first_refusal (job_refusal job) (refusal 14 0)) passed
-
--- that row, or the trial that the words say
-abbrev pub Lent : List ℕ → List ℕ → Result Trial Refusal → Type 0
-Lent job words result = RuledBy (short_rows job words) (λ t. trial_of t ≡ trial_in words) result
 
 -- beginning, a move
 abbrev pub begin_rows : ℕ → List ℕ → Refusal

@@ -3,8 +3,8 @@ use Rattle.moves.specs.Trials.{On}
 use Rattle.trial.proofs.Moves.{stepped_refused, stepped_moved}
 use Rattle.trial.proofs.Trial.on.Goals as goal
 
-pub returns-in-Ok : goal.returns-in-Ok
-returns-in-Ok c =
+pub returns : goal.returns
+returns c =
     let a = c.args in
     let h = c.in-Ok.ensures in
     record {

@@ -6,8 +6,8 @@ use Rattle.trial.proofs.Trial.start.Goals as goal
 pub with_word-requires : goal.with_word-requires
 with_word-requires c = c.in-Ok.ensures.1.1
 
-pub returns-in-Ok : goal.returns-in-Ok
-returns-in-Ok c =
+pub returns : goal.returns
+returns c =
     let a = c.args in
     let h = c.in-Ok.ensures in
     let made = moved-start a.job.now a.self h.1.1.sized a.action h.1.0 c.with_word.ensures in

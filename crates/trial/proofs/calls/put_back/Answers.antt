@@ -12,7 +12,7 @@ pub store-requires : goal.store-requires
 store-requires c = (c.requires.0 c.if-moved-ne0.false, c.requires.1)
 
 pub shape_of-words : goal.shape_of-words
-shape_of-words c = ap length c.store.ensures ∙ handed_size c.args.moved.now.trial (c.requires.0 c.if-moved-ne0.false) c.args.words.now c.requires.1
+shape_of-words c = ap length c.store.ensures ∙ handed_size c.args.moved.trial (c.requires.0 c.if-moved-ne0.false) c.args.words.now c.requires.1
 
 pub returns : goal.returns
 returns c = (sym (ruled-passed _ _ c.if-moved-ne0.false), c.store.ensures)

@@ -1,16 +1,9 @@
--- `trial::calls::show_words` meets its contract: the words are too few, or the trial that they say is shown. Assumes nothing.
-use mathlib.Core.Path.{ap, ◌∙◌}
-use Rattle.trial.proofs.CallRows.{short_shown, enough_shown}
+-- `trial::calls::show_words` meets its contract: the buffer is too short, or the answer is that of `shown`. Assumes nothing.
+use Rattle.answers.proofs.Rows.{err-refused}
+use Rattle.trial.proofs.CallRows.{short_buffer}
 use Rattle.trial.proofs.calls.show_words.Goals as goal
-use Rattle.answers.specs.Code.Ruled.{answered}
 
-pub returns-then-words-lt-TRIAL_WORDS : goal.returns-then-words-lt-TRIAL_WORDS
-returns-then-words-lt-TRIAL_WORDS c =
-    short_shown c.args.job.now c.args.words.now c.args.buffer.now c.if-words-lt-TRIAL_WORDS.true (c.answered.ensures ∙ ap answered c.too_few.ensures)
-
-pub taken-requires : goal.taken-requires
-taken-requires c = c.if-words-lt-TRIAL_WORDS.false
-
-pub returns : goal.returns
-returns c =
-    enough_shown c.args.job.now c.args.words.now c.args.buffer.now c.if-words-lt-TRIAL_WORDS.false c.taken.result c.taken.ensures c.show.ensures.value c.show.ensures.buffer_after
+pub returns-in-Err : goal.returns-in-Err
+returns-in-Err c =
+    let h = err-refused _ tt (rw c.in-Err.is at c.buffer_refusal.ensures) in
+    short_buffer c.args.job.now c.args.words.now c.args.buffer.now h.1 h.0 c.answered.ensures

@@ -1,30 +1,27 @@
--- `trial::calls::started` meets its contract: the words are too few, or the move of the trial that they say is handed back. Assumes nothing.
+-- `trial::calls::started` meets its contract: the move of the trial that the words say is handed back. Assumes nothing.
 use mathlib.Core.Path.{ap, ◌∙◌}
 use Prim.Native.Nat.{ℕ}
 use Rattle.answers.specs.declared.Refusal.{Refusal}
+use Rattle.theory.proofs.Laws.{answered_ruled}
 use Rattle.moves.specs.Trials as trials
 use Rattle.moves.specs.Trials.{Start}
-use Rattle.moves.specs.Calls.{handed_back}
-use Rattle.theory.proofs.Laws.{handed_same}
-use Rattle.trial.proofs.CallRows.{lent_refused, enough_words, refused_keeps_words, stepped_rows, stepped_trial}
+use Rattle.moves.specs.Calls.{move_answer, handed_back}
+use Rattle.trial.proofs.CallRows.{enough_clear, stepped_rows, stepped_trial}
 use Rattle.trial.proofs.calls.started.Goals as goal
 use Rattle.answers.specs.Code.Ruled.{answered, ruled}
 
-pub returns-in_err-trial : goal.returns-in_err-trial
-returns-in_err-trial c =
-    let h = c.in_err-trial.ensures in (
-      handed_same _ _ c.from_residual.ensures.1 h.0 h.1 (lent_refused c.args.job.now c.args.words.now (Start c.args.action) h.1),
-      refused_keeps_words _ _ _ _ c.from_residual.ensures.1,
-    )
+pub taken-requires : goal.taken-requires
+taken-requires c = c.requires
 
 pub put_back-requires : goal.put_back-requires
-put_back-requires c = (c.start.ensures.storable, enough_words _ _ c.in_ok-trial.ensures.0)
+put_back-requires c = (c.start.ensures.storable, c.requires)
 
 pub returns : goal.returns
+unfolding move_answer
 returns c =
-    let lent = c.in_ok-trial.ensures in
     let job = c.args.job.now in
-    let words = c.args.words.now in (
-      c.put_back.ensures.0 ∙ ap (λ (r : Refusal). ruled {T = ℕ} r 0) (stepped_rows job words (Start c.args.action) c.start.ensures.stepped lent.0 lent.1),
-      c.put_back.ensures.1 ∙ ap (λ (T : trials.Trial). handed_back (answered c.put_back.result) T words) (stepped_trial job words (Start c.args.action) c.start.ensures.stepped lent.0 lent.1),
-    )
+    let words = c.args.words.now in
+    let clear = enough_clear job words c.requires in
+    let rows = c.put_back.ensures.0 ∙ ap (λ (r : Refusal). ruled {T = ℕ} r 0) (stepped_rows job words (Start c.args.action) c.start.ensures.stepped clear c.taken.ensures) in
+    let put = c.put_back.ensures.1 ∙ ap (λ (T : trials.Trial). handed_back (answered c.put_back.result) T words) (stepped_trial job words (Start c.args.action) c.start.ensures.stepped clear c.taken.ensures) in
+    (c.answered.ensures ∙ ap answered rows ∙ answered_ruled _ _, rw c.answered.ensures put)
