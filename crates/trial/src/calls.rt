@@ -55,7 +55,8 @@ fn enough(job: &[u32], words: &[u32]) -> Result<(), Refusal>
     Ok(())
 }
 
-// Writes the trial that a move hands back, or gives the refusal of the move.
+// Writes the trial that a move hands back, or gives the refusal of the move. It takes the move by value: a lent one would take a place on the stack
+// beside the trial in it.
 fn put_back(moved: Moved, words: &mut [u32]) -> Result<usize, Refusal>
     requires { Storable moved × (4098 ≤ length words.old) }
     ensures { (result ≡ ruled moved.refusal 0) × (words.new ≡ handed_back (answered result) (trial_of moved.trial) words.old) }
@@ -87,7 +88,7 @@ fn started(job: &[u32], words: &mut [u32], action: u32) -> Answer
     answered(put_back(taken(words).start(job, action), words))
 }
 
-// Goes on one moment, and writes the trial after it. It is not inlined, for the same reason as `started`.
+// Goes on one moment, and writes the trial after it. It is not inlined, so that words that are too few are refused with no trial on the stack.
 #[inline(never)]
 fn gone_on(job: &[u32], words: &mut [u32]) -> Answer
     requires { 4098 ≤ length words.old }
@@ -112,7 +113,7 @@ pub fn begin_words(job: &[u32], words: &mut [u32]) -> Answer
     answered(begun(job, words))
 }
 
-// Starts an action now.
+// Refuses words that are too few for a trial, or starts an action now.
 pub fn start_words(job: &[u32], words: &mut [u32], action: u32) -> Answer
     ensures { (result ≡ move_answer job.now words.old (Start action)) × (words.new ≡ handed_back result (after job.now (trial_in words.old) (Start action)) words.old) }
 {
@@ -122,7 +123,7 @@ pub fn start_words(job: &[u32], words: &mut [u32], action: u32) -> Answer
     }
 }
 
-// Goes on one moment.
+// Refuses words that are too few for a trial, or goes on one moment.
 pub fn on_words(job: &[u32], words: &mut [u32]) -> Answer
     ensures { (result ≡ move_answer job.now words.old On) × (words.new ≡ handed_back result (after job.now (trial_in words.old) On) words.old) }
 {

@@ -139,7 +139,7 @@ impl Trial {
         Ok(self.moment + 1)
     }
 
-    // Starts an action now.
+    // Starts an action now. A refusal is handed back by `return`: where both arms gave the value, it took a trial more on the stack.
     pub fn start(self, job: &[u32], action: u32) -> Moved
         ensures stepped { Stepped job.now self (Start action) result }
         ensures storable { Storable result }
@@ -159,7 +159,7 @@ impl Trial {
         }
     }
 
-    // Goes on one moment.
+    // Goes on one moment. A refusal is handed back by `return`, as in `start`.
     pub fn on(self, job: &[u32]) -> Moved
         ensures stepped { Stepped job.now self On result }
         ensures storable { Storable result }
