@@ -132,7 +132,9 @@ impl Trial {
         ensures { NextMoment job.now self.now result }
     {
         let index = check_job(job)?;
-        self.judged(job, &index)?;
+        // A copy, whose starts are lent: while the trial itself is not lent, its copies up to here need not be made.
+        let trial = *self;
+        trial.judged(job, &index)?;
         if last_of(job[0]) <= self.moment {
             return Err(refuse(TRIAL_BOUNDS, 0));
         }

@@ -1,7 +1,6 @@
 -- `trial::calls::enough` meets its contract: the words are too few, or they are enough for a trial. Assumes nothing.
-use mathlib.Core.Path.{sym, ◌∙◌}
-use native.Mathlib.Omega.{arith}
-use Rattle.answers.proofs.Rows.{ok-passed, err-refused, ruled-passed, ruled-refused}
+use mathlib.Core.Path.{sym}
+use Rattle.answers.proofs.Rows.{ok-passed, err-refused, ruled-passed}
 use Rattle.job.specs.Code.Index.{checked_of}
 use Rattle.theory.proofs.Laws.{handed_same}
 use Rattle.trial.proofs.CallRows.{short_job, short_words, enough_clear}
