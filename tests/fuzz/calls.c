@@ -1,5 +1,4 @@
 #include "calls.h"
-#include "counters.h"
 #include <stdio.h>
 #include <stdlib.h>
 #include <string.h>
@@ -8,7 +7,7 @@ const char *const call_names[CALLS] = {"check", "fill", "find", "trial_begin", "
 const uint32_t call_numbers[CALLS] = {0x18fff, 0x197ff, 0x1bfff, 0x403f, 0x1c7ff, 0x1c7ff, 0x1d7ff};
 unsigned long calls_seen[CALLS][NUMBERS], calls_made;
 
-/* Counters that libFuzzer reads beside the archive's own: answers by number and position, and by length and count. */
+/* The counters that libFuzzer reads: answers by number and position, and by length and count. */
 enum { PLACES = 16, SIZES = 25 };
 __attribute__((section("__libfuzzer_extra_counters"))) static uint8_t extra[CALLS][NUMBERS][PLACES + 2 * SIZES];
 
@@ -92,7 +91,6 @@ static unsigned log_2(unsigned n)
 uint64_t make_call(const struct request *request, uint32_t *out, size_t out_len)
 {
     uint64_t answer = call_archive(request, out, out_len);
-    counters_add();
     calls_made++;
     hold_fields(request, answer, out_len);
     unsigned number = planreader_number(answer), place = planreader_position(answer);

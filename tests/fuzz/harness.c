@@ -2,7 +2,6 @@
  * memory, fields, buffers, and that the calls agree with each other. Whether an answer is right is proved. */
 #include "harness.h"
 #include "calls.h"
-#include "counters.h"
 #include <stdlib.h>
 #include <string.h>
 
@@ -138,6 +137,5 @@ int LLVMFuzzerTestOneInput(const uint8_t *data, size_t size)
     bool is_refused = number >= PLANREADER_JOB_LENGTH && number <= PLANREADER_JOB_NODES;
     examine_trials(guard_lend_locked(&job_room, job, in.choices), is_refused ? filled : 0, starts, &in);
     hold_unchanged(&job_room, job);
-    counters_show();
     return 0;
 }
