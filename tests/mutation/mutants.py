@@ -1,40 +1,34 @@
-"""The list of mutants, and a mutant's copy of its crate."""
-import contextlib
-import shutil
+"""The lists of mutants: mutants.txt, of the crates, and oracles.txt, of the oracle."""
 import sys
-import tempfile
 from dataclasses import dataclass, field
 from pathlib import Path
 
-from build import ROOT
+HERE = Path(__file__).resolve().parent
 
 
 @dataclass
 class Mutant:
     name: str
-    crate: str
-    what: str
     speed: bool = False
     edits: list = field(default_factory=list)  # of file, old text, new text
 
-    @contextlib.contextmanager
-    def copied(self):
-        """Gives the folder of a copy of the crate with the edits, outside the repository, where `rt ci` wants no other sources."""
-        with tempfile.TemporaryDirectory() as room:
-            folder = Path(room).resolve() / self.crate
-            shutil.copytree(ROOT / "crates" / self.crate, folder, ignore=shutil.ignore_patterns("must-fail", "out"))
-            for file, old, new in self.edits:
-                text = (folder / file).read_text()
-                if text.count(old) != 1:
-                    sys.exit(f"{self.name}: the old text is {text.count(old)} times in {file}: {old}")
-                (folder / file).write_text(text.replace(old, new))
-            yield folder
+    @property
+    def crate(self):
+        return self.name.split("/")[0]
+
+    def apply(self, folder):
+        """Applies the edits to the files of a folder: a copy of the crate, or of the oracle."""
+        for file, old, new in self.edits:
+            text = (folder / file).read_text()
+            if text.count(old) != 1:
+                sys.exit(f"{self.name}: the old text is {text.count(old)} times in {file}: {old}")
+            (folder / file).write_text(text.replace(old, new))
 
 
-def read():
-    """Returns the mutants of the list, in its order."""
+def read(name="mutants.txt"):
+    """Returns the mutants of a list, in its order."""
     found = []
-    for line in (ROOT / "tests/mutation/mutants.txt").read_text().splitlines():
+    for line in (HERE / name).read_text().splitlines():
         mark, text = line[:2], line[2:].replace("⏎", "\n")
         if mark == "@ ":
             file = text
@@ -45,8 +39,7 @@ def read():
         elif line == "speed":
             found[-1].speed = True
         elif line and mark != "# ":
-            name, what = line.split(": ", 1)
-            found.append(Mutant(name, name.split("/")[0], what))
+            found.append(Mutant(line.split(": ", 1)[0]))
             file = "src/lib.rt"
     return found
 
