@@ -32,13 +32,13 @@ class NotRun(Exception):
 
 @dataclass
 class Call:
-    """A call of a listing: its place and its case, its words in the file `calls`, and what the listing says of it."""
+    """A call of a listing: its place and its case, its bytes in the file `calls`, and what the listing says of it."""
 
     place: str
     case: str
     name: str
-    words: list
-    lent: list
+    data: bytes
+    front: list  # the words that are lent for writing, before the noise
     answer: dict
     written: list  # each what the lent list may begin with; none if the listing leaves the reading open
 
@@ -53,8 +53,8 @@ def words_of(text):
     return found
 
 
-def noise(front, length):
-    return front[:length] + [0x5EED0000 + 7 * i for i in range(len(front[:length]), length)]
+def noise(i):
+    return 0x5EED0000 + 7 * i
 
 
 def listed(listing):
@@ -79,16 +79,17 @@ def listed(listing):
 def call_of(place, case, name, rest, lists, numbers):
     """The call of a line `NAME NUMBER [at POSITION] [count COUNT] [writes WORDS]`."""
     reads, lends = CALLS[name]
-    trial = noise(lists["trial"], numbers["length"])
-    front, length = {None: ([], 0), "buffer": ([], numbers["buffer"]), "trial": (lists["trial"], numbers["length"])}[lends]
+    given = lists["trial"][: numbers["length"]]
+    trial = given + [noise(i) for i in range(len(given), numbers["length"])] if "trial" in reads else []
+    front, length = {None: ([], 0), "buffer": ([], numbers["buffer"]), "trial": (given, numbers["length"])}[lends]
     read = [lists["job"], *(trial if key == "trial" else lists[key] for key in reads), [], []][:3]
-    four = [*read, front[:length]]
-    words = [list(CALLS).index(name), numbers["action"], length, *map(len, four), *(word for words in four for word in words)]
+    words = [list(CALLS).index(name), numbers["action"], length, *map(len, [*read, front])]
+    data = b"".join(struct.pack(f"<{len(some)}I", *some) for some in [words, *read, front])
     said, _, writes = rest.partition(" writes")
     told = dict(zip(["number", *said.split()[1::2]], map(int, said.split()[::2])))
     answer = {"number": told["number"], "position": told.get("at", 0), "count": told.get("count", 0)}
     open_reading = name == "find" and answer["number"] == 0 and not writes
-    return Call(place, case, name, words, noise(front, length), answer, [] if open_reading else [words_of(writes)])
+    return Call(place, case, name, data, front, answer, [] if open_reading else [words_of(writes)])
 
 
 def difference(call, line):
@@ -100,16 +101,16 @@ def difference(call, line):
         if given[field] != right:
             return f"the {field} is {given[field]}, not {right}"
     tells_length = call.name in ("fill", "find", "trial_show")
-    written = [(changed(call.lent, words), len(words) if tells_length else 0) for words in call.written]
+    written = [(changed(call.front, words), len(words) if tells_length else 0) for words in call.written]
     if (after, given["length"]) in written or not written and len(after) <= given["length"]:
         return None
     return "other words are written"
 
 
-def changed(lent, written):
+def changed(front, written):
     """The words of a lent list up to the last that is another one when these are written to its front."""
     end = len(written)
-    while end > 0 and written[end - 1] == lent[end - 1]:
+    while end > 0 and written[end - 1] == (front[end - 1] if end <= len(front) else noise(end - 1)):
         end -= 1
     return written[:end]
 
@@ -139,12 +140,11 @@ def differences(room, listings):
     shutil.copy(ROOT / "tests/mutation/asked.txt", crate / "src/main.rt")
     with open(room / "crates.txt", "a") as crates:
         crates.write("asked: planreader\n")
-    words = [word for call in calls for word in call.words]
-    (room / "calls").write_bytes(struct.pack(f"<{len(words)}I", *words))
+    (room / "calls").write_bytes(b"".join(call.data for call in calls))
     printed, failed = tried(crate, {"calls": room / "calls"})
     if failed:
         return [("rt try", "the program ends", failed)]
-    lines = printed.splitlines()[: len(calls)]
+    lines = printed.splitlines()
     if len(lines) != len(calls):
         raise NotRun(f"{len(lines)} answers to {len(calls)} calls")
     return [(call.place, call.case, told) for call, line in zip(calls, lines) if (told := difference(call, line))]
